@@ -1,0 +1,26 @@
+-- The count of faults of a desk over files.
+use Rattle.std.specs.Prelude.{◌≡◌, ℕ, Option, List, Result, Ok, Err, Vec}
+use Rattle.std.specs.declared.alloc.Global.{Global}
+use Rattle.desk_outside.specs.declared.desk.FetchError.{FetchError}
+use Rattle.desk_outside.specs.declared.desk.FetchError.TheVariants.{Failed as FetchFailed, TooLong as FetchTooLong, Memory as FetchMemory}
+use Rattle.desk_outside.specs.declared.desk.DeskError.{DeskError}
+use Rattle.desk_outside.specs.declared.desk.DeskError.TheVariants.{Failed, Memory}
+use Rattle.desk_outside.specs.declared.files.FileDesk.{FileDesk}
+use Rattle.desk_outside.specs.Desk.{one_more}
+
+-- how often its calls have failed
+abbrev pub faults_of : {R : Type 0} → FileDesk R → ℕ
+faults_of d = d.faults
+
+-- a fetch is counted where it failed, and nowhere else
+abbrev pub CountsFetch : ℕ → ℕ → Result (Vec ℕ Global) FetchError → Type 0
+CountsFetch before now (Ok bytes) = now ≡ before
+CountsFetch before now (Err FetchFailed) = now ≡ one_more before
+CountsFetch before now (Err (FetchTooLong seen)) = now ≡ before
+CountsFetch before now (Err FetchMemory) = now ≡ before
+
+-- a put, a say or a complaint is counted where it failed, and nowhere else
+abbrev pub Counts : ℕ → ℕ → Result (Unit {0}) DeskError → Type 0
+Counts before now (Ok done) = now ≡ before
+Counts before now (Err Failed) = now ≡ one_more before
+Counts before now (Err Memory) = now ≡ before

@@ -1,0 +1,136 @@
+// The outside, as a program sees it.
+ghost use Rattle.std.specs.Prelude.{◌≡◌, ◌≤◌, ◌<◌, ◌^◌, ℕ, IfOk, IsErrOf};
+ghost use Rattle.desk_outside.specs.Desk.{View, FetchEnds, PutEnds, SayEnds, ComplainEnds, Rose};
+
+use std::alloc::{AllocError, Global};
+use std::marker::Model;
+use thiserror::Error;
+
+/// A desk's four kinds of calls.
+#[derive(Clone, Copy, Debug, PartialEq, Eq)]
+pub enum DeskKind {
+    Fetch,
+    Put,
+    Say,
+    Complain,
+}
+
+/// The name in a call, which is empty for say and complain.
+#[derive(Debug, Drop)]
+pub struct CallName {
+    text: String,
+}
+
+impl Model for CallName {
+    ghost use Rattle.std.specs.Prelude.{List, ℕ, string_bytes};
+
+    ghost Value = { List ℕ };
+
+    ghost view = { λ name. string_bytes name.text };
+}
+
+impl CallName {
+    pub(crate) fn new(alloc: Global, name: &str) -> Result<CallName, AllocError>
+        ensures { IfOk result (λ made. made ≡ name.now) }
+    {
+        Ok(CallName {
+            text: String::from_str(alloc, name)?,
+        })
+    }
+
+    /// The bytes of the name.
+    pub fn bytes(&self) -> &[u8]
+        ensures { result.now ≡ self.now }
+    {
+        self.text.as_bytes()
+    }
+}
+
+/// A call in a desk's list of calls.
+#[derive(Debug, Drop)]
+pub struct DeskCall {
+    pub kind: DeskKind,
+    pub name: CallName,
+    /// Whether it was answered `Failed`.
+    pub failed: bool,
+}
+
+/// Why a fetch gave no bytes.
+#[derive(Clone, Copy, Debug, PartialEq, Eq, Error)]
+pub enum FetchError {
+    /// The outside failed, or nothing has the name.
+    #[error("cannot read")]
+    Failed,
+    /// There are more bytes than were asked for; the number is one above those.
+    #[error("{0} bytes or more")]
+    TooLong(u64),
+    #[error("no memory")]
+    Memory,
+}
+
+/// Why a put, a say or a complaint was not done.
+#[derive(Clone, Copy, Debug, PartialEq, Eq, Error)]
+pub enum DeskError {
+    /// The outside failed, perhaps after some of the bytes.
+    #[error("cannot write")]
+    Failed,
+    #[error("no memory")]
+    Memory,
+}
+
+/// Named bytes, an output and a place for complaints.
+pub trait Desk {
+    /// What the names hold, what was said and complained, and the calls, each where it is told.
+    ghost view: { Self → View };
+
+    /// How often the outside has failed, which ends at 2^64 - 1.
+    ghost faults: { Self → ℕ };
+
+    /// The bytes under the name, of which there may be at most `most`.
+    fn fetch(&mut self, alloc: Global, name: &str, most: u64) -> Result<Vec<u8>, FetchError>
+        ensures ends { FetchEnds name.now most (view self.old) (view self.new) result }
+        ensures later { faults self.old ≤ faults self.new }
+        ensures cause { IsErrOf result FetchError.Failed → Rose (faults self.old) (faults self.new) };
+
+    /// Puts the bytes under the name, in place of what it held.
+    fn put(&mut self, name: &str, bytes: &[u8]) -> Result<(), DeskError>
+        ensures ends { PutEnds name.now bytes.now (view self.old) (view self.new) result }
+        ensures later { faults self.old ≤ faults self.new }
+        ensures cause { IsErrOf result DeskError.Failed → Rose (faults self.old) (faults self.new) };
+
+    /// Prints the bytes.
+    fn say(&mut self, bytes: &[u8]) -> Result<(), DeskError>
+        ensures ends { SayEnds bytes.now (view self.old) (view self.new) result }
+        ensures later { faults self.old ≤ faults self.new }
+        ensures cause { IsErrOf result DeskError.Failed → Rose (faults self.old) (faults self.new) };
+
+    /// Prints the bytes as a complaint.
+    fn complain(&mut self, bytes: &[u8]) -> Result<(), DeskError>
+        ensures ends { ComplainEnds bytes.now (view self.old) (view self.new) result }
+        ensures later { faults self.old ≤ faults self.new }
+        ensures cause { IsErrOf result DeskError.Failed → Rose (faults self.old) (faults self.new) };
+
+    ghost counted: { (desk : Self) → faults desk < 2 ^ 64 };
+}
+
+impl From<AllocError> for FetchError {
+    ghost use Rattle.std.specs.Prelude.{◌≡◌};
+    ghost use Rattle.desk_outside.specs.declared.desk.FetchError.TheVariants.{Memory};
+
+    ghost from_gives = { λ _ e. e ≡ Memory };
+
+    fn from(_: AllocError) -> Self {
+        FetchError::Memory
+    }
+}
+
+impl From<AllocError> for DeskError {
+    ghost use Rattle.std.specs.Prelude.{◌≡◌};
+    ghost use Rattle.desk_outside.specs.declared.desk.DeskError.TheVariants.{Memory};
+
+    ghost from_gives = { λ _ e. e ≡ Memory };
+
+    fn from(_: AllocError) -> Self {
+        DeskError::Memory
+    }
+}

@@ -1,0 +1,263 @@
+// The desk in memory, which tells everything and fails where it is told to.
+ghost use Rattle.std.specs.Prelude.{◌≡◌, ◌≤◌, ◌<◌, ◌^◌, ◌||◌, ◌++◌, if◌then◌else◌, ℕ, List, [], true, false, Some, None, OnOk, OnErr, IsErrOf};
+ghost use Rattle.std.specs.Option.{option_copied};
+ghost use Rattle.std.specs.Str.{bytes_eq};
+ghost use Rattle.desk_outside.specs.Held.{held_in, is_listed};
+ghost use Rattle.desk_outside.specs.Desk.{FetchEnds, PutEnds, SayEnds, ComplainEnds, Rose, Unstored, Said, Complained, call_of, one_more};
+
+use crate::{CallName, Desk, DeskCall, DeskError, DeskKind, FetchError};
+use std::alloc::{AllocError, Global};
+use std::collections::BTreeMap;
+
+// Which calls fail, the number of the next call, and the count of faults.
+#[derive(Drop)]
+struct Turns {
+    failing: Vec<u64>,
+    next: u64,
+    faults: u64,
+    ghost counted: { faults < 2 ^ 64 },
+}
+
+impl Turns {
+    // Gives a call its number, and counts a fault where it fails: where its number is to fail, or
+    // the call has to.
+    fn take(&mut self, has_to_fail: bool) -> bool
+        ensures fails { result ≡ (is_listed self.old.failing.items self.old.next || has_to_fail) }
+        ensures failing { self.new.failing ≡ self.old.failing }
+        ensures next { self.new.next ≡ one_more self.old.next }
+        ensures faults { self.new.faults ≡ (if result then one_more self.old.faults else self.old.faults) }
+    {
+        let fails = self.failing.contains(&self.next) || has_to_fail;
+        self.next = self.next.saturating_add(1);
+        if fails {
+            self.faults = self.faults.saturating_add(1);
+        }
+        fails
+    }
+}
+
+/// A desk in memory. It fails the calls that it is told to fail, and a fetch of a name that holds
+/// nothing.
+#[derive(Drop)]
+pub struct MemoryDesk {
+    alloc: Global,
+    files: BTreeMap<String, Vec<u8>>,
+    said: Vec<u8>,
+    complained: Vec<u8>,
+    calls: Vec<DeskCall>,
+    turns: Turns,
+}
+
+impl MemoryDesk {
+    ghost use Rattle.desk_outside.specs.Memory.{view_of, empty_view, after_place, turns_of};
+
+    /// An empty desk that fails the calls with these numbers. The calls of all four kinds are
+    /// numbered together, from 0.
+    pub fn new(failing: Vec<u64>) -> MemoryDesk
+        ensures view { view_of result ≡ empty_view }
+        ensures turns { turns_of result ≡ record { failing = failing.items; next = 0; faults = 0 } }
+    {
+        let alloc = *failing.allocator();
+        MemoryDesk {
+            alloc,
+            files: BTreeMap::new(alloc),
+            said: Vec::new(alloc),
+            complained: Vec::new(alloc),
+            calls: Vec::new(alloc),
+            turns: Turns {
+                failing,
+                next: 0,
+                faults: 0,
+            },
+        }
+    }
+
+    /// Puts the bytes under the name, which is no call and has no number.
+    pub fn place(&mut self, name: &str, bytes: &[u8]) -> Result<(), AllocError>
+        ensures ok { OnOk result (view_of self.new ≡ after_place (view_of self.old) name.now bytes.now) }
+        ensures err { OnErr result (view_of self.new ≡ view_of self.old) }
+        ensures turns { turns_of self.new ≡ turns_of self.old }
+    {
+        store(self.alloc, &mut self.files, name, bytes)
+    }
+
+    /// What the name holds, or None where it holds nothing.
+    pub fn held(&self, name: &str) -> Option<&[u8]>
+        ensures { (view_of self.now).held name.now ≡ Some (option_copied result) }
+    {
+        match self.files.get(name) {
+            Some(bytes) => Some(bytes),
+            None => None,
+        }
+    }
+
+    /// All the bytes said.
+    pub fn said(&self) -> &[u8]
+        ensures { (view_of self.now).said ≡ Some result.now }
+    {
+        &self.said
+    }
+
+    /// All the bytes complained.
+    pub fn complained(&self) -> &[u8]
+        ensures { (view_of self.now).complained ≡ Some result.now }
+    {
+        &self.complained
+    }
+
+    /// The calls, the earliest first, but for those that were answered `Memory`.
+    pub fn calls(&self) -> &[DeskCall]
+        ensures { (view_of self.now).calls ≡ Some result.now }
+    {
+        &self.calls
+    }
+
+    /// How many calls have failed, which ends at 2^64 - 1.
+    pub fn faults(&self) -> u64
+        ensures { (turns_of self.now).faults ≡ result }
+    {
+        self.turns.faults
+    }
+}
+
+// Puts the bytes in place of those that the name holds.
+fn store(
+    alloc: Global,
+    files: &mut BTreeMap<String, Vec<u8>>,
+    name: &str,
+    bytes: &[u8],
+) -> Result<(), AllocError>
+    ensures ok { OnOk result ((other : List ℕ) → held_in files.new other ≡ (if bytes_eq name.now other then Some bytes.now else held_in files.old other)) }
+    ensures err { OnErr result (files.new.entries ≡ files.old.entries) }
+{
+    let name = String::from_str(alloc, name)?;
+    let bytes = bytes.to_vec(alloc)?;
+    files.insert(name, bytes)?;
+    Ok(())
+}
+
+// Adds a call to the list.
+fn note(
+    alloc: Global,
+    calls: &mut Vec<DeskCall>,
+    kind: DeskKind,
+    name: &str,
+    failed: bool,
+) -> Result<(), AllocError>
+    ensures ok { OnOk result (calls.new.items ≡ calls.old.items ++ call_of kind name.now failed) }
+    ensures err { OnErr result (calls.new.items ≡ calls.old.items) }
+{
+    let name = CallName::new(alloc, name)?;
+    calls.push(DeskCall { kind, name, failed })?;
+    Ok(())
+}
+
+// Adds the bytes to a text, and the call that brought them, or neither.
+fn append(
+    alloc: Global,
+    calls: &mut Vec<DeskCall>,
+    kind: DeskKind,
+    text: &mut Vec<u8>,
+    bytes: &[u8],
+) -> Result<(), AllocError>
+    ensures calls { OnOk result (calls.new.items ≡ calls.old.items ++ call_of kind [] false) }
+    ensures text { OnOk result (text.new.items ≡ text.old.items ++ bytes.now) }
+    ensures err_calls { OnErr result (calls.new.items ≡ calls.old.items) }
+    ensures err_text { OnErr result (text.new.items ≡ text.old.items) }
+{
+    text.reserve(bytes.len())?;
+    note(alloc, calls, kind, "", false)?;
+    text.extend_from_slice(bytes).unwrap();
+    Ok(())
+}
+
+#[tactic(auto, unfolding(crate::specs::Desk::after_step))]
+impl Desk for MemoryDesk {
+    ghost use Rattle.desk_outside.specs.Memory.{view_of, turns_of, after_turn, is_failing, is_failing_fetch, Fails, FetchFails};
+
+    ghost view = { view_of };
+
+    ghost faults = { λ d. d.turns.faults };
+
+    ghost counted = { λ d. d.turns.counted };
+
+    fn fetch(&mut self, alloc: Global, name: &str, most: u64) -> Result<Vec<u8>, FetchError>
+        ensures ends { FetchEnds name.now most (view_of self.old) (view_of self.new) result }
+        ensures later { (turns_of self.old).faults ≤ (turns_of self.new).faults }
+        ensures cause { IsErrOf result FetchError.Failed → Rose (turns_of self.old).faults (turns_of self.new).faults }
+        ensures fails { FetchFails (is_failing_fetch self.old name.now) result }
+        ensures turn { turns_of self.new ≡ after_turn (turns_of self.old) (is_failing_fetch self.old name.now) }
+    {
+        let held = self.files.get(name);
+        let fails = self.turns.take(held.is_none());
+        match held {
+            Some(bytes) if !fails => {
+                if bytes.len() as u64 > most {
+                    note(self.alloc, &mut self.calls, DeskKind::Fetch, name, false)?;
+                    return Err(FetchError::TooLong(most + 1));
+                }
+                let bytes = bytes.to_vec(alloc)?;
+                note(self.alloc, &mut self.calls, DeskKind::Fetch, name, false)?;
+                Ok(bytes)
+            }
+            _ => {
+                note(self.alloc, &mut self.calls, DeskKind::Fetch, name, true)?;
+                Err(FetchError::Failed)
+            }
+        }
+    }
+
+    fn put(&mut self, name: &str, bytes: &[u8]) -> Result<(), DeskError>
+        ensures ends { PutEnds name.now bytes.now (view_of self.old) (view_of self.new) result }
+        ensures later { (turns_of self.old).faults ≤ (turns_of self.new).faults }
+        ensures cause { IsErrOf result DeskError.Failed → Rose (turns_of self.old).faults (turns_of self.new).faults }
+        ensures fails { Fails (is_failing (turns_of self.old)) (Unstored name.now None) (view_of self.old) (view_of self.new) result }
+        ensures turn { turns_of self.new ≡ after_turn (turns_of self.old) (is_failing (turns_of self.old)) }
+    {
+        if self.turns.take(false) {
+            note(self.alloc, &mut self.calls, DeskKind::Put, name, true)?;
+            return Err(DeskError::Failed);
+        }
+        let call = DeskCall {
+            kind: DeskKind::Put,
+            name: CallName::new(self.alloc, name)?,
+            failed: false,
+        };
+        self.calls.reserve(1)?;
+        store(self.alloc, &mut self.files, name, bytes)?;
+        self.calls.push(call).unwrap();
+        Ok(())
+    }
+
+    fn say(&mut self, bytes: &[u8]) -> Result<(), DeskError>
+        ensures ends { SayEnds bytes.now (view_of self.old) (view_of self.new) result }
+        ensures later { (turns_of self.old).faults ≤ (turns_of self.new).faults }
+        ensures cause { IsErrOf result DeskError.Failed → Rose (turns_of self.old).faults (turns_of self.new).faults }
+        ensures fails { Fails (is_failing (turns_of self.old)) (Said [] true) (view_of self.old) (view_of self.new) result }
+        ensures turn { turns_of self.new ≡ after_turn (turns_of self.old) (is_failing (turns_of self.old)) }
+    {
+        if self.turns.take(false) {
+            note(self.alloc, &mut self.calls, DeskKind::Say, "", true)?;
+            return Err(DeskError::Failed);
+        }
+        let (calls, said) = (&mut self.calls, &mut self.said);
+        append(self.alloc, calls, DeskKind::Say, said, bytes)?;
+        Ok(())
+    }
+
+    fn complain(&mut self, bytes: &[u8]) -> Result<(), DeskError>
+        ensures ends { ComplainEnds bytes.now (view_of self.old) (view_of self.new) result }
+        ensures later { (turns_of self.old).faults ≤ (turns_of self.new).faults }
+        ensures cause { IsErrOf result DeskError.Failed → Rose (turns_of self.old).faults (turns_of self.new).faults }
+        ensures fails { Fails (is_failing (turns_of self.old)) (Complained [] true) (view_of self.old) (view_of self.new) result }
+        ensures turn { turns_of self.new ≡ after_turn (turns_of self.old) (is_failing (turns_of self.old)) }
+    {
+        if self.turns.take(false) {
+            note(self.alloc, &mut self.calls, DeskKind::Complain, "", true)?;
+            return Err(DeskError::Failed);
+        }
+        let (calls, complained) = (&mut self.calls, &mut self.complained);
+        append(self.alloc, calls, DeskKind::Complain, complained, bytes)?;
+        Ok(())
+    }
+}
