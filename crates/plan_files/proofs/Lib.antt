@@ -1,0 +1,4 @@
+pub mod AllRecords
+pub mod FieldLemmas
+pub mod ReadingLemmas
+pub mod RowLemmas

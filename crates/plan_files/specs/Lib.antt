@@ -1,0 +1,4 @@
+pub mod Fields
+pub mod Plans
+pub mod Readings
+pub mod Rows
