@@ -1,4 +1,4 @@
 pub mod Desk
 pub mod Files
-pub mod Held
 pub mod Memory
+pub mod Parts

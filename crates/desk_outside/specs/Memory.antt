@@ -1,12 +1,12 @@
 -- A desk in memory: what it tells, and which of its calls fail.
-use Rattle.std.specs.Prelude.{◌≡◌, ℕ, Bool, true, false, ◌||◌, if◌then◌else◌, List, [], Option, Some, None, is_none, Result, Ok, Err, Vec, ⊤}
+use Rattle.std.specs.Prelude.{◌≡◌, ℕ, Bool, true, false, ◌||◌, if◌then◌else◌, List, [], Some, None, is_none, Result, Ok, Err, Vec, ⊤}
 use Rattle.std.specs.declared.alloc.Global.{Global}
 use Rattle.desk_outside.specs.declared.desk.FetchError.{FetchError}
 use Rattle.desk_outside.specs.declared.desk.FetchError.TheVariants.{Failed as FetchFailed, TooLong as FetchTooLong, Memory as FetchMemory}
 use Rattle.desk_outside.specs.declared.desk.DeskError.{DeskError}
 use Rattle.desk_outside.specs.declared.desk.DeskError.TheVariants.{Failed, Memory}
 use Rattle.desk_outside.specs.declared.memory.MemoryDesk.{MemoryDesk}
-use Rattle.desk_outside.specs.Held.{held_in, is_listed}
+use Rattle.desk_outside.specs.Parts.{held_in, is_listed}
 use Rattle.desk_outside.specs.Desk.{View, Step, stored, after_step, one_more}
 
 -- what the desk tells, which is everything
@@ -21,14 +21,19 @@ empty_view = record { held = λ name. Some None; said = Some []; complained = So
 abbrev pub after_place : View → List ℕ → List ℕ → View
 after_place v name bytes = record v { held = stored v.held name bytes }
 
+-- how often its calls have failed
+abbrev pub faults_of : MemoryDesk → ℕ
+faults_of d = d.turns.faults
+
 -- the numbers of the calls that fail, the number of the next call, and the count of faults
 pub record Turns : Type 0 where
   pub failing : List ℕ
   pub next : ℕ
   pub faults : ℕ
 
+-- those of a desk
 abbrev pub turns_of : MemoryDesk → Turns
-turns_of d = record { failing = d.turns.failing.items; next = d.turns.next; faults = d.turns.faults }
+turns_of d = record { failing = d.turns.failing.items; next = d.turns.next; faults = faults_of d }
 
 -- the next call is one of those that fail
 abbrev pub is_failing : Turns → Bool

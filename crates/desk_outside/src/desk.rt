@@ -62,7 +62,7 @@ pub enum FetchError {
     #[error("cannot read")]
     Failed,
     /// There are more bytes than were asked for; the number is one above those.
-    #[error("{0} bytes or more")]
+    #[error("too long, with {0} bytes or more")]
     TooLong(u64),
     #[error("no memory")]
     Memory,
@@ -83,32 +83,36 @@ pub trait Desk {
     /// What the names hold, what was said and complained, and the calls, each where it is told.
     ghost view: { Self → View };
 
-    /// How often the outside has failed, which ends at 2^64 - 1.
+    /// How often the outside has failed, which stays at 2^64 - 1 once it is there.
     ghost faults: { Self → ℕ };
 
     /// The bytes under the name, of which there may be at most `most`.
     fn fetch(&mut self, alloc: Global, name: &str, most: u64) -> Result<Vec<u8>, FetchError>
         ensures ends { FetchEnds name.now most (view self.old) (view self.new) result }
         ensures later { faults self.old ≤ faults self.new }
-        ensures cause { IsErrOf result FetchError.Failed → Rose (faults self.old) (faults self.new) };
+        ensures cause { IsErrOf result FetchError.Failed
+            → Rose (faults self.old) (faults self.new) };
 
     /// Puts the bytes under the name, in place of what it held.
     fn put(&mut self, name: &str, bytes: &[u8]) -> Result<(), DeskError>
         ensures ends { PutEnds name.now bytes.now (view self.old) (view self.new) result }
         ensures later { faults self.old ≤ faults self.new }
-        ensures cause { IsErrOf result DeskError.Failed → Rose (faults self.old) (faults self.new) };
+        ensures cause { IsErrOf result DeskError.Failed
+            → Rose (faults self.old) (faults self.new) };
 
     /// Prints the bytes.
     fn say(&mut self, bytes: &[u8]) -> Result<(), DeskError>
         ensures ends { SayEnds bytes.now (view self.old) (view self.new) result }
         ensures later { faults self.old ≤ faults self.new }
-        ensures cause { IsErrOf result DeskError.Failed → Rose (faults self.old) (faults self.new) };
+        ensures cause { IsErrOf result DeskError.Failed
+            → Rose (faults self.old) (faults self.new) };
 
     /// Prints the bytes as a complaint.
     fn complain(&mut self, bytes: &[u8]) -> Result<(), DeskError>
         ensures ends { ComplainEnds bytes.now (view self.old) (view self.new) result }
         ensures later { faults self.old ≤ faults self.new }
-        ensures cause { IsErrOf result DeskError.Failed → Rose (faults self.old) (faults self.new) };
+        ensures cause { IsErrOf result DeskError.Failed
+            → Rose (faults self.old) (faults self.new) };
 
     ghost counted: { (desk : Self) → faults desk < 2 ^ 64 };
 }

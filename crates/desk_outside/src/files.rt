@@ -46,14 +46,15 @@ impl<'r, R: Files + Print + Eprint> Desk for FileDesk<'r, R> {
 
     ghost view = { λ _. untold };
 
-    ghost faults = { λ d. d.faults };
+    ghost faults = { faults_of };
 
     ghost counted = { λ d. d.counted };
 
     fn fetch(&mut self, alloc: Global, name: &str, most: u64) -> Result<Vec<u8>, FetchError>
         ensures ends { FetchEnds name.now most untold untold result }
         ensures later { faults_of self.old ≤ faults_of self.new }
-        ensures cause { IsErrOf result FetchError.Failed → Rose (faults_of self.old) (faults_of self.new) }
+        ensures cause { IsErrOf result FetchError.Failed
+            → Rose (faults_of self.old) (faults_of self.new) }
         ensures count { CountsFetch (faults_of self.old) (faults_of self.new) result }
     {
         match read_front(self.rt, alloc, name, most.saturating_add(1)) {
@@ -70,7 +71,8 @@ impl<'r, R: Files + Print + Eprint> Desk for FileDesk<'r, R> {
     fn put(&mut self, name: &str, bytes: &[u8]) -> Result<(), DeskError>
         ensures ends { PutEnds name.now bytes.now untold untold result }
         ensures later { faults_of self.old ≤ faults_of self.new }
-        ensures cause { IsErrOf result DeskError.Failed → Rose (faults_of self.old) (faults_of self.new) }
+        ensures cause { IsErrOf result DeskError.Failed
+            → Rose (faults_of self.old) (faults_of self.new) }
         ensures count { Counts (faults_of self.old) (faults_of self.new) result }
     {
         match fs::write(self.rt, name, bytes) {
@@ -85,7 +87,8 @@ impl<'r, R: Files + Print + Eprint> Desk for FileDesk<'r, R> {
     fn say(&mut self, bytes: &[u8]) -> Result<(), DeskError>
         ensures ends { SayEnds bytes.now untold untold result }
         ensures later { faults_of self.old ≤ faults_of self.new }
-        ensures cause { IsErrOf result DeskError.Failed → Rose (faults_of self.old) (faults_of self.new) }
+        ensures cause { IsErrOf result DeskError.Failed
+            → Rose (faults_of self.old) (faults_of self.new) }
         ensures count { Counts (faults_of self.old) (faults_of self.new) result }
     {
         match Print::write_all(self.rt, bytes) {
@@ -101,7 +104,8 @@ impl<'r, R: Files + Print + Eprint> Desk for FileDesk<'r, R> {
     fn complain(&mut self, bytes: &[u8]) -> Result<(), DeskError>
         ensures ends { ComplainEnds bytes.now untold untold result }
         ensures later { faults_of self.old ≤ faults_of self.new }
-        ensures cause { IsErrOf result DeskError.Failed → Rose (faults_of self.old) (faults_of self.new) }
+        ensures cause { IsErrOf result DeskError.Failed
+            → Rose (faults_of self.old) (faults_of self.new) }
         ensures count { Counts (faults_of self.old) (faults_of self.new) result }
     {
         let is_printed = match str::from_utf8(bytes) {

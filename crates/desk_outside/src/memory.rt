@@ -2,7 +2,7 @@
 ghost use Rattle.std.specs.Prelude.{◌≡◌, ◌≤◌, ◌<◌, ◌^◌, ◌||◌, ◌++◌, if◌then◌else◌, ℕ, List, [], true, false, Some, None, OnOk, OnErr, IsErrOf};
 ghost use Rattle.std.specs.Option.{option_copied};
 ghost use Rattle.std.specs.Str.{bytes_eq};
-ghost use Rattle.desk_outside.specs.Held.{held_in, is_listed};
+ghost use Rattle.desk_outside.specs.Parts.{held_in, is_listed};
 ghost use Rattle.desk_outside.specs.Desk.{FetchEnds, PutEnds, SayEnds, ComplainEnds, Rose, Unstored, Said, Complained, call_of, one_more};
 
 use crate::{CallName, Desk, DeskCall, DeskError, DeskKind, FetchError};
@@ -25,7 +25,8 @@ impl Turns {
         ensures fails { result ≡ (is_listed self.old.failing.items self.old.next || has_to_fail) }
         ensures failing { self.new.failing ≡ self.old.failing }
         ensures next { self.new.next ≡ one_more self.old.next }
-        ensures faults { self.new.faults ≡ (if result then one_more self.old.faults else self.old.faults) }
+        ensures faults { self.new.faults
+            ≡ (if result then one_more self.old.faults else self.old.faults) }
     {
         let fails = self.failing.contains(&self.next) || has_to_fail;
         self.next = self.next.saturating_add(1);
@@ -49,7 +50,7 @@ pub struct MemoryDesk {
 }
 
 impl MemoryDesk {
-    ghost use Rattle.desk_outside.specs.Memory.{view_of, empty_view, after_place, turns_of};
+    ghost use Rattle.desk_outside.specs.Memory.{view_of, faults_of, empty_view, after_place, turns_of};
 
     /// An empty desk that fails the calls with these numbers. The calls of all four kinds are
     /// numbered together, from 0.
@@ -74,7 +75,8 @@ impl MemoryDesk {
 
     /// Puts the bytes under the name, which is no call and has no number.
     pub fn place(&mut self, name: &str, bytes: &[u8]) -> Result<(), AllocError>
-        ensures ok { OnOk result (view_of self.new ≡ after_place (view_of self.old) name.now bytes.now) }
+        ensures ok { OnOk result
+            (view_of self.new ≡ after_place (view_of self.old) name.now bytes.now) }
         ensures err { OnErr result (view_of self.new ≡ view_of self.old) }
         ensures turns { turns_of self.new ≡ turns_of self.old }
     {
@@ -112,9 +114,9 @@ impl MemoryDesk {
         &self.calls
     }
 
-    /// How many calls have failed, which ends at 2^64 - 1.
+    /// How many calls failed, which stays at 2^64 - 1 once it is there.
     pub fn faults(&self) -> u64
-        ensures { (turns_of self.now).faults ≡ result }
+        ensures { result ≡ faults_of self.now }
     {
         self.turns.faults
     }
@@ -127,7 +129,8 @@ fn store(
     name: &str,
     bytes: &[u8],
 ) -> Result<(), AllocError>
-    ensures ok { OnOk result ((other : List ℕ) → held_in files.new other ≡ (if bytes_eq name.now other then Some bytes.now else held_in files.old other)) }
+    ensures ok { OnOk result ((other : List ℕ) → held_in files.new other
+        ≡ (if bytes_eq name.now other then Some bytes.now else held_in files.old other)) }
     ensures err { OnErr result (files.new.entries ≡ files.old.entries) }
 {
     let name = String::from_str(alloc, name)?;
@@ -173,20 +176,22 @@ fn append(
 
 #[tactic(auto, unfolding(crate::specs::Desk::after_step))]
 impl Desk for MemoryDesk {
-    ghost use Rattle.desk_outside.specs.Memory.{view_of, turns_of, after_turn, is_failing, is_failing_fetch, Fails, FetchFails};
+    ghost use Rattle.desk_outside.specs.Memory.{view_of, faults_of, turns_of, after_turn, is_failing, is_failing_fetch, Fails, FetchFails};
 
     ghost view = { view_of };
 
-    ghost faults = { λ d. d.turns.faults };
+    ghost faults = { faults_of };
 
     ghost counted = { λ d. d.turns.counted };
 
     fn fetch(&mut self, alloc: Global, name: &str, most: u64) -> Result<Vec<u8>, FetchError>
         ensures ends { FetchEnds name.now most (view_of self.old) (view_of self.new) result }
-        ensures later { (turns_of self.old).faults ≤ (turns_of self.new).faults }
-        ensures cause { IsErrOf result FetchError.Failed → Rose (turns_of self.old).faults (turns_of self.new).faults }
+        ensures later { faults_of self.old ≤ faults_of self.new }
+        ensures cause { IsErrOf result FetchError.Failed
+            → Rose (faults_of self.old) (faults_of self.new) }
         ensures fails { FetchFails (is_failing_fetch self.old name.now) result }
-        ensures turn { turns_of self.new ≡ after_turn (turns_of self.old) (is_failing_fetch self.old name.now) }
+        ensures turn { turns_of self.new
+            ≡ after_turn (turns_of self.old) (is_failing_fetch self.old name.now) }
     {
         let held = self.files.get(name);
         let fails = self.turns.take(held.is_none());
@@ -196,9 +201,9 @@ impl Desk for MemoryDesk {
                     note(self.alloc, &mut self.calls, DeskKind::Fetch, name, false)?;
                     return Err(FetchError::TooLong(most + 1));
                 }
-                let bytes = bytes.to_vec(alloc)?;
+                let copy = bytes.to_vec(alloc)?;
                 note(self.alloc, &mut self.calls, DeskKind::Fetch, name, false)?;
-                Ok(bytes)
+                Ok(copy)
             }
             _ => {
                 note(self.alloc, &mut self.calls, DeskKind::Fetch, name, true)?;
@@ -209,10 +214,13 @@ impl Desk for MemoryDesk {
 
     fn put(&mut self, name: &str, bytes: &[u8]) -> Result<(), DeskError>
         ensures ends { PutEnds name.now bytes.now (view_of self.old) (view_of self.new) result }
-        ensures later { (turns_of self.old).faults ≤ (turns_of self.new).faults }
-        ensures cause { IsErrOf result DeskError.Failed → Rose (turns_of self.old).faults (turns_of self.new).faults }
-        ensures fails { Fails (is_failing (turns_of self.old)) (Unstored name.now None) (view_of self.old) (view_of self.new) result }
-        ensures turn { turns_of self.new ≡ after_turn (turns_of self.old) (is_failing (turns_of self.old)) }
+        ensures later { faults_of self.old ≤ faults_of self.new }
+        ensures cause { IsErrOf result DeskError.Failed
+            → Rose (faults_of self.old) (faults_of self.new) }
+        ensures fails { Fails (is_failing (turns_of self.old)) (Unstored name.now None)
+            (view_of self.old) (view_of self.new) result }
+        ensures turn { turns_of self.new
+            ≡ after_turn (turns_of self.old) (is_failing (turns_of self.old)) }
     {
         if self.turns.take(false) {
             note(self.alloc, &mut self.calls, DeskKind::Put, name, true)?;
@@ -231,10 +239,13 @@ impl Desk for MemoryDesk {
 
     fn say(&mut self, bytes: &[u8]) -> Result<(), DeskError>
         ensures ends { SayEnds bytes.now (view_of self.old) (view_of self.new) result }
-        ensures later { (turns_of self.old).faults ≤ (turns_of self.new).faults }
-        ensures cause { IsErrOf result DeskError.Failed → Rose (turns_of self.old).faults (turns_of self.new).faults }
-        ensures fails { Fails (is_failing (turns_of self.old)) (Said [] true) (view_of self.old) (view_of self.new) result }
-        ensures turn { turns_of self.new ≡ after_turn (turns_of self.old) (is_failing (turns_of self.old)) }
+        ensures later { faults_of self.old ≤ faults_of self.new }
+        ensures cause { IsErrOf result DeskError.Failed
+            → Rose (faults_of self.old) (faults_of self.new) }
+        ensures fails { Fails (is_failing (turns_of self.old)) (Said [] true)
+            (view_of self.old) (view_of self.new) result }
+        ensures turn { turns_of self.new
+            ≡ after_turn (turns_of self.old) (is_failing (turns_of self.old)) }
     {
         if self.turns.take(false) {
             note(self.alloc, &mut self.calls, DeskKind::Say, "", true)?;
@@ -247,10 +258,13 @@ impl Desk for MemoryDesk {
 
     fn complain(&mut self, bytes: &[u8]) -> Result<(), DeskError>
         ensures ends { ComplainEnds bytes.now (view_of self.old) (view_of self.new) result }
-        ensures later { (turns_of self.old).faults ≤ (turns_of self.new).faults }
-        ensures cause { IsErrOf result DeskError.Failed → Rose (turns_of self.old).faults (turns_of self.new).faults }
-        ensures fails { Fails (is_failing (turns_of self.old)) (Complained [] true) (view_of self.old) (view_of self.new) result }
-        ensures turn { turns_of self.new ≡ after_turn (turns_of self.old) (is_failing (turns_of self.old)) }
+        ensures later { faults_of self.old ≤ faults_of self.new }
+        ensures cause { IsErrOf result DeskError.Failed
+            → Rose (faults_of self.old) (faults_of self.new) }
+        ensures fails { Fails (is_failing (turns_of self.old)) (Complained [] true)
+            (view_of self.old) (view_of self.new) result }
+        ensures turn { turns_of self.new
+            ≡ after_turn (turns_of self.old) (is_failing (turns_of self.old)) }
     {
         if self.turns.take(false) {
             note(self.alloc, &mut self.calls, DeskKind::Complain, "", true)?;

@@ -1,9 +1,9 @@
-use Rattle.std.proofs.Common.{◌≡◌, ◌∙◌, ap, refl, ℕ, List, Bool, true, false, cond, Option, Some, Vec, string_bytes}
+use Rattle.std.proofs.Common.{◌≡◌, ◌∙◌, ap, refl, ℕ, Bool, true, false, cond, Option, Some, Vec, string_bytes}
 use Rattle.std.specs.Option.{option_map}
 use Rattle.std.specs.Str.{bytes_eq}
 use Rattle.std.specs.declared.alloc.Global.{Global}
 use Rattle.std.proofs.lemmas.Map.Text.{btree_map_updates_text}
-use Rattle.desk_outside.specs.Held.{held_in}
+use Rattle.desk_outside.specs.Parts.{held_in}
 use Rattle.desk_outside.proofs.memory.store.Goals as goal
 
 -- the bytes of one of two values are those of the one that is picked

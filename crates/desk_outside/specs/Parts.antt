@@ -1,4 +1,4 @@
--- What the names hold in memory, and which numbers are listed.
+-- Parts of a desk in memory: its files, and the numbers of the calls that fail.
 use Rattle.std.specs.Prelude.{ℕ, Bool, List, Option, Vec, String, nat_eq}
 use Rattle.std.specs.List.{list_any}
 use Rattle.std.specs.Option.{option_map}
@@ -9,6 +9,6 @@ use Rattle.std.specs.declared.alloc.Global.{Global}
 abbrev pub held_in : BTreeMap (String Global) (Vec ℕ Global) → List ℕ → Option (List ℕ)
 held_in files name = option_map (λ bytes. bytes.items) (get_by_text files name)
 
--- the number is on the list
+-- the number is among these
 abbrev pub is_listed : List ℕ → ℕ → Bool
 is_listed numbers number = list_any (λ n. nat_eq n number) numbers
