@@ -1,7 +1,7 @@
 -- The plan file of one group of three meters in one round.
 use Rattle.std.specs.Prelude.{◌≡◌, ℕ, ◌&&◌, if◌then◌else◌, Bool, List, [], ◌∷◌, ◌++◌, codes, Option, Some, None, Result, Ok, Err, ⊤}
-use Rattle.plan_files.specs.Fields.{is_name, key_of}
-use Rattle.plan_files.specs.Rows.{all_of, file_rows, same_rows, text_at}
+use Rattle.plan_files.specs.Fields.{is_name, keys_of}
+use Rattle.plan_files.specs.Rows.{file_rows, same_rows, text_at}
 use Rattle.plan_files.specs.declared.error.FormError.{FormError}
 use Rattle.plan_files.specs.declared.error.FormError.TheVariants.{Form, Memory}
 use Rattle.plan_files.specs.declared.first_plan.FirstPlan.{FirstPlan}
@@ -31,6 +31,7 @@ pair_rows pair01 pair02 pair12 =
 abbrev pub group_rows_of : List (List (List ℕ)) → List (List (List ℕ))
 group_rows_of rows = group_rows (text_at rows 3 1) (text_at rows 4 3) (text_at rows 5 3) (text_at rows 6 3)
 
+-- the same with the texts that stand in a file at the places of the keys
 abbrev pub pair_rows_of : List (List (List ℕ)) → List (List (List ℕ))
 pair_rows_of rows = pair_rows (text_at rows 7 4) (text_at rows 8 4) (text_at rows 9 4)
 
@@ -48,8 +49,7 @@ plan_with name None pair = None
 unfoldable pub plan_from : List (List (List ℕ)) → Option FirstPlan
 plan_from rows =
     if has_plan_form rows && is_name (text_at rows 3 1)
-    then plan_with (text_at rows 3 1) (all_of (key_of (text_at rows 4 3) ∷ key_of (text_at rows 5 3) ∷ key_of (text_at rows 6 3) ∷ []))
-    (all_of (key_of (text_at rows 7 4) ∷ key_of (text_at rows 8 4) ∷ key_of (text_at rows 9 4) ∷ []))
+    then plan_with (text_at rows 3 1) (keys_of (text_at rows 4 3 ∷ text_at rows 5 3 ∷ text_at rows 6 3 ∷ [])) (keys_of (text_at rows 7 4 ∷ text_at rows 8 4 ∷ text_at rows 9 4 ∷ []))
     else None
 
 -- the plan that the bytes of a file say, if they are those of a plan file

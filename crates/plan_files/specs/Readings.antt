@@ -1,5 +1,5 @@
 -- The readings file of one group of three meters in one round.
-use Rattle.std.specs.Prelude.{◌≡◌, ℕ, ◌^◌, if◌then◌else◌, List, [], ◌∷◌, codes, Option, Some, None, Result, Ok, Err, ⊤}
+use Rattle.std.specs.Prelude.{◌≡◌, ℕ, ◌^◌, if◌then◌else◌, List, [], ◌∷◌, codes, map, Option, Some, None, Result, Ok, Err, ⊤}
 use Rattle.plan_files.specs.Fields.{number_below}
 use Rattle.plan_files.specs.Rows.{all_of, file_rows, same_rows, text_at}
 use Rattle.plan_files.specs.declared.error.FormError.{FormError}
@@ -17,7 +17,7 @@ reading_of text = number_below (2 ^ 40) text
 unfoldable pub readings_from : List ℕ → List (List (List ℕ)) → Option (List ℕ)
 readings_from name rows =
     if same_rows rows (readings_rows name (text_at rows 0 2) (text_at rows 0 3) (text_at rows 0 4))
-    then all_of (reading_of (text_at rows 0 2) ∷ reading_of (text_at rows 0 3) ∷ reading_of (text_at rows 0 4) ∷ [])
+    then all_of (map reading_of (text_at rows 0 2 ∷ text_at rows 0 3 ∷ text_at rows 0 4 ∷ []))
     else None
 
 -- the readings that the bytes of a file say of the group of this name, if they are those of a readings file

@@ -1,9 +1,9 @@
 //! The plan of one group of three meters in one round, and its file.
 ghost use Rattle.std.specs.Prelude.{◌≡◌, ◌∷◌, [], drop, length, map, take};
 ghost use Rattle.csv.specs.Records.{fields_of};
-ghost use Rattle.plan_files.specs.Fields.{key_of};
+ghost use Rattle.plan_files.specs.Fields.{keys_of};
 ghost use Rattle.plan_files.specs.Plans.{PlanEnds, group_rows_of, has_plan_form, head_rows, pair_rows_of};
-ghost use Rattle.plan_files.specs.Rows.{all_of, same_rows};
+ghost use Rattle.plan_files.specs.Rows.{same_rows};
 
 use crate::error::FormError;
 use crate::fields::{is_name, key};
@@ -82,7 +82,7 @@ fn has_plan_form(rows: &[ByteRecord]) -> bool
 
 /// The keys of three texts.
 fn three_keys(first: &[u8], second: &[u8], third: &[u8]) -> Option<[[u8; 32]; 3]>
-    ensures { result ≡ all_of (key_of first.now ∷ key_of second.now ∷ key_of third.now ∷ []) }
+    ensures { result ≡ keys_of (first.now ∷ second.now ∷ third.now ∷ []) }
 {
     Some([key(first)?, key(second)?, key(third)?])
 }
@@ -99,10 +99,7 @@ pub fn read_plan(alloc: Global, bytes: &[u8]) -> Result<FirstPlan, FormError>
     };
     let rows = rows.as_slice();
     let name = text_at(rows, 3, 1);
-    if !has_plan_form(rows) {
-        return Err(FormError::Form);
-    }
-    if !is_name(name) {
+    if !has_plan_form(rows) || !is_name(name) {
         return Err(FormError::Form);
     }
     let Some(own) = three_keys(

@@ -1,4 +1,4 @@
-use Rattle.std.proofs.Common.{◌≡◌, drop}
+use Rattle.std.proofs.Common.{drop}
 use Rattle.std.specs.List.{drop-map, take-map}
 use Rattle.csv.specs.Records.{fields_of}
 use Rattle.plan_files.proofs.first_plan.has_group.Goals as goal

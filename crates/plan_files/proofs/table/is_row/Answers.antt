@@ -1,4 +1,4 @@
-use Rattle.std.proofs.Common.{◌≡◌, ◌∙◌, sym, List, length, map, [], Bool, true, false, not, arith, bytes_eq}
+use Rattle.std.proofs.Common.{◌≡◌, ◌∙◌, sym, map, [], Bool, true, false, not, arith, bytes_eq}
 use Rattle.std.proofs.lemmas.List.{get_or-map, length-map}
 use Rattle.csv.specs.Records.{fields_of}
 use Rattle.plan_files.proofs.RowLemmas.{same_less, same_more}

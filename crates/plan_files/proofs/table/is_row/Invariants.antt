@@ -1,4 +1,4 @@
-use Rattle.std.proofs.Common.{◌≡◌, drop, map, length, bytes_eq}
+use Rattle.std.proofs.Common.{◌≡◌, drop, map, bytes_eq}
 use Rattle.std.specs.Cmp.Lexicographic.{pointwise}
 use Rattle.csv.specs.Records.{fields_of}
 use Rattle.plan_files.proofs.table.is_row.Given as goal

@@ -1,4 +1,4 @@
-use Rattle.std.proofs.Common.{◌≡◌, ◌∙◌, ap, sym, List, ℕ, [], get_or, map, arith}
+use Rattle.std.proofs.Common.{◌∙◌, ap, sym, List, ℕ, [], get_or, map, arith}
 use Rattle.std.proofs.lemmas.List.{get_or-map, get_or_past, length-map}
 use Rattle.csv.specs.Records.{fields_of}
 use Rattle.plan_files.proofs.table.text_at.Goals as goal
