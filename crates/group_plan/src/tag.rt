@@ -1,0 +1,19 @@
+/// What a frame says.
+#[derive(Clone, Copy, Debug, PartialEq, Eq)]
+pub enum Kind {
+    /// A meter's hidden reading.
+    Reading,
+    /// The head end's list of the missing meters, to a survivor.
+    Announcement,
+    /// A survivor's answer to that list.
+    Answer,
+}
+
+/// Whose frame it is, of which round, and its kind.
+#[derive(Clone, Copy, Debug, PartialEq, Eq)]
+pub struct Tag {
+    pub group: u16,
+    pub round: u32,
+    pub meter: u8,
+    pub kind: Kind,
+}
