@@ -1,6 +1,7 @@
 -- Plans: groups of meters, the rounds in which each meter is a member, and the limits.
-use Rattle.std.specs.Prelude.{◌≡◌, ℕ, ◌+◌, ◌-◌, ◌*◌, ◌/◌, ◌<◌, ◌≤◌, nat_le, nat_lt, Bool, false, ◌==◌, ◌&&◌, ◌||◌, IsTrue, List, [], length, map, filter, sum, slice_get, slice_index_or, Option, Some, None}
-use Rattle.std.specs.List.{list_all, range_with_len}
+use Rattle.std.specs.Prelude.{◌≡◌, ℕ, ◌+◌, ◌-◌, ◌*◌, ◌/◌, ◌<◌, ◌≤◌, nat_le, nat_lt, Bool, false, ◌&&◌, IsTrue, List, [], length, filter, sum_by, slice_get, slice_index_or, Option, Some, None}
+use Rattle.std.specs.List.{range_with_len}
+use Rattle.group_plan.specs.Names.{is_name}
 
 -- a span of rounds: from `from` up to below `until`
 pub record Rounds : Type 0 where
@@ -83,7 +84,7 @@ last_tick plan = plan.rounds - 1 + plan.w1 + plan.w2 + 32
 
 -- the meters of all groups
 abbrev pub all_meters : List Group → ℕ
-all_meters groups = sum (map (λ g. length g.spans) groups)
+all_meters groups = sum_by (λ g. length g.spans) groups
 
 -- the pairs among n meters
 abbrev pub pairs : ℕ → ℕ
@@ -91,16 +92,7 @@ pairs n = n * (n - 1) / 2
 
 -- the pairs of all groups
 abbrev pub all_pairs : List Group → ℕ
-all_pairs groups = sum (map (λ g. pairs (length g.spans)) groups)
-
--- a letter, a digit, `_` or `-`
-abbrev pub is_name_byte : ℕ → Bool
-is_name_byte b =
-    (nat_le 97 b && nat_le b 122) || (nat_le 65 b && nat_le b 90) || (nat_le 48 b && nat_le b 57) || (b == 95) || (b == 45)
-
--- a name: 1 to 16 letters, digits, `_` or `-`
-abbrev pub is_name : List ℕ → Bool
-is_name bytes = nat_le 1 (length bytes) && nat_le (length bytes) 16 && list_all is_name_byte bytes
+all_pairs groups = sum_by (λ g. pairs (length g.spans)) groups
 
 -- the limits of every plan
 pub record IsWithinLimits (plan : PlanView) : Type 0 where

@@ -1,6 +1,10 @@
 //! Plans: the groups of meters, the rounds in which each meter takes part, and the tables over their places.
 #![tactic(auto)]
 
+mod name;
+mod plan;
 mod tag;
 
+pub use name::Name;
+pub use plan::{GroupPlan, Plan, PlanError};
 pub use tag::{Kind, Tag};

@@ -1,0 +1,265 @@
+ghost use Rattle.std.specs.Prelude.{◌≡◌, ◌<◌, ◌≤◌, ◌^◌, IsTrue, IfOk, IfSome, length, map, position};
+ghost use Rattle.std.specs.List.{All};
+ghost use Rattle.group_plan.specs.Plans.{is_place, is_member, holds, last_tick, pairs as pairs_among};
+ghost use Rattle.group_plan.specs.Places.{meter_at, place_at, places};
+ghost use Rattle.group_plan.specs.NewPlans.{Finds, MakesPlan, first_fault, wrong_count, same_name, wrong_meters, wrong_floor, wrong_rounds, wrong_window, too_many_readings, too_many_pairs, meters_of, pairs_of, position_of_name, has_wrong_meters, has_wrong_floor};
+
+use crate::{Name, Tag};
+use std::alloc::{AllocError, Global};
+use std::marker::Model;
+
+/// A group as a plan states it.
+#[derive(Clone, Copy, Debug, PartialEq, Eq)]
+pub struct GroupPlan {
+    pub name: Name,
+    /// How many meters the group has, numbered from 0.
+    pub meters: u32,
+    /// The fewest survivors with which a round is announced.
+    pub floor: u32,
+}
+
+impl GroupPlan {
+    fn has_wrong_meters(&self) -> bool
+        ensures { result ≡ has_wrong_meters self.now }
+    {
+        self.meters < 2 || self.meters > 256
+    }
+
+    fn has_wrong_floor(&self) -> bool
+        ensures { result ≡ has_wrong_floor self.now }
+    {
+        self.floor < 2 || self.floor > self.meters
+    }
+}
+
+/// Why a plan is refused. Groups are counted from 0.
+#[derive(Clone, Copy, Debug, PartialEq, Eq)]
+pub enum PlanError {
+    /// There is no group.
+    NoGroup,
+    /// There are this many groups, more than 256.
+    TooManyGroups(u64),
+    /// These two groups have one name.
+    SameName(u32, u32),
+    /// The group has fewer than 2 meters or more than 256.
+    Meters(u32),
+    /// The group's floor is below 2 or above its meters.
+    Floor(u32),
+    /// There is no round, or more than 4096.
+    Rounds,
+    /// The reading window is not 1 to 16 ticks, or the recovery window not 2 to 32.
+    Window,
+    /// There are this many readings, more than 131,072.
+    TooManyReadings(u64),
+    /// Memory ran out.
+    Memory,
+    /// There are this many pairs of meters, more than 1,048,576.
+    TooManyPairs(u64),
+}
+
+impl From<AllocError> for PlanError {
+    ghost use Rattle.group_plan.specs.declared.plan.PlanError.{PlanError};
+
+    ghost from_gives = { λ _ e. e ≡ PlanError.Memory };
+
+    fn from(_error: AllocError) -> PlanError {
+        PlanError::Memory
+    }
+}
+
+/// The rounds in which a meter is a member: from `from` up to below `until`.
+#[derive(Clone, Copy, Debug)]
+struct Rounds {
+    from: u32,
+    until: u32,
+}
+
+impl Model for Rounds {
+    ghost use Rattle.group_plan.specs.Plans.{Rounds as SpanOfRounds};
+
+    ghost Value = { SpanOfRounds };
+
+    ghost view = { λ s. record { from = s.from; until = s.until } };
+
+    ghost inverse = { λ s. record { from = s.from; until = s.until } };
+}
+
+impl Rounds {
+    fn holds(&self, round: u32) -> bool
+        ensures { result ≡ holds self.now round }
+    {
+        self.from <= round && round < self.until
+    }
+}
+
+/// The groups of meters, the rounds in which each meter is a member, and the windows, all within the limits.
+#[derive(Debug, Drop)]
+pub struct Plan {
+    groups: Vec<GroupPlan>,
+    /// Where the meters of each group begin.
+    starts: Vec<usize>,
+    /// The spans of all meters, one group after another.
+    spans: Vec<Rounds>,
+    rounds: u32,
+    w1: u32,
+    w2: u32,
+}
+
+impl Model for Plan {
+    ghost use Rattle.group_plan.specs.Plans.{PlanView};
+
+    ghost Value = { PlanView };
+
+    ghost use Rattle.group_plan.specs.PlanParts.{plan, KeepsPlan};
+
+    ghost view = { plan };
+
+    ghost invariant = { KeepsPlan };
+}
+
+fn check_count(groups: &[GroupPlan]) -> Result<(), PlanError>
+    ensures checked { Finds (wrong_count groups.now) result }
+    ensures few { IfOk result (λ _. length groups.now ≤ 256) }
+{
+    if groups.is_empty() {
+        return Err(PlanError::NoGroup);
+    }
+    if groups.len() > 256 {
+        return Err(PlanError::TooManyGroups(groups.len() as u64));
+    }
+    Ok(())
+}
+
+fn position_of_name(groups: &[GroupPlan], name: Name) -> Option<usize>
+    requires { length groups.now ≤ 256 }
+    ensures found { result ≡ position_of_name name groups.now }
+    ensures within { IfSome result (λ g. g < length groups.now) }
+{
+    groups.iter().position(|group| group.name == name)
+}
+
+#[tactic(auto, using(crate::proofs::Faults::same_name_more, crate::proofs::Faults::same_name_found, crate::proofs::Faults::same_name_end))]
+fn check_names(groups: &[GroupPlan]) -> Result<(), PlanError>
+    requires { length groups.now ≤ 256 }
+    ensures { Finds (same_name groups.now) result }
+{
+    for h in 0..groups.len() {
+        if let Some(g) = position_of_name(&groups[..h], groups[h].name) {
+            return Err(PlanError::SameName(g as u32, h as u32));
+        }
+    }
+    Ok(())
+}
+
+fn position_of_wrong_meters(groups: &[GroupPlan]) -> Option<usize>
+    requires { length groups.now ≤ 256 }
+    ensures found { result ≡ position has_wrong_meters groups.now }
+    ensures within { IfSome result (λ g. g < length groups.now) }
+{
+    groups.iter().position(|group| group.has_wrong_meters())
+}
+
+fn check_meters(groups: &[GroupPlan]) -> Result<(), PlanError>
+    requires { length groups.now ≤ 256 }
+    ensures checked { Finds (wrong_meters groups.now) result }
+    ensures few { IfOk result (λ _. All (λ g. g.meters ≤ 256) groups.now) }
+{
+    match position_of_wrong_meters(groups) {
+        Some(g) => Err(PlanError::Meters(g as u32)),
+        None => Ok(()),
+    }
+}
+
+fn position_of_wrong_floor(groups: &[GroupPlan]) -> Option<usize>
+    requires { length groups.now ≤ 256 }
+    ensures found { result ≡ position has_wrong_floor groups.now }
+    ensures within { IfSome result (λ g. g < length groups.now) }
+{
+    groups.iter().position(|group| group.has_wrong_floor())
+}
+
+fn check_floors(groups: &[GroupPlan]) -> Result<(), PlanError>
+    requires { length groups.now ≤ 256 }
+    ensures { Finds (wrong_floor groups.now) result }
+{
+    match position_of_wrong_floor(groups) {
+        Some(g) => Err(PlanError::Floor(g as u32)),
+        None => Ok(()),
+    }
+}
+
+fn check_rounds(rounds: u32) -> Result<(), PlanError>
+    ensures checked { Finds (wrong_rounds rounds) result }
+    ensures few { IfOk result (λ _. rounds ≤ 4096) }
+{
+    if rounds < 1 || rounds > 4096 {
+        return Err(PlanError::Rounds);
+    }
+    Ok(())
+}
+
+fn check_windows(w1: u32, w2: u32) -> Result<(), PlanError>
+    ensures { Finds (wrong_window w1 w2) result }
+{
+    if w1 < 1 || w1 > 16 || w2 < 2 || w2 > 32 {
+        return Err(PlanError::Window);
+    }
+    Ok(())
+}
+
+fn meters_of(groups: &[GroupPlan]) -> u64
+    requires { length groups.now ≤ 256 }
+    ensures { result ≡ meters_of groups.now }
+{
+    groups.iter().map(|group| u64::from(group.meters)).sum()
+}
+
+#[tactic(auto, using(crate::proofs::Faults::meters_of_le))]
+fn check_readings(groups: &[GroupPlan], rounds: u32) -> Result<(), PlanError>
+    requires groups { length groups.now ≤ 256 }
+    requires meters { All (λ g. g.meters ≤ 256) groups.now }
+    requires rounds { rounds ≤ 4096 }
+    ensures { Finds (too_many_readings groups.now rounds) result }
+{
+    let readings = u64::from(rounds) * meters_of(groups);
+    if readings > 131_072 {
+        return Err(PlanError::TooManyReadings(readings));
+    }
+    Ok(())
+}
+
+fn pairs_among(meters: u32) -> u64
+    requires { meters ≤ 256 }
+    ensures { result ≡ pairs_among meters }
+{
+    let meters = u64::from(meters);
+    meters * meters.saturating_sub(1) / 2
+}
+
+fn check_pairs(groups: &[GroupPlan]) -> Result<(), PlanError>
+    requires groups { length groups.now ≤ 256 }
+    requires meters { All (λ g. g.meters ≤ 256) groups.now }
+    ensures { Finds (too_many_pairs groups.now) result }
+{
+    let mut pairs = 0u64;
+    for group in groups {
+        pairs += pairs_among(group.meters);
+    }
+    if pairs > 1_048_576 {
+        return Err(PlanError::TooManyPairs(pairs));
+    }
+    Ok(())
+}
+
+fn check(groups: &[GroupPlan], rounds: u32, w1: u32, w2: u32) -> Result<(), PlanError>
+    ensures { Finds (first_fault groups.now rounds w1 w2) result }
+{
+    check_count(groups)?;
+    check_names(groups)?;
+    check_meters(groups)?;
+    check_floors(groups)?;
+    check_rounds(rounds)?;
+    check_windows(w1, w2)?;
+    check_readings(groups, rounds)?;
+    check_pairs(groups)
+}
