@@ -33,16 +33,16 @@ meters_of_le groups few all = omega (arith, sum_by-le (λ (g : GroupPlan). g.met
 
 -- ---- names, group by group
 
-pub same_name_more : (groups : List GroupPlan) (h : ℕ) (d : GroupPlan) → h < length groups → position_of_name (get_or groups h d).name (take h groups) ≡ None → same_name_from (take h groups) (drop h groups) ≡ same_name_from (take (h + 1) groups) (drop (h + 1) groups)
+pub same_name_more : (groups : List GroupPlan) (h : ℕ) (d : GroupPlan) (name : List ℕ) → h < length groups → name ≡ (get_or groups h d).name → position_of_name name (take h groups) ≡ None → same_name_from (take h groups) (drop h groups) ≡ same_name_from (take (h + 1) groups) (drop (h + 1) groups)
 unfolding same_name_from
-same_name_more groups h d lt none =
-    rw (drop_more groups h d lt, take_more groups h d lt, none) refl
+same_name_more groups h d name lt is none =
+    rw (drop_more groups h d lt, take_more groups h d lt, ← is, none) refl
 
-pub same_name_found : (groups : List GroupPlan) (h g : ℕ) (d : GroupPlan) → h < length groups → position_of_name (get_or groups h d).name (take h groups) ≡ Some g → same_name_from (take h groups) (drop h groups) ≡ Some (fault.SameName g h)
+pub same_name_found : (groups : List GroupPlan) (h g : ℕ) (d : GroupPlan) (name : List ℕ) → h < length groups → name ≡ (get_or groups h d).name → position_of_name name (take h groups) ≡ Some g → same_name_from (take h groups) (drop h groups) ≡ Some (fault.SameName g h)
 unfolding same_name_from
-same_name_found groups h g d lt found =
+same_name_found groups h g d name lt is found =
     let long : length (take h groups) ≡ h = length-take-le h groups (omega (arith, lt)) in
-    rw (drop_more groups h d lt, found, long) refl
+    rw (drop_more groups h d lt, ← is, found, long) refl
 
 pub same_name_end : (groups : List GroupPlan) (h : ℕ) → length groups ≤ h → same_name_from (take h groups) (drop h groups) ≡ None
 unfolding same_name_from

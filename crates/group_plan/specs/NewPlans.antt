@@ -1,22 +1,36 @@
 -- What a new plan is, and why one is refused.
-use Rattle.std.specs.Prelude.{◌≡◌, ℕ, ◌+◌, ◌*◌, nat_le, nat_lt, Bool, ◌==◌, not, ◌&&◌, ◌||◌, if◌then◌else◌, List, [], ◌∷◌, ◌++◌, length, map, sum_by, replicate, position, bytes_eq, Option, Some, None, Result, Ok, Err}
+use Rattle.std.specs.Prelude.{◌≡◌, ℕ, ◌+◌, ◌*◌, nat_le, nat_lt, Bool, ◌==◌, not, ◌&&◌, ◌||◌, if◌then◌else◌, List, [], ◌∷◌, ◌++◌, length, map, sum_by, replicate, position, bytes_eq, IsTrue, Option, Some, None, Result, Ok, Err}
 use Rattle.std.specs.Option.{option_map, option_or}
+use Rattle.std.specs.List.{All}
+use Rattle.group_plan.specs.Names.{is_name}
 use Rattle.group_plan.specs.Plans.{Rounds, Group, PlanView, pairs}
 use Rattle.group_plan.specs.declared.plan.GroupPlan.{GroupPlan}
 use Rattle.group_plan.specs.declared.plan.PlanError.{PlanError}
 use Rattle.group_plan.specs.declared.plan.PlanError.TheVariants as fault
+
+-- all rounds of a plan
+abbrev pub whole : ℕ → Rounds
+whole rounds = record { from = 0; until = rounds }
 
 -- a group whose every meter is a member in all rounds
 abbrev pub group_of : ℕ → GroupPlan → Group
 group_of rounds g = record {
   name = g.name;
   floor = g.floor;
-  spans = replicate g.meters (record { from = 0; until = rounds });
+  spans = replicate g.meters (whole rounds);
 }
 
 -- a plan whose every meter is a member in all rounds
 abbrev pub plan_of : List GroupPlan → ℕ → ℕ → ℕ → PlanView
 plan_of groups rounds w1 w2 = record { groups = map (group_of rounds) groups; rounds = rounds; w1 = w1; w2 = w2 }
+
+-- what a plan states of a group but for its meters' spans
+abbrev pub stated : Group → GroupPlan
+stated g = record { name = g.name; meters = length g.spans; floor = g.floor }
+
+-- each group has a name of the right form
+abbrev pub AreNamed : List GroupPlan → Type 0
+AreNamed groups = All (λ g. IsTrue (is_name g.name)) groups
 
 -- the meters of all groups together
 abbrev pub meters_of : List GroupPlan → ℕ

@@ -1,7 +1,8 @@
 -- How a plan is kept: its groups, and the spans of all meters, one group after another.
-use Rattle.std.specs.Prelude.{◌≡◌, ℕ, ◌<◌, List, [], ◌∷◌, length, take, drop, sum_by, slice_index}
-use Rattle.group_plan.specs.Plans.{Rounds, Group, PlanView, IsWithinLimits}
-use Rattle.group_plan.specs.NewPlans.{meters_of}
+use Rattle.std.specs.Prelude.{◌≡◌, ℕ, ◌<◌, ◌≤◌, List, [], ◌∷◌, length, take, drop, sum_by, None}
+use Rattle.group_plan.specs.Plans.{Rounds, Group, PlanView, size, span_of}
+use Rattle.group_plan.specs.NewPlans.{AreNamed, first_fault, meters_of}
+use Rattle.group_plan.specs.PlanStarts.{AreStarts}
 use Rattle.group_plan.specs.declared.plan.GroupPlan.{GroupPlan}
 use Rattle.group_plan.specs.declared.plan.Plan.TheInside.{Inside}
 
@@ -15,12 +16,14 @@ groups_of (g ∷ groups) spans =
 abbrev pub plan : Inside → PlanView
 plan p = record { groups = groups_of p.groups.items p.spans.items; rounds = p.rounds; w1 = p.w1; w2 = p.w2 }
 
--- where the meters of each group begin
-pub record AreStarts (starts : List ℕ) (groups : List GroupPlan) : Type 0 where
-  pub long : length starts ≡ length groups
-  pub each : (g : ℕ) → g < length groups → slice_index starts g ≡ meters_of (take g groups)
+-- every meter's span has a round, and only rounds of the plan
+pub record AreSpans (plan : PlanView) : Type 0 where
+  pub some : (g i : ℕ) → i < size plan.groups g → (span_of plan.groups g i).from < (span_of plan.groups g i).until
+  pub within : (g i : ℕ) → i < size plan.groups g → (span_of plan.groups g i).until ≤ plan.rounds
 
 pub record KeepsPlan (p : Inside) : Type 0 where
-  pub spans : length p.spans.items ≡ meters_of p.groups.items
+  pub sound : first_fault p.groups.items p.rounds p.w1 p.w2 ≡ None
+  pub named : AreNamed p.groups.items
+  pub long : length p.spans.items ≡ meters_of p.groups.items
   pub starts : AreStarts p.starts.items p.groups.items
-  pub limits : IsWithinLimits (plan p)
+  pub spans : AreSpans (plan p)

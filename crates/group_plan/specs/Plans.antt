@@ -105,7 +105,7 @@ pub record IsWithinLimits (plan : PlanView) : Type 0 where
   pub floor_from : (g : ℕ) → g < length plan.groups → 2 ≤ floor_of plan.groups g
   pub floor_to : (g : ℕ) → floor_of plan.groups g ≤ size plan.groups g
   pub span_from : (g i : ℕ) → i < size plan.groups g → (span_of plan.groups g i).from < (span_of plan.groups g i).until
-  pub span_to : (g i : ℕ) → (span_of plan.groups g i).until ≤ plan.rounds
+  pub span_to : (g i : ℕ) → i < size plan.groups g → (span_of plan.groups g i).until ≤ plan.rounds
   pub some_round : 1 ≤ plan.rounds
   pub rounds : plan.rounds ≤ 4096
   pub w1_from : 1 ≤ plan.w1

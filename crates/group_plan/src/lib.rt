@@ -6,5 +6,5 @@ mod plan;
 mod tag;
 
 pub use name::Name;
-pub use plan::{GroupPlan, Plan, PlanError};
+pub use plan::{GroupPlan, Plan, PlanError, Span, SpanError};
 pub use tag::{Kind, Tag};

@@ -1,8 +1,14 @@
-ghost use Rattle.std.specs.Prelude.{◌≡◌, ◌<◌, ◌≤◌, ◌^◌, IsTrue, IfOk, IfSome, length, map, position};
+ghost use Rattle.std.specs.Prelude.{◌≡◌, ◌<◌, ◌≤◌, ◌^◌, IsTrue, None, IfOk, IfSome, length, map, position, replicate};
 ghost use Rattle.std.specs.List.{All};
-ghost use Rattle.group_plan.specs.Plans.{is_place, is_member, holds, last_tick, pairs as pairs_among};
+ghost use Rattle.group_plan.specs.Plans.{IsWithinLimits, is_place, is_member, holds, last_tick, size, all_meters, pairs as pairs_among};
 ghost use Rattle.group_plan.specs.Places.{meter_at, place_at, places};
-ghost use Rattle.group_plan.specs.NewPlans.{Finds, MakesPlan, first_fault, wrong_count, same_name, wrong_meters, wrong_floor, wrong_rounds, wrong_window, too_many_readings, too_many_pairs, meters_of, pairs_of, position_of_name, has_wrong_meters, has_wrong_floor};
+ghost use Rattle.group_plan.specs.NewPlans.{Finds, MakesPlan, first_fault, wrong_count, same_name, wrong_meters, wrong_floor, wrong_rounds, wrong_window, too_many_readings, too_many_pairs, stated, meters_of, pairs_of, AreNamed, whole, position_of_name, has_wrong_meters, has_wrong_floor};
+
+ghost use Rattle.group_plan.specs.PlanStarts.{AreStarts};
+
+mod members;
+
+pub use members::{Span, SpanError};
 
 use crate::{Name, Tag};
 use std::alloc::{AllocError, Global};
@@ -130,21 +136,22 @@ fn check_count(groups: &[GroupPlan]) -> Result<(), PlanError>
     Ok(())
 }
 
-fn position_of_name(groups: &[GroupPlan], name: Name) -> Option<usize>
+fn position_of_name(groups: &[GroupPlan], name: &[u8]) -> Option<usize>
     requires { length groups.now ≤ 256 }
-    ensures found { result ≡ position_of_name name groups.now }
+    ensures found { result ≡ position_of_name name.now groups.now }
     ensures within { IfSome result (λ g. g < length groups.now) }
 {
-    groups.iter().position(|group| group.name == name)
+    groups.iter().position(|group| group.name.bytes() == name)
 }
 
 #[tactic(auto, using(crate::proofs::Faults::same_name_more, crate::proofs::Faults::same_name_found, crate::proofs::Faults::same_name_end))]
 fn check_names(groups: &[GroupPlan]) -> Result<(), PlanError>
     requires { length groups.now ≤ 256 }
-    ensures { Finds (same_name groups.now) result }
+    ensures checked { Finds (same_name groups.now) result }
+    ensures named { IfOk result (λ _. AreNamed groups.now) }
 {
     for h in 0..groups.len() {
-        if let Some(g) = position_of_name(&groups[..h], groups[h].name) {
+        if let Some(g) = position_of_name(&groups[..h], groups[h].name.bytes()) {
             return Err(PlanError::SameName(g as u32, h as u32));
         }
     }
@@ -251,8 +258,11 @@ fn check_pairs(groups: &[GroupPlan]) -> Result<(), PlanError>
     Ok(())
 }
 
+#[tactic(auto, using(crate::proofs::Faults::meters_of_le))]
 fn check(groups: &[GroupPlan], rounds: u32, w1: u32, w2: u32) -> Result<(), PlanError>
-    ensures { Finds (first_fault groups.now rounds w1 w2) result }
+    ensures checked { Finds (first_fault groups.now rounds w1 w2) result }
+    ensures named { IfOk result (λ _. AreNamed groups.now) }
+    ensures few { IfOk result (λ _. meters_of groups.now ≤ 65536) }
 {
     check_count(groups)?;
     check_names(groups)?;
@@ -262,4 +272,178 @@ fn check(groups: &[GroupPlan], rounds: u32, w1: u32, w2: u32) -> Result<(), Plan
     check_windows(w1, w2)?;
     check_readings(groups, rounds)?;
     check_pairs(groups)
+}
+
+/// Where the meters of each group begin.
+fn starts_of(alloc: Global, groups: &[GroupPlan]) -> Result<Vec<usize>, AllocError>
+    requires { meters_of groups.now ≤ 65536 }
+    ensures { IfOk result (λ starts. AreStarts starts.items groups.now) }
+{
+    let mut starts = Vec::new(alloc);
+    let mut next = 0usize;
+    for group in groups {
+        starts.push(next)?;
+        next += group.meters as usize;
+    }
+    Ok(starts)
+}
+
+fn copy_of(alloc: Global, groups: &[GroupPlan]) -> Result<Vec<GroupPlan>, AllocError>
+    ensures { IfOk result (λ copy. copy.items ≡ groups.now) }
+{
+    groups.to_vec(alloc)
+}
+
+fn whole_spans(alloc: Global, meters: usize, rounds: u32) -> Result<Vec<Rounds>, AllocError>
+    ensures { IfOk result (λ spans. spans.items ≡ replicate meters (whole rounds)) }
+{
+    let whole = Rounds {
+        from: 0,
+        until: rounds,
+    };
+    vec![in alloc; whole; meters]
+}
+
+impl Plan {
+    /// A plan whose every meter is a member in all rounds.
+    pub fn new(
+        alloc: Global,
+        groups: &[GroupPlan],
+        rounds: u32,
+        w1: u32,
+        w2: u32,
+    ) -> Result<Plan, PlanError>
+        ensures { MakesPlan groups.now rounds w1 w2 result }
+    {
+        check(groups, rounds, w1, w2)?;
+        let meters = meters_of(groups) as usize;
+        Ok(Plan {
+            groups: copy_of(alloc, groups)?,
+            starts: starts_of(alloc, groups)?,
+            spans: whole_spans(alloc, meters, rounds)?,
+            rounds,
+            w1,
+            w2,
+        })
+    }
+
+    /// The groups, in order.
+    pub fn groups(&self) -> &[GroupPlan]
+        ensures groups { result.now ≡ map stated self.now.groups }
+        ensures sound { first_fault result.now self.now.rounds self.now.w1 self.now.w2 ≡ None }
+        ensures limits { IsWithinLimits self.now }
+    {
+        self.groups.as_slice()
+    }
+
+    /// How many meters the group has, 0 where there is no such group.
+    pub fn meters(&self, group: u16) -> u32
+        ensures meters { result ≡ size self.now.groups group }
+        ensures few { result ≤ 256 }
+    {
+        self.size_of(group as usize)
+    }
+
+    fn size_of(&self, group: usize) -> u32
+        ensures meters { result ≡ size self.now.groups group }
+        ensures few { result ≤ 256 }
+    {
+        match self.groups.get(group) {
+            Some(group) => group.meters,
+            None => 0,
+        }
+    }
+
+    /// How many rounds the plan has.
+    pub fn rounds(&self) -> u32
+        ensures rounds { result ≡ self.now.rounds }
+        ensures limits { IsWithinLimits self.now }
+    {
+        self.rounds
+    }
+
+    /// The ticks of the reading window.
+    pub fn w1(&self) -> u32
+        ensures { result ≡ self.now.w1 }
+    {
+        self.w1
+    }
+
+    /// The ticks of the recovery window.
+    pub fn w2(&self) -> u32
+        ensures { result ≡ self.now.w2 }
+    {
+        self.w2
+    }
+
+    /// The tick after which no copy is left.
+    pub fn last_tick(&self) -> u32
+        ensures { result ≡ last_tick self.now }
+    {
+        self.rounds - 1 + self.w1 + self.w2 + 32
+    }
+
+    /// Whether the plan has the tag's group, round and meter.
+    pub fn holds(&self, tag: Tag) -> bool
+        ensures { result ≡ is_place self.now tag.group tag.round tag.meter }
+    {
+        tag.round < self.rounds && u32::from(tag.meter) < self.meters(tag.group)
+    }
+
+    /// Whether the meter is a member of its group in the round.
+    pub fn is_member(&self, group: u16, round: u32, meter: u8) -> bool
+        requires { IsTrue (is_place self.now group round meter) }
+        ensures { result ≡ is_member self.now.groups group round meter }
+    {
+        let span = self.spans[self.meter_at(group, meter)];
+        span.holds(round)
+    }
+
+    /// The number of a meter among those of all groups, counted from 0, group by group.
+    pub fn meter_at(&self, group: u16, meter: u8) -> usize
+        requires { meter < size self.now.groups group }
+        ensures at { result ≡ meter_at self.now.groups group meter }
+        ensures within { result < all_meters self.now.groups }
+    {
+        self.number_of(group as usize, meter as usize)
+    }
+
+    fn number_of(&self, group: usize, meter: usize) -> usize
+        requires { meter < size self.now.groups group }
+        ensures at { result ≡ meter_at self.now.groups group meter }
+        ensures within { result < all_meters self.now.groups }
+    {
+        self.starts[group] + meter
+    }
+
+    /// The number of a place, counted from 0, meter by meter.
+    pub fn place_at(&self, group: u16, round: u32, meter: u8) -> usize
+        requires { IsTrue (is_place self.now group round meter) }
+        ensures at { result ≡ place_at self.now group round meter }
+        ensures within { result < places self.now }
+    {
+        self.meter_at(group, meter) * self.rounds as usize + round as usize
+    }
+
+    /// How many places the plan has.
+    pub fn places(&self) -> usize
+        ensures all { result ≡ places self.now }
+        ensures few { result ≤ 131072 }
+    {
+        self.spans.len() * self.rounds as usize
+    }
+
+    /// An equal plan.
+    pub fn try_copy(&self) -> Result<Plan, AllocError>
+        ensures { IfOk result (λ plan. plan ≡ self.now) }
+    {
+        Ok(Plan {
+            groups: self.groups.clone()?,
+            starts: self.starts.clone()?,
+            spans: self.spans.clone()?,
+            rounds: self.rounds,
+            w1: self.w1,
+            w2: self.w2,
+        })
+    }
 }

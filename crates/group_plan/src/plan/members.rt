@@ -1,0 +1,77 @@
+ghost use Rattle.std.specs.Prelude.{◌≡◌, ◌<◌};
+ghost use Rattle.group_plan.specs.Spans.{SetsSpans, is_in_plan};
+
+use super::{Plan, Rounds, whole_spans};
+use std::alloc::AllocError;
+
+/// The rounds in which a meter is a member: from `from` up to below `until`.
+#[derive(Clone, Copy, Debug, PartialEq, Eq)]
+pub struct Span {
+    pub group: u32,
+    pub meter: u32,
+    pub from: u32,
+    pub until: u32,
+}
+
+/// Why spans are refused: the first of them that is wrong, by its place in the list, counted from 0.
+#[derive(Clone, Copy, Debug, PartialEq, Eq)]
+pub enum SpanError {
+    /// The plan has no such meter, or the span has no round or one past the plan's.
+    Range(u32),
+    /// An earlier span is of the same meter.
+    Twice(u32),
+    /// Memory ran out.
+    Memory,
+}
+
+impl From<AllocError> for SpanError {
+    ghost use Rattle.group_plan.specs.declared.plan.members.SpanError.{SpanError};
+
+    ghost from_gives = { λ _ e. e ≡ SpanError.Memory };
+
+    fn from(_error: AllocError) -> SpanError {
+        SpanError::Memory
+    }
+}
+
+impl Plan {
+    fn has_span(&self, span: &Span) -> bool
+        ensures { result ≡ is_in_plan self.now span.now }
+    {
+        span.meter < self.size_of(span.group as usize)
+            && span.from < span.until
+            && span.until <= self.rounds
+    }
+
+    /// The plan with these spans and none of its own. A meter without a span is a member in all rounds.
+    pub fn with_members(&self, spans: &[Span]) -> Result<Plan, SpanError>
+        ensures { SetsSpans self.now spans.now result }
+    {
+        let alloc = *self.spans.allocator();
+        let mut given = vec![in alloc; false; self.spans.len()]?;
+        let mut kept = whole_spans(alloc, self.spans.len(), self.rounds)?;
+        for at in 0..spans.len() {
+            let span = spans[at];
+            if !self.has_span(&span) {
+                return Err(SpanError::Range(at as u32));
+            }
+            let meter = self.number_of(span.group as usize, span.meter as usize);
+            if given[meter] {
+                return Err(SpanError::Twice(at as u32));
+            }
+            given[meter] = true;
+            kept[meter] = Rounds {
+                from: span.from,
+                until: span.until,
+            };
+        }
+        Ok(Plan {
+            groups: self.groups.clone()?,
+            starts: self.starts.clone()?,
+            spans: kept,
+            rounds: self.rounds,
+            w1: self.w1,
+            w2: self.w2,
+        })
+    }
+}
