@@ -66,8 +66,10 @@ span_is p now keeps is g i d lt = subst (λ v. get_or p.spans.items (meter_at v.
   where
     there : i < size (plan p).groups g
     there = subst (λ v. i < size v.groups g) (sym is) lt
+
     nowhere : Rounds
     nowhere = record { from = 0; until = 0 }
+
     here : (e : Rounds) → get_or p.spans.items (meter_at (plan p).groups g i) e ≡ span_of (plan p).groups g i
     here e =
         let s = meters_of (take g p.groups.items) in

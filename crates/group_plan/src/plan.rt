@@ -3,14 +3,12 @@ ghost use Rattle.std.specs.List.{All};
 ghost use Rattle.group_plan.specs.Plans.{IsWithinLimits, is_place, is_member, holds, last_tick, size, all_meters, pairs as pairs_among};
 ghost use Rattle.group_plan.specs.Places.{meter_at, place_at, places};
 ghost use Rattle.group_plan.specs.NewPlans.{Finds, MakesPlan, first_fault, wrong_count, same_name, wrong_meters, wrong_floor, wrong_rounds, wrong_window, too_many_readings, too_many_pairs, stated, meters_of, pairs_of, AreNamed, whole, position_of_name, has_wrong_meters, has_wrong_floor};
-
 ghost use Rattle.group_plan.specs.PlanStarts.{AreStarts};
 
 mod members;
 
-pub use members::{Span, SpanError};
-
 use crate::{Name, Tag};
+pub use members::{Span, SpanError};
 use std::alloc::{AllocError, Global};
 use std::marker::Model;
 
@@ -288,10 +286,16 @@ fn starts_of(alloc: Global, groups: &[GroupPlan]) -> Result<Vec<usize>, AllocErr
     Ok(starts)
 }
 
-fn copy_of(alloc: Global, groups: &[GroupPlan]) -> Result<Vec<GroupPlan>, AllocError>
+fn copy_of_groups(alloc: Global, groups: &[GroupPlan]) -> Result<Vec<GroupPlan>, AllocError>
     ensures { IfOk result (λ copy. copy.items ≡ groups.now) }
 {
     groups.to_vec(alloc)
+}
+
+fn copy_of_starts(alloc: Global, starts: &[usize]) -> Result<Vec<usize>, AllocError>
+    ensures { IfOk result (λ copy. copy.items ≡ starts.now) }
+{
+    starts.to_vec(alloc)
 }
 
 fn whole_spans(alloc: Global, meters: usize, rounds: u32) -> Result<Vec<Rounds>, AllocError>
@@ -318,7 +322,7 @@ impl Plan {
         check(groups, rounds, w1, w2)?;
         let meters = meters_of(groups) as usize;
         Ok(Plan {
-            groups: copy_of(alloc, groups)?,
+            groups: copy_of_groups(alloc, groups)?,
             starts: starts_of(alloc, groups)?,
             spans: whole_spans(alloc, meters, rounds)?,
             rounds,

@@ -1,7 +1,9 @@
-ghost use Rattle.std.specs.Prelude.{◌≡◌, ◌<◌};
-ghost use Rattle.group_plan.specs.Spans.{SetsSpans, is_in_plan};
+ghost use Rattle.std.specs.Prelude.{◌≡◌, ◌<◌, IsTrue};
+ghost use Rattle.group_plan.specs.Plans.{all_meters};
+ghost use Rattle.group_plan.specs.Places.{meter_at};
+ghost use Rattle.group_plan.specs.Spans.{PlacesSpans, SetsSpans, is_in_plan, rounds_of};
 
-use super::{Plan, Rounds, whole_spans};
+use super::{Plan, Rounds, copy_of_groups, copy_of_starts, whole_spans};
 use std::alloc::AllocError;
 
 /// The rounds in which a meter is a member: from `from` up to below `until`.
@@ -34,6 +36,17 @@ impl From<AllocError> for SpanError {
     }
 }
 
+impl Span {
+    fn rounds(&self) -> Rounds
+        ensures { result ≡ rounds_of self.now }
+    {
+        Rounds {
+            from: self.from,
+            until: self.until,
+        }
+    }
+}
+
 impl Plan {
     fn has_span(&self, span: &Span) -> bool
         ensures { result ≡ is_in_plan self.now span.now }
@@ -43,32 +56,45 @@ impl Plan {
             && span.until <= self.rounds
     }
 
-    /// The plan with these spans and none of its own. A meter without a span is a member in all rounds.
-    pub fn with_members(&self, spans: &[Span]) -> Result<Plan, SpanError>
-        ensures { SetsSpans self.now spans.now result }
+    fn number_of_span(&self, span: &Span) -> usize
+        requires { IsTrue (is_in_plan self.now span.now) }
+        ensures at { result ≡ meter_at self.now.groups span.now.group span.now.meter }
+        ensures within { result < all_meters self.now.groups }
+    {
+        self.number_of(span.group as usize, span.meter as usize)
+    }
+
+    /// The spans of all meters, one group after another, where these are given.
+    fn spans_given(&self, spans: &[Span]) -> Result<Vec<Rounds>, SpanError>
+        ensures { PlacesSpans self.now spans.now result }
     {
         let alloc = *self.spans.allocator();
         let mut given = vec![in alloc; false; self.spans.len()]?;
         let mut kept = whole_spans(alloc, self.spans.len(), self.rounds)?;
         for at in 0..spans.len() {
-            let span = spans[at];
-            if !self.has_span(&span) {
+            let span = &spans[at];
+            if !self.has_span(span) {
                 return Err(SpanError::Range(at as u32));
             }
-            let meter = self.number_of(span.group as usize, span.meter as usize);
+            let meter = self.number_of_span(span);
             if given[meter] {
                 return Err(SpanError::Twice(at as u32));
             }
             given[meter] = true;
-            kept[meter] = Rounds {
-                from: span.from,
-                until: span.until,
-            };
+            kept[meter] = span.rounds();
         }
+        Ok(kept)
+    }
+
+    /// The plan with these spans and none of its own. A meter without a span is a member in all rounds.
+    pub fn with_members(&self, spans: &[Span]) -> Result<Plan, SpanError>
+        ensures { SetsSpans self.now spans.now result }
+    {
+        let alloc = *self.spans.allocator();
         Ok(Plan {
-            groups: self.groups.clone()?,
-            starts: self.starts.clone()?,
-            spans: kept,
+            groups: copy_of_groups(alloc, &self.groups)?,
+            starts: copy_of_starts(alloc, &self.starts)?,
+            spans: self.spans_given(spans)?,
             rounds: self.rounds,
             w1: self.w1,
             w2: self.w2,

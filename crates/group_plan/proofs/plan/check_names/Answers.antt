@@ -13,6 +13,6 @@ pub loop-h-preserved : goal.loop-h-preserved
 loop-h-preserved c = record {
   unlike = sym (same_name_more c.args.groups.now c.loop-h.h c.index-groups-h.result c.bytes.result.now (omega arith) c.bytes.ensures.bytes (sym c.in_default.ensures.found)) ∙ c.loop-h.invariant.unlike;
   named =
-    below_more (λ k. (d : GroupPlan) → IsTrue (is_name (get_or c.args.groups.now k d).name)) c.loop-h.h c.loop-h.invariant.named
-    (λ d. ap (λ g. is_name g.name) (get_or_default c.args.groups.now c.loop-h.h d c.index-groups-h.result (omega arith)) ∙ c.bytes.ensures.named);
+      below_more (λ k. (d : GroupPlan) → IsTrue (is_name (get_or c.args.groups.now k d).name)) c.loop-h.h c.loop-h.invariant.named
+      (λ d. ap (λ g. is_name g.name) (get_or_default c.args.groups.now c.loop-h.h d c.index-groups-h.result (omega arith)) ∙ c.bytes.ensures.named);
 }
