@@ -5,4 +5,5 @@ pub mod Limits
 pub mod Members
 pub mod MeterNumbers
 pub mod NameLemmas
+pub mod TableLemmas
 pub mod WithSpans

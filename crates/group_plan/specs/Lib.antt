@@ -6,3 +6,5 @@ pub mod PlanParts
 pub mod PlanStarts
 pub mod Plans
 pub mod Spans
+pub mod TableParts
+pub mod Tables

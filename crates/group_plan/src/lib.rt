@@ -3,8 +3,10 @@
 
 mod name;
 mod plan;
+mod table;
 mod tag;
 
 pub use name::Name;
 pub use plan::{GroupPlan, Plan, PlanError, Span, SpanError};
+pub use table::{Presence, Readings};
 pub use tag::{Kind, Tag};

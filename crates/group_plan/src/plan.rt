@@ -432,7 +432,7 @@ impl Plan {
     /// How many places the plan has.
     pub fn places(&self) -> usize
         ensures all { result ≡ places self.now }
-        ensures few { result ≤ 131072 }
+        ensures limits { IsWithinLimits self.now }
     {
         self.spans.len() * self.rounds as usize
     }
