@@ -13,7 +13,7 @@ use Rattle.std.proofs.lemmas.Nat.Bits.{bit_at_lowest, bit_at-suc, bit_at-zero, b
 use Rattle.missing_round.specs.declared.SetError.{SetError}
 use Rattle.missing_round.specs.declared.SetError.TheVariants.{OutOfGroup}
 use Rattle.missing_round.specs.Sets.{IsSet, is_member, joined, without, less, beyond, FromBits, has_bit, members, number_by, max_meters, block_at, blocks_of, IsBlocks, IsFrom}
-use Rattle.missing_round.proofs.SetLemmas.{same_picked, is_member-picked, joined-picked, first-picked, none-picked, filter-picked, length_cond, length-picked-more, below-picked, set-picked, picked-set}
+use Rattle.missing_round.proofs.SetLemmas.{same_picked, is_member-picked, joined-picked, first-picked, none-picked, filter-picked, length_cond, length-picked-more, below-picked, set-picked, picked-set, is_member-filter}
 
 -- the members among the bits of one block
 pub length-picked-ones : (p : ℕ → Bool) (n a w : ℕ) → w < 2 ^ n → ((i : ℕ) → i < n → p (a + i) ≡ (bit_at w i == 1)) → length (filter p (range_with_len a n)) ≡ count_ones w
@@ -300,3 +300,21 @@ members-blocks_of xs h =
     one : (b : Bool) → (cond {A = ℕ} b 1 0 == 1) ≡ b
     one true = refl
     one false = refl
+
+-- no bit is set where the test holds nowhere
+number_by-none : (t : ℕ → Bool) (n : ℕ) → ((i : ℕ) → i < n → t i ≡ false) → number_by t n ≡ 0
+unfolding number_by
+number_by-none t zero h = refl
+number_by-none t (suc n) h = grind (arith, h n (omega arith), number_by-none t n (λ i l. h i (omega arith)))
+
+-- a set of meters below 64 has one block
+pub members-block_at : (xs : List ℕ) → IsSet xs → beyond 64 xs ≡ [] → members (block_at xs 0 ∷ 0 ∷ 0 ∷ 0 ∷ []) ≡ xs
+members-block_at xs h none = ap members (λ k. block_at xs 0 ∷ sym (empty 1 (omega arith)) k ∷ sym (empty 2 (omega arith)) k ∷ sym (empty 3 (omega arith)) k ∷ []) ∙ members-blocks_of xs h
+  where
+    above : (i : ℕ) → 64 ≤ i → is_member i xs ≡ false
+    above i l =
+        let e : (is_member i xs && not (ltb i 64)) ≡ false = sym (is_member-filter (λ j. not (ltb j 64)) i xs) ∙ ap (is_member i) none in
+        grind (arith, e, le-ltb i 64 l)
+
+    empty : (k : ℕ) → 1 ≤ k → block_at xs k ≡ 0
+    empty k l = number_by-none (λ j. is_member (64 * k + j) xs) 64 (λ j u. above (64 * k + j) (omega arith))
