@@ -2,7 +2,7 @@
 use Rattle.std.proofs.Common.{◌≡◌, ℕ, zero, suc, ◌+◌, ◌<◌, ◌≤◌, Bool, true, false, not, ◌&&◌, ◌||◌, cond, ltb, List, [], ◌∷◌, length, refl, sym, ap, ◌∙◌, ⊎_elim, arith, ◌==◌, slice_get, None, is_some, get_or, subst}
 use Rattle.std.specs.List.{filter, range_with_len, sum_by, All}
 use Rattle.std.specs.List.Sorted.{IsStrictlyIncreasing}
-use Rattle.std.proofs.lemmas.Bool.{false≢true, cases_Bool, cond-true, cond-false, or_parts, cases_eq, eq-eqb, ne_eqb, lt-ltb, le-ltb}
+use Rattle.std.proofs.lemmas.Bool.{false≢true, cases_Bool, cases_lt, cond-true, cond-false, or_parts, cases_eq, eq-eqb, ne_eqb, lt-ltb, le-ltb}
 use Rattle.std.proofs.lemmas.List.Sums.{sum_by-cons}
 use Rattle.std.proofs.lemmas.List.Elements.{filter_agree, All-filter}
 use Rattle.std.proofs.lemmas.List.FromFn.{length-range_with_len, get_or-range_with_len}
@@ -237,3 +237,56 @@ set-picked p a n h =
       ascending = IsStrictlyIncreasing-filter p (range_with_len a n) (increasing-range a n);
       small = All-filter p (λ i. i < 256) (range_with_len a n) (λ k d u. omega (arith, h, l, get_or-range_with_len a n k d (omega (arith, l))));
     }
+
+-- ---- sets that are joined
+
+pub is_member-joined : (j i : ℕ) (xs : List ℕ) → is_member j (joined i xs) ≡ ((i == j) || is_member j xs)
+is_member-joined j i [] = refl
+is_member-joined j i (x ∷ xs) = ⊎_elim
+    (λ lt. ap (is_member j) (cond-true (ltb i x) (i ∷ x ∷ xs) _ lt))
+    (λ ge. ap (is_member j) (cond-false (ltb i x) (i ∷ x ∷ xs) _ ge) ∙ ⊎_elim
+    (λ same. ap (is_member j) (cond-true (x == i) (x ∷ xs) _ (eq-eqb x i same)) ∙ ap (λ y. is_member j (y ∷ xs)) same ∙ again (i == j) (is_member j xs) ∙ ap (λ y. (i == j) || is_member j (y ∷ xs)) (sym same))
+    (λ ne. ap (is_member j) (cond-false (x == i) (x ∷ xs) _ (ne_eqb x i ne)) ∙ ap (λ b. (x == j) || b) (is_member-joined j i xs) ∙ swapped (x == j) (i == j) (is_member j xs))
+    (cases_eq x i))
+    (cases_Bool (ltb i x))
+  where
+    again : (a b : Bool) → (a || b) ≡ (a || (a || b))
+    again true b = refl
+    again false b = refl
+
+    swapped : (a b c : Bool) → (a || (b || c)) ≡ (b || (a || c))
+    swapped true true c = refl
+    swapped true false c = refl
+    swapped false b c = refl
+
+joined-rises : (a b i : ℕ) (xs : List ℕ) → i < a → Rises a b xs → joined i xs ≡ i ∷ xs
+unfolding Rises
+joined-rises a b i [] l h = refl
+joined-rises a b i (x ∷ xs) l h = cond-true (ltb i x) (i ∷ x ∷ xs) _ (lt-ltb i x (omega (arith, l, h.0)))
+
+filter-rises : (p : ℕ → Bool) (a b : ℕ) (xs : List ℕ) → Rises a b xs → Rises a b (filter p xs)
+unfolding Rises
+filter-rises p a b [] h = tt
+filter-rises p a b (x ∷ xs) h = ⊎_elim
+    (λ is. subst (Rises a b) (sym (cond-true (p x) (x ∷ filter p xs) (filter p xs) is)) (h.0, h.1, filter-rises p (x + 1) b xs h.2))
+    (λ isnt. subst (Rises a b) (sym (cond-false (p x) (x ∷ filter p xs) (filter p xs) isnt)) (rises-lower a (x + 1) b (filter p xs) (omega (arith, h.0)) (filter-rises p (x + 1) b xs h.2)))
+    (cases_Bool (p x))
+
+joined-filter_rises : (p : ℕ → Bool) (a b i : ℕ) (xs : List ℕ) → Rises a b xs → is_member i xs ≡ true → joined i (filter p xs) ≡ filter (λ j. (i == j) || p j) xs
+unfolding Rises
+joined-filter_rises p a b i [] h m = absurd (false≢true m)
+joined-filter_rises p a b i (x ∷ xs) h m = joined_cond (p x) i x (filter p xs) ∙ ⊎_elim
+    (λ same.
+    let others : filter p xs ≡ filter (λ j. (i == j) || p j) xs = same_filter p (λ j. (i == j) || p j) xs
+    (λ j k. ap (λ c. c || p j) (sym (ne_eqb i j (λ e. false≢true (sym (is_member-rises (x + 1) b j xs (omega (arith, same, e)) h.2) ∙ k))))) in
+    let rest : joined i (filter p xs) ≡ i ∷ filter p xs = joined-rises (x + 1) b i (filter p xs) (omega (arith, same)) (filter-rises p (x + 1) b xs h.2) in
+    grind (arith, eq-eqb x i same, eq-eqb i x (sym same), le-ltb i x (omega (arith, same)), rest, others, same))
+    (λ ne.
+    let within : is_member i xs ≡ true = sym (ap (λ c. c || is_member i xs) (ne_eqb x i ne)) ∙ m in
+    let above : x < i = ⊎_elim (λ lt. lt) (λ ge. absurd (false≢true (sym (is_member-rises (x + 1) b i xs (omega (arith, ge)) h.2) ∙ within))) (cases_lt x i) in
+    grind (arith, ne_eqb x i ne, ne_eqb i x (omega (arith, above)), le-ltb i x (omega (arith, above)), joined-filter_rises p (x + 1) b i xs h.2 within))
+    (cases_eq x i)
+
+-- what a test takes of a set, joined by one more member
+pub joined-filter : (p : ℕ → Bool) (i : ℕ) (xs : List ℕ) → IsSet xs → is_member i xs ≡ true → joined i (filter p xs) ≡ filter (λ j. (i == j) || p j) xs
+joined-filter p i xs h = joined-filter_rises p 0 256 i xs (rises-from_increasing 0 256 xs h.ascending h.small (λ u. omega arith))

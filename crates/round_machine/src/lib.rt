@@ -5,6 +5,8 @@ ghost use Rattle.std.specs.Prelude.{◌≡◌, ◌≤◌, true};
 ghost use Rattle.missing_round.specs.Sets.{is_member};
 ghost use Rattle.round_machine.specs.Rounds.{new_round, TakesReading, has_floor, total, Closes, TakesAnswer, Ends};
 
+pub mod laws;
+
 use missing_round::MeterSet;
 use mod_word::Word;
 use std::marker::Model;
@@ -182,5 +184,25 @@ impl Round {
         let readings = self.reading_sum.value();
         let answers = self.answer_sum.value();
         readings.wrapping_sub(answers)
+    }
+}
+
+#[cfg(test)]
+mod tests {
+    use crate::{Closing, Ending, Round, Verdict};
+    use missing_round::MeterSet;
+    use mod_word::Word;
+
+    #[test]
+    fn answers_open_total_30(rt: HostRuntime) {
+        let missing = MeterSet::empty().with(2);
+        let mut round = Round::new(MeterSet::full(3), 2);
+        assert!(&rt; round.take_reading(0, Word(122)) == Verdict::Fresh);
+        assert!(&rt; round.take_reading(1, Word(226)) == Verdict::Fresh);
+        assert!(&rt; round.close() == Closing::Announced(missing));
+        assert!(&rt; round.take_answer(0, Word(107)) == Verdict::Fresh);
+        assert!(&rt; round.take_answer(1, Word(211)) == Verdict::Fresh);
+        assert!(&rt; round.end() == Ending::Total(30));
+        assert!(&rt; round.survivors() == MeterSet::full(2));
     }
 }
