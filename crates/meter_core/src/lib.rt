@@ -130,3 +130,36 @@ impl Meter {
         }
     }
 }
+
+#[cfg(test)]
+mod tests {
+    use crate::{Heard, Meter, Why};
+    use missing_round::MeterSet;
+    use std::alloc::AllocError;
+
+    fn only(i: u8) -> MeterSet {
+        MeterSet::empty().with(i)
+    }
+
+    #[test]
+    fn one_set_per_round(rt: HostRuntime) -> Result<(), AllocError> {
+        let mut meter = Meter::new(rt.alloc(), 0, 2, 2)?;
+        meter.mark_read(0, &MeterSet::full(3));
+        meter.mark_read(1, &MeterSet::full(3));
+        assert!(&rt; meter.hear(0, &only(2)) == Heard::Answer);
+        assert!(&rt; meter.hear(0, &only(1)) == Heard::Refused(Why::OtherSet(only(2))));
+        assert!(&rt; meter.hear(0, &only(2)) == Heard::AnswerAgain);
+        assert!(&rt; meter.hear(1, &only(0)) == Heard::Refused(Why::SelfMissing));
+        assert!(&rt; meter.hear(1, &only(1).with(2)) == Heard::Refused(Why::Thin(1)));
+        Ok(())
+    }
+
+    #[test]
+    fn thin_set_then_answer(rt: HostRuntime) -> Result<(), AllocError> {
+        let mut meter = Meter::new(rt.alloc(), 0, 2, 1)?;
+        meter.mark_read(0, &MeterSet::full(3));
+        assert!(&rt; meter.hear(0, &only(1).with(2)) == Heard::Refused(Why::Thin(1)));
+        assert!(&rt; meter.hear(0, &only(2)) == Heard::Answer);
+        Ok(())
+    }
+}

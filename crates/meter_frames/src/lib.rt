@@ -176,3 +176,85 @@ fn tag_fits(group: u16, round: u32, meter: u8)
     ensures round { round < 2 ^ 32 }
     ensures meter { meter < 256 }
 {}
+
+#[cfg(test)]
+mod tests {
+    use crate::{Frame, FrameError, OldFrameError, decode, decode_old, encode};
+    use group_plan::{Kind, Tag};
+    use missing_round::MeterSet;
+    use mod_word::Word;
+
+    fn frame(kind: Kind, meter: u8, missing: MeterSet, word: u64) -> Frame
+        ensures kind { result.tag.kind ≡ kind }
+        ensures missing { result.missing ≡ missing }
+        ensures word { result.word ≡ word }
+    {
+        Frame {
+            tag: Tag {
+                group: 0,
+                round: 0,
+                meter,
+                kind,
+            },
+            missing,
+            word: Word(word),
+        }
+    }
+
+    /// The bytes of a vector: a head of four bytes, the last byte of the set and that of the word.
+    fn vector(head: [u8; 4], set: u8, word: u8) -> [u8; 52] {
+        let mut bytes: [u8; 52] = [0; 52];
+        bytes[..4].copy_from_slice(&head);
+        bytes[43] = set;
+        bytes[51] = word;
+        bytes
+    }
+
+    fn old_vector(head: [u8; 4], set: u8, word: u8) -> [u8; 28] {
+        let mut bytes: [u8; 28] = [0; 28];
+        bytes[..4].copy_from_slice(&head);
+        bytes[19] = set;
+        bytes[27] = word;
+        bytes
+    }
+
+    #[test]
+    fn vectors_of_both_versions(rt: HostRuntime) {
+        let two = MeterSet::empty().with(2);
+        let reading = frame(Kind::Reading, 1, MeterSet::empty(), 226);
+        let announcement = frame(Kind::Announcement, 0, two, 0);
+        let answer = frame(Kind::Answer, 1, two, 211);
+
+        assert!(&rt; encode(&reading) == vector([0x4d, 2, 1, 1], 0, 0xe2));
+        assert!(&rt; encode(&announcement) == vector([0x4d, 2, 2, 0], 4, 0));
+        assert!(&rt; encode(&answer) == vector([0x4d, 2, 3, 1], 4, 0xd3));
+
+        assert!(&rt; decode(&vector([0x4d, 2, 1, 1], 0, 0xe2)) == Ok(reading));
+        assert!(&rt; decode(&vector([0x4d, 2, 2, 0], 4, 0)) == Ok(announcement));
+        assert!(&rt; decode(&vector([0x4d, 2, 3, 1], 4, 0xd3)) == Ok(answer));
+
+        assert!(&rt; decode_old(&old_vector([0x4d, 1, 1, 1], 0, 0xe2)) == Ok(reading));
+        assert!(&rt; decode_old(&old_vector([0x4d, 1, 2, 0], 4, 0)) == Ok(announcement));
+        assert!(&rt; decode_old(&old_vector([0x4d, 1, 3, 1], 4, 0xd3)) == Ok(answer));
+        let meter_64 = decode_old(&old_vector([0x4d, 1, 3, 64], 4, 0xd3));
+        assert!(&rt; meter_64 == Err(OldFrameError::Meter));
+    }
+
+    #[test]
+    fn answer_in_version_2(rt: HostRuntime) {
+        let answer = frame(Kind::Answer, 1, MeterSet::empty().with(2), 211);
+        let bytes = encode(&answer);
+        assert!(&rt; bytes[..12] == [0x4d, 2, 3, 1, 0, 0, 0, 0, 0, 0, 0, 0]);
+        assert!(&rt; bytes[12..43].iter().all(|byte| *byte == 0));
+        assert!(&rt; bytes[43..] == [4, 0, 0, 0, 0, 0, 0, 0, 0xd3]);
+    }
+
+    #[test]
+    fn first_broken_rule(rt: HostRuntime) {
+        assert!(&rt; decode(&[0; 27]) == Err(FrameError::Length(27)));
+        let reading = vector([0x4d, 2, 1, 1], 1, 0xe2);
+        assert!(&rt; decode(&reading) == Err(FrameError::SetInReading));
+        let announcement = vector([0x4d, 2, 2, 0], 4, 1);
+        assert!(&rt; decode(&announcement) == Err(FrameError::WordInAnnouncement));
+    }
+}
