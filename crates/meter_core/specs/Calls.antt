@@ -5,6 +5,7 @@ use Rattle.meter_core.specs.declared.Heard.{Heard}
 use Rattle.meter_core.specs.declared.Heard.TheVariants.{Answer, AnswerAgain, Refused}
 use Rattle.meter_core.specs.Meters.{MeterView, new_meter, marked, kept_set, Hears}
 
+-- a call on a meter: a round marked read, or the set announced for a round and what the meter said
 pub data Call : Type 0 where
   Marked : (r : ℕ) (members : List ℕ) → Call
   Announced : (r : ℕ) (set : List ℕ) (said : Heard) → Call
@@ -19,6 +20,7 @@ unfoldable pub Run : MeterView → List Call → MeterView → Type 0
 Run s [] t = t ≡ s
 Run s (call ∷ rest) t = (m : MeterView) × Step s call m × Run m rest t
 
+-- the meter answers
 abbrev pub IsAnswer : Heard → Type 0
 IsAnswer Answer = Unit {0}
 IsAnswer AnswerAgain = Unit {0}
@@ -34,25 +36,26 @@ unfoldable pub HasAnswered : ℕ → List ℕ → List Call → Type 0
 HasAnswered r set [] = ⊥
 HasAnswered r set (call ∷ rest) = Answers r set call ⊎ HasAnswered r set rest
 
--- whether nothing but another set that is kept could refuse
+-- whether the set passed every refusal before OtherSet
 abbrev pub has_passed : Heard → Bool
 has_passed Answer = true
 has_passed AnswerAgain = true
 has_passed (Refused (OtherSet kept)) = true
 has_passed (Refused why) = false
 
--- the first set of round r that passed
+-- the first set announced for round r that passed
 unfoldable pub first_passed : ℕ → List Call → Option (List ℕ)
 first_passed r [] = None
 first_passed r (Marked q members ∷ rest) = first_passed r rest
 first_passed r (Announced q set said ∷ rest) = if (q == r) && has_passed said then Some set else first_passed r rest
 
--- over any calls on a new meter, the set that is kept for a round is the first that passed,
+-- after any calls on a new meter: the set that is kept for a round is the first that passed,
 -- each answer is to that set, and so no round has two answered sets
 pub record IsOneSet (calls : List Call) (t : MeterView) (r : ℕ) : Type 0 where
   pub kept : kept_set t r ≡ first_passed r calls
   pub answered : (set : List ℕ) → HasAnswered r set calls → first_passed r calls ≡ Some set
   pub only : (a b : List ℕ) → HasAnswered r a calls → HasAnswered r b calls → a ≡ b
 
+-- the law
 abbrev pub OneSetARound : Type 0
 OneSetARound = (meter floor rounds : ℕ) (calls : List Call) (t : MeterView) → Run (new_meter meter floor rounds) calls t → (r : ℕ) → IsOneSet calls t r

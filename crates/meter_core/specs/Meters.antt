@@ -14,9 +14,11 @@ pub record MeterView : Type 0 where
   -- a note for each round: its members once it is marked read, and the set that is answered
   pub notes : List Note
 
+-- the note of a round of which nothing is known
 abbrev pub blank : Note
 blank = record { members = None; kept = None }
 
+-- the note of round r
 abbrev pub note_at : MeterView → ℕ → Note
 note_at s r = slice_index_or s.notes r blank
 

@@ -11,6 +11,7 @@ use Rattle.meter_frames.specs.declared.FrameError.TheVariants as errors
 
 -- ---- the spelling
 
+-- the byte that stands for a kind
 abbrev pub kind_byte : Kind → ℕ
 kind_byte Reading = 1
 kind_byte Announcement = 2
@@ -46,23 +47,27 @@ pub record IsFrame (f : Frame) : Type 0 where
 
 -- ---- the rules
 
--- the big-endian numbers of 16, 32 and 64 bits at a place
+-- the big-endian number of 16 bits at a place
 abbrev pub number16 : ℕ → List ℕ → ℕ
 number16 at bytes = from_be_bytes w16 (take 2 (drop at bytes))
 
+-- the big-endian number of 32 bits at a place
 abbrev pub number32 : ℕ → List ℕ → ℕ
 number32 at bytes = from_be_bytes w32 (take 4 (drop at bytes))
 
+-- the big-endian number of 64 bits at a place
 unfoldable pub number64 : ℕ → List ℕ → ℕ
 number64 at bytes = from_be_bytes w64 (take 8 (drop at bytes))
 
+-- the kind that a byte stands for
 abbrev pub kind_of : ℕ → Option Kind
 kind_of n = if n == 1 then Some Reading else if n == 2 then Some Announcement else if n == 3 then Some Answer else None
 
--- the set, and the word, that bytes carry
+-- the set that bytes carry
 abbrev pub set_at : List ℕ → List ℕ
 set_at bytes = members (number64 36 bytes ∷ number64 28 bytes ∷ number64 20 bytes ∷ number64 12 bytes ∷ [])
 
+-- the word that bytes carry
 abbrev pub word_at : List ℕ → ℕ
 word_at bytes = number64 44 bytes
 
@@ -85,9 +90,11 @@ Decodes bytes (Err e) = first_broken bytes ≡ Some e
 
 -- ---- field by field
 
+-- the tag that bytes carry, where this is their kind
 abbrev pub tag_at : Kind → List ℕ → Tag
 tag_at kind bytes = record { group = number16 4 bytes; round = number32 8 bytes; meter = slice_index bytes 3; kind = kind }
 
+-- the frame that bytes carry, where this is their kind
 abbrev pub frame_at : Kind → List ℕ → Frame
 frame_at kind bytes = record { tag = tag_at kind bytes; missing = set_at bytes; word = word_at bytes }
 

@@ -22,10 +22,11 @@ pub record IsOldFrame (f : Frame) : Type 0 where
   pub word : f.word < 2 ^ 64
   pub fits : FitsKind f.tag.kind f.missing f.word
 
--- the set, and the word, that bytes carry
+-- the set that bytes carry
 abbrev pub old_set_at : List ℕ → List ℕ
 old_set_at bytes = members (number64 12 bytes ∷ 0 ∷ 0 ∷ 0 ∷ [])
 
+-- the word that bytes carry
 abbrev pub old_word_at : List ℕ → ℕ
 old_word_at bytes = number64 20 bytes
 
@@ -49,6 +50,7 @@ DecodesOld bytes (Err e) = first_old_broken bytes ≡ Some e
 
 -- ---- field by field
 
+-- the frame that bytes carry, where this is their kind
 abbrev pub old_frame_at : Kind → List ℕ → Frame
 old_frame_at kind bytes = record { tag = tag_at kind bytes; missing = old_set_at bytes; word = old_word_at bytes }
 

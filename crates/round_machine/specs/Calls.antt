@@ -9,6 +9,7 @@ use Rattle.round_machine.specs.declared.Ending.{Ending}
 use Rattle.round_machine.specs.declared.Ending.TheVariants.{Total}
 use Rattle.round_machine.specs.Rounds.{RoundView, new_round, lacking, total, TakesReading, Closes, TakesAnswer, Ends}
 
+-- a call on a round and its answer; readings and answers with meter and word
 pub data Call : Type 0 where
   TookReading : (i w : ℕ) (verdict : Verdict) → Call
   Closed : (closing : Closing) → Call
@@ -27,28 +28,31 @@ unfoldable pub Run : RoundView → List Call → RoundView → Type 0
 Run s [] t = t ≡ s
 Run s (call ∷ rest) t = (m : RoundView) × Step s call m × Run m rest t
 
--- whether the call takes a reading of meter i Fresh, and its word
+-- whether the call takes a reading of meter i Fresh
 abbrev pub takes_reading : ℕ → Call → Bool
 takes_reading i (TookReading j w Fresh) = j == i
 takes_reading i call = false
 
+-- the word of that reading, or 0
 abbrev pub fresh_reading : ℕ → Call → ℕ
 fresh_reading i (TookReading j w Fresh) = if j == i then w else 0
 fresh_reading i call = 0
 
--- whether the call takes an answer of meter i Fresh, and its word
+-- whether the call takes an answer of meter i Fresh
 abbrev pub takes_answer : ℕ → Call → Bool
 takes_answer i (TookAnswer j w Fresh) = j == i
 takes_answer i call = false
 
+-- the word of that answer, or 0
 abbrev pub fresh_answer : ℕ → Call → ℕ
 fresh_answer i (TookAnswer j w Fresh) = if j == i then w else 0
 fresh_answer i call = 0
 
--- the reading word, and the answer word, that the calls took Fresh of meter i; 0 where they took none
+-- the reading word that the calls took Fresh of meter i, or 0
 abbrev pub reading_of : List Call → ℕ → ℕ
 reading_of calls i = sum_by (fresh_reading i) calls
 
+-- the answer word that the calls took Fresh of meter i, or 0
 abbrev pub answer_of : List Call → ℕ → ℕ
 answer_of calls i = sum_by (fresh_answer i) calls
 

@@ -36,6 +36,7 @@ missing s = less s.members s.taken
 abbrev pub has_floor : RoundView → Bool
 has_floor s = nat_le s.floor (length s.taken)
 
+-- whether the missing set was announced to the survivors
 abbrev pub is_announced : RoundView → Bool
 is_announced s = s.closed && has_floor s
 
@@ -51,21 +52,24 @@ lacking s = less s.taken s.answered
 abbrev pub total : RoundView → ℕ
 total s = word (s.reading_sum + minus s.answer_sum)
 
--- ---- the calls: what each answers of a round s, and the round t that it leaves
+-- ---- the calls: what each answers for a round s, line by line, and the round t that it leaves
 
 -- the round with the reading word w of meter i
 abbrev pub with_reading : RoundView → ℕ → ℕ → RoundView
 with_reading s i w = record s { taken = joined i s.taken; reading_sum = word (s.reading_sum + w) }
 
+-- take_reading of word w of meter i
 abbrev pub TakesReading : RoundView → ℕ → ℕ → Verdict → RoundView → Type 0
 TakesReading s i w Again t = (is_member i s.taken ≡ true) × (t ≡ s)
 TakesReading s i w Late t = (is_member i s.taken ≡ false) × (s.closed ≡ true) × (t ≡ s)
 TakesReading s i w Fresh t = (is_member i s.taken ≡ false) × (s.closed ≡ false) × (t ≡ with_reading s i w)
 TakesReading s i w Void t = ⊥
 
+-- the round once it is closed to readings
 abbrev pub closed_round : RoundView → RoundView
 closed_round s = record s { closed = true }
 
+-- close
 abbrev pub Closes : RoundView → Closing → RoundView → Type 0
 Closes s closings.Already t = (s.closed ≡ true) × (t ≡ s)
 Closes s (closings.Thin set) t = (s.closed ≡ false) × (has_floor s ≡ false) × (set ≡ missing s) × (t ≡ closed_round s)
@@ -75,15 +79,18 @@ Closes s (closings.Announced set) t = (s.closed ≡ false) × (has_floor s ≡ t
 abbrev pub with_answer : RoundView → ℕ → ℕ → RoundView
 with_answer s i w = record s { answered = joined i s.answered; answer_sum = word (s.answer_sum + w) }
 
+-- take_answer of word w of meter i
 abbrev pub TakesAnswer : RoundView → ℕ → ℕ → Verdict → RoundView → Type 0
 TakesAnswer s i w Void t = (is_asked s i ≡ false) × (t ≡ s)
 TakesAnswer s i w Again t = (is_asked s i ≡ true) × (is_member i s.answered ≡ true) × (t ≡ s)
 TakesAnswer s i w Late t = (is_asked s i ≡ true) × (is_member i s.answered ≡ false) × (s.ended ≡ true) × (t ≡ s)
 TakesAnswer s i w Fresh t = (is_asked s i ≡ true) × (is_member i s.answered ≡ false) × (s.ended ≡ false) × (t ≡ with_answer s i w)
 
+-- the round once it has ended
 abbrev pub ended_round : RoundView → RoundView
 ended_round s = record s { ended = true }
 
+-- end
 abbrev pub Ends : RoundView → Ending → RoundView → Type 0
 Ends s endings.NotClosed t = (s.closed ≡ false) × (t ≡ s)
 Ends s endings.Already t = (s.closed ≡ true) × (s.ended ≡ true) × (t ≡ s)
