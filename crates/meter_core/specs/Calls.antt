@@ -58,4 +58,5 @@ pub record IsOneSet (calls : List Call) (t : MeterView) (r : ℕ) : Type 0 where
 
 -- the law
 abbrev pub OneSetARound : Type 0
-OneSetARound = (meter floor rounds : ℕ) (calls : List Call) (t : MeterView) → Run (new_meter meter floor rounds) calls t → (r : ℕ) → IsOneSet calls t r
+OneSetARound = (meter floor rounds : ℕ) (calls : List Call) (t : MeterView)
+    → Run (new_meter meter floor rounds) calls t → (r : ℕ) → IsOneSet calls t r

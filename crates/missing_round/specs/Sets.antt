@@ -1,5 +1,5 @@
 -- Sets of meters: as lists, and as the four blocks of 64 bits that keep one.
-use Rattle.std.specs.Prelude.{◌≡◌, ℕ, zero, suc, ◌+◌, ◌*◌, ◌/◌, ◌%◌, ◌^◌, ◌<◌, ◌≤◌, Bool, false, not, ◌||◌, cond, nat_lt, ◌==◌, List, [], ◌∷◌, length, All, filter, slice_index, slice_get, Some, Ok, Err, Result}
+use Rattle.std.specs.Prelude.{◌≡◌, ℕ, zero, suc, ◌+◌, ◌*◌, ◌/◌, ◌%◌, ◌^◌, ◌<◌, ◌≤◌, Bool, false, not, ◌||◌, if◌then◌else◌, nat_lt, ◌==◌, List, [], ◌∷◌, length, All, filter, slice_index, slice_get, Some, Ok, Err, Result}
 use Rattle.std.specs.Int.{bit_at}
 use Rattle.std.specs.List.Sorted.{IsStrictlyIncreasing}
 use Rattle.missing_round.specs.Words.{group}
@@ -19,7 +19,7 @@ is_member i (x ∷ xs) = (x == i) || is_member i xs
 -- the set with i
 abbrev pub joined : ℕ → List ℕ → List ℕ
 joined i [] = i ∷ []
-joined i (x ∷ xs) = cond (nat_lt i x) (i ∷ x ∷ xs) (cond (x == i) (x ∷ xs) (x ∷ joined i xs))
+joined i (x ∷ xs) = if nat_lt i x then i ∷ x ∷ xs else if x == i then x ∷ xs else x ∷ joined i xs
 
 -- the set without i
 abbrev pub without : ℕ → List ℕ → List ℕ
@@ -48,7 +48,7 @@ members blocks = filter (has_bit blocks) (group max_meters)
 -- the number of n bits in which bit i is set where test i holds
 unfoldable pub number_by : (ℕ → Bool) → ℕ → ℕ
 number_by test zero = 0
-number_by test (suc n) = cond {A = ℕ} (test n) 1 0 * 2 ^ n + number_by test n
+number_by test (suc n) = (if test n then 1 else 0) * 2 ^ n + number_by test n
 
 -- block k of a set: its bit j is meter 64 k + j
 abbrev pub block_at : List ℕ → ℕ → ℕ

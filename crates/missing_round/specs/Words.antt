@@ -1,4 +1,5 @@
--- The words of one round, over plain numbers. own i is the own word of meter i, and pair i j, for i < j, the pair word of meters i and j.
+-- The words of one round, over plain numbers: own i is the own word of meter i,
+-- and pair i j, for i < j, the pair word of meters i and j.
 use Rattle.std.specs.Prelude.{ℕ, ◌+◌, ◌-◌, ◌%◌, ◌^◌, nat_lt, List, sum_by, if◌then◌else◌}
 use Rattle.std.specs.List.{range_with_len}
 
@@ -10,7 +11,8 @@ word n = n % 2 ^ 64
 abbrev pub minus : ℕ → ℕ
 minus n = 2 ^ 64 - word n
 
--- what the pair word of i and j adds to the words of i: plus for the lower meter, minus for the higher, and nothing where i is j
+-- what the pair word of i and j adds to the words of i: plus for the lower meter,
+-- minus for the higher, and nothing where i is j
 abbrev pub share : (ℕ → ℕ → ℕ) → ℕ → ℕ → ℕ
 share pair i j = if nat_lt i j then pair i j else if nat_lt j i then minus (pair j i) else 0
 

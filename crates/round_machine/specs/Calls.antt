@@ -64,8 +64,10 @@ pub record IsOfFresh (calls : List Call) (s : RoundView) : Type 0 where
   -- the two sums give the frame total of these words over the survivors
   pub sums : total s ≡ frame_total (reading_of calls) (answer_of calls) s.taken
   -- and so does an ending with a total, where each survivor has answered
-  pub ends : (sum : ℕ) (t : RoundView) → Ends s (Total sum) t → (lacking s ≡ []) × (sum ≡ frame_total (reading_of calls) (answer_of calls) s.taken)
+  pub ends : (sum : ℕ) (t : RoundView) → Ends s (Total sum) t
+      → (lacking s ≡ []) × (sum ≡ frame_total (reading_of calls) (answer_of calls) s.taken)
 
 -- over any calls on a new round, a total is the frame total of the words that were taken Fresh
 abbrev pub TotalsAreOfFresh : Type 0
-TotalsAreOfFresh = (members : List ℕ) (floor : ℕ) (calls : List Call) (s : RoundView) → Run (new_round members floor) calls s → IsOfFresh calls s
+TotalsAreOfFresh = (members : List ℕ) (floor : ℕ) (calls : List Call) (s : RoundView)
+    → Run (new_round members floor) calls s → IsOfFresh calls s

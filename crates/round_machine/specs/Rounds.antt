@@ -26,7 +26,16 @@ pub record RoundView : Type 0 where
 
 -- a round in which nothing was taken yet
 abbrev pub new_round : List ℕ → ℕ → RoundView
-new_round members floor = record { members = members; floor = floor; taken = []; answered = []; closed = false; ended = false; reading_sum = 0; answer_sum = 0 }
+new_round members floor = record {
+  members = members;
+  floor = floor;
+  taken = [];
+  answered = [];
+  closed = false;
+  ended = false;
+  reading_sum = 0;
+  answer_sum = 0;
+}
 
 -- the members that are no survivors
 abbrev pub missing : RoundView → List ℕ

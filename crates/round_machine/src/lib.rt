@@ -20,7 +20,7 @@ pub enum Verdict {
     Again,
     /// After the close, for a reading; after the end, for an answer.
     Late,
-    /// None was asked for.
+    /// Not asked for: no such frame was sent with effect, or the meter is no survivor of an announced round.
     Void,
 }
 
