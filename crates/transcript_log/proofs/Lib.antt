@@ -7,3 +7,4 @@ pub mod TranscriptLemmas
 pub mod ShapeLemmas
 pub mod FrameLemmas
 pub mod JournalLemmas
+pub mod OutcomeLemmas

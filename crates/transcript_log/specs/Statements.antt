@@ -5,14 +5,16 @@ use Rattle.group_plan.specs.declared.Tag.{Tag}
 use Rattle.group_plan.specs.Plans.{Group}
 use Rattle.round_machine.specs.declared.Verdict.TheVariants.{Void}
 use Rattle.round_machine.specs.declared.Closing.TheVariants.{Already as AlreadyClosed}
-use Rattle.round_machine.specs.declared.Ending.TheVariants.{Already as AlreadyEnded, NotClosed}
+use Rattle.round_machine.specs.declared.Ending.{Ending}
+use Rattle.round_machine.specs.declared.Ending.TheVariants.{Total, Lacking, Thin, Already as AlreadyEnded, NotClosed}
 use Rattle.transcript_log.specs.declared.Event.{Event}
+use Rattle.transcript_log.specs.declared.Event.TheVariants.{End}
 use Rattle.transcript_log.specs.declared.Line.{Line}
 use Rattle.transcript_log.specs.declared.Line.TheVariants.{Send as SendLine, Take as TakeLine, Close as CloseLine, End as EndLine}
 use Rattle.transcript_log.specs.Events.{event_of}
 use Rattle.transcript_log.specs.Tables.{Readings, Masks, IsOfPlan, IsBounded}
-use Rattle.transcript_log.specs.Schedule.{Shape, is_effective, verdict, verdict_by_table, is_taken, has_fresh_take, survivors, answered, is_opened, is_published}
-use Rattle.transcript_log.specs.Transcript.{Contents, line, transcript, shape_of_readings, contents_of_tables}
+use Rattle.transcript_log.specs.Schedule.{Shape, is_closed, is_ended, Outcome, Running, EndedThin, Published, Unpublished, outcome, is_effective, verdict, verdict_by_table, is_taken, has_fresh_take, survivors, answered, is_opened, is_published}
+use Rattle.transcript_log.specs.Transcript.{Contents, ending, line, transcript, shape_of_readings, contents_of_tables}
 use Rattle.transcript_log.specs.Frames.{IsPossible}
 use Rattle.transcript_log.specs.Journal.{IsJournalAfter, HasFramesOf}
 
@@ -42,6 +44,23 @@ says_effective (EndLine g r _) = true
 -- a line says that its event was effective exactly where it was
 abbrev pub LinesSayEffective : Type 0
 LinesSayEffective = (s : Shape) (c : Contents) (past : List Event) (e : Event) → says_effective (line s c past e) ≡ is_effective s e past
+
+-- ---- outcomes
+
+-- an outcome as an End says it
+abbrev pub ending_of : Outcome → Ending
+ending_of Running = NotClosed
+ending_of EndedThin = Thin
+ending_of (Published survivors total) = Total total
+ending_of (Unpublished lacking) = Lacking lacking
+
+-- the effective End says the outcome that its round has then, and no later event changes the outcome
+pub record IsSettled (s : Shape) (c : Contents) (g r : ℕ) (past : List Event) : Type 0 where
+  pub said : is_closed g r past ≡ true → is_ended g r past ≡ false → ending s c g r past ≡ ending_of (outcome s c.total g r (End g r ∷ past))
+  pub lasting : is_ended g r past ≡ true → (e : Event) → outcome s c.total g r (e ∷ past) ≡ outcome s c.total g r past
+
+abbrev pub OutcomesAreSettled : Type 0
+OutcomesAreSettled = (s : Shape) (c : Contents) (g r : ℕ) (past : List Event) → IsSettled s c g r past
 
 -- ---- shape: only presence and schedule decide
 

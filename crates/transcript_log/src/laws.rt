@@ -4,7 +4,7 @@ ghost use Rattle.std.specs.Prelude.{◌≡◌, [], ◌∷◌, ◌++◌, true, fa
 ghost use Rattle.group_plan.specs.Plans.{members};
 ghost use Rattle.transcript_log.specs.Rows.{three, joining, readings, joining_readings, masks, all, first_two, whole, whole_lines, late, late_lines, unanswered, unanswered_end, deaf, deaf_end, waking, waking_lines, calls, call_lines, joining_round, joining_lines_0, joining_lines_1};
 ghost use Rattle.transcript_log.specs.Schedule.{answered, is_opened, is_published, outcome, Running, EndedThin, Published, Unpublished};
-ghost use Rattle.transcript_log.specs.Statements.{VerdictsAreTable, LinesSayEffective, ShapeAlone, OneMoreLine, JournalIsTranscript, TranscriptsArePossible};
+ghost use Rattle.transcript_log.specs.Statements.{VerdictsAreTable, LinesSayEffective, OutcomesAreSettled, ShapeAlone, OneMoreLine, JournalIsTranscript, TranscriptsArePossible};
 ghost use Rattle.transcript_log.specs.Tables.{plain_sum};
 ghost use Rattle.transcript_log.specs.Transcript.{transcript, shape_of_readings};
 
@@ -44,6 +44,11 @@ pub fn verdicts()
 /// A line says that its event was effective exactly where it was.
 pub fn effective_lines()
     ensures { LinesSayEffective }
+{}
+
+/// The effective End says the outcome of its round, and no later event changes it.
+pub fn outcomes()
+    ensures { OutcomesAreSettled }
 {}
 
 /// Which events are effective, all verdicts, and what is opened and published depend on presence and schedule alone.
