@@ -1,0 +1,10 @@
+pub mod TickLemmas
+pub mod TickRun
+pub mod ReportLemmas
+pub mod Unique
+pub mod FateLemmas
+pub mod SameCounts
+pub mod Effective
+pub mod SummaryLemmas
+pub mod PostLemmas
+pub mod RunLemmas

@@ -1,0 +1,7 @@
+pub mod Ticks
+pub mod Report
+pub mod Summary
+pub mod Posts
+pub mod Runs
+pub mod Statements
+pub mod Rows
