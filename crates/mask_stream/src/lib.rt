@@ -4,6 +4,9 @@
 ghost use Rattle.std.specs.Prelude.{◌≡◌};
 ghost use Rattle.mask_stream.specs.Stream.{mask_word};
 
+mod masks;
+
+pub use masks::Masks;
 use mod_word::Word;
 use rand_chacha::ChaCha20Rng;
 use rand_core::SeedableRng;

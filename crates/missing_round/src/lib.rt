@@ -133,7 +133,8 @@ impl MeterSet {
 
     /// The members, ascending.
     pub fn members(self) -> Members
-        ensures { result ≡ self }
+        ensures members { result ≡ self }
+        ensures set { IsSet self }
     {
         let blocks = self.blocks;
         Members { blocks, at: 0 }

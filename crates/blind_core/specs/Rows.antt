@@ -1,0 +1,39 @@
+-- The pair words of a group, row by row: each pair word is added at the lower end and taken away at the higher one.
+use Rattle.std.specs.Prelude.{◌≡◌, ℕ, ◌+◌, Bool, true, ◌&&◌, nat_lt, List, [], ◌∷◌, sum_by, slice_index, slice_set, length, Option, Some, None}
+use Rattle.std.specs.List.{list_all}
+use Rattle.group_plan.specs.Plans.{PlanView, is_place}
+use Rattle.missing_round.specs.Words.{word, minus, share}
+use Rattle.missing_round.specs.Sets.{is_member}
+
+-- whether each number is below all that follow it
+abbrev pub ascends : List ℕ → Bool
+ascends [] = true
+ascends (x ∷ xs) = list_all (nat_lt x) xs && ascends xs
+
+-- whether meter j can be the higher end of a pair with i: it is above i, has a place in the round, and is one of n sums
+abbrev pub is_higher : PlanView → ℕ → ℕ → ℕ → ℕ → ℕ → Bool
+is_higher plan g r n i j = nat_lt i j && is_place plan g r j && nat_lt j n
+
+-- the sums with the words of one row taken away, each from the sum of its meter
+unfoldable pub taken_from : (ℕ → ℕ) → List ℕ → List ℕ → List ℕ
+taken_from row [] sums = sums
+taken_from row (j ∷ meters) sums = taken_from row meters (slice_set sums j (word (slice_index sums j + minus (row j))))
+
+-- the sum of a row added at its own meter
+abbrev pub added_at : ℕ → (ℕ → ℕ) → List ℕ → List ℕ → List ℕ
+added_at i row meters sums = slice_set sums i (word (slice_index sums i + word (sum_by row meters)))
+
+-- the sums with the rows of all these meters, each of its pairs with the later ones
+unfoldable pub with_rows : (ℕ → ℕ → ℕ) → List ℕ → List ℕ → List ℕ
+with_rows pair [] sums = sums
+with_rows pair (i ∷ meters) sums = with_rows pair meters (added_at i (pair i) meters (taken_from (pair i) meters sums))
+
+-- sums for n meters: of a member, the sum of its shares with all members, modulo 2^64
+pub record AreShareSums (pair : ℕ → ℕ → ℕ) (members : List ℕ) (n : ℕ) (sums : List ℕ) : Type 0 where
+  pub long : length sums ≡ n
+  pub each : (i : ℕ) → is_member i members ≡ true → word (slice_index sums i) ≡ word (sum_by (share pair i) members)
+
+-- a reading hidden by an own word and a sum of shares, or 0 where there is none
+abbrev pub hidden_or_0 : (ℕ → ℕ) → ℕ → ℕ → Option ℕ → ℕ
+hidden_or_0 own i shares None = 0
+hidden_or_0 own i shares (Some reading) = word (reading + own i + shares)

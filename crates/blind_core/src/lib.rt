@@ -1,0 +1,11 @@
+//! Reading words and answer words, over any table of masks.
+#![tactic(auto)]
+
+mod group;
+mod words;
+
+pub use group::masked_group;
+pub use words::{answer, masked};
+
+#[cfg(test)]
+mod tests;
