@@ -1,15 +1,11 @@
 -- Tables of readings and of masks, as functions of group, round and meter.
 use Rattle.std.specs.Prelude.{◌≡◌, ℕ, ◌^◌, ◌<◌, ◌≤◌, true, List, sum_by, Option, is_some, unwrap_or}
 use Rattle.group_plan.specs.Plans.{Group, size, is_member}
+pub use Rattle.missing_round.specs.Masks.{Masks}
 
 -- the reading of a meter in watt-hours, or none
 abbrev pub Readings : Type 0
 Readings = ℕ → ℕ → ℕ → Option ℕ
-
--- the own word of a meter, and the pair word of two meters of a group, the lower one first
-pub record Masks : Type 0 where
-  pub own : ℕ → ℕ → ℕ → ℕ
-  pub pair : ℕ → ℕ → ℕ → ℕ → ℕ
 
 -- a reading as a number, 0 where there is none
 abbrev pub reading_at : Readings → ℕ → ℕ → ℕ → ℕ
