@@ -1,0 +1,4 @@
+pub mod SlotLemmas
+pub mod PileLemmas
+pub mod EmptyLemmas
+pub mod MissingLemmas

@@ -1,0 +1,4 @@
+pub mod Ids
+pub mod KeyParts
+pub mod Missing
+pub mod Keys
