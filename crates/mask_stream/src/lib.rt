@@ -4,8 +4,10 @@
 ghost use Rattle.std.specs.Prelude.{◌≡◌};
 ghost use Rattle.mask_stream.specs.Stream.{mask_word};
 
+mod cha_masks;
 mod masks;
 
+pub use cha_masks::ChaMasks;
 pub use masks::Masks;
 use mod_word::Word;
 use rand_chacha::ChaCha20Rng;

@@ -1,0 +1,42 @@
+//! The table of the mask words of keys.
+ghost use Rattle.std.specs.Prelude.{◌≡◌};
+
+use crate::{Masks, stream_word};
+use mod_word::Word;
+use pair_keys::KeyTable;
+
+/// The mask words of the keys of a plan, each made by ChaCha20 when it is asked for.
+#[derive(Clone, Copy)]
+pub struct ChaMasks<'k> {
+    keys: &'k KeyTable,
+}
+
+impl<'k> ChaMasks<'k> {
+    ghost use Rattle.pair_keys.specs.Keys.{table_of};
+    ghost use Rattle.mask_stream.specs.KeyStreams.{streams};
+    ghost use Rattle.mask_stream.specs.ChaMaskTables.{plan_of, words_of};
+
+    /// The mask words of these keys.
+    pub fn new(keys: &'k KeyTable) -> ChaMasks<'k>
+        ensures plan { plan_of result ≡ (table_of keys.now).plan }
+        ensures words { words_of result ≡ streams (table_of keys.now) }
+    {
+        ChaMasks { keys }
+    }
+}
+
+impl<'k> Masks for ChaMasks<'k> {
+    ghost use Rattle.mask_stream.specs.ChaMaskTables.{plan_of, words_of};
+
+    ghost plan = { plan_of };
+
+    ghost table = { words_of };
+
+    fn own(&self, group: u16, round: u32, meter: u8) -> Word {
+        stream_word(self.keys.own(group, meter), round)
+    }
+
+    fn pair(&self, group: u16, round: u32, low: u8, high: u8) -> Word {
+        stream_word(self.keys.pair(group, low, high), round)
+    }
+}
