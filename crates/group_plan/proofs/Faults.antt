@@ -1,16 +1,14 @@
 -- What a plan without a fault keeps to.
-use Rattle.std.proofs.Common.{◌≡◌, ℕ, ◌+◌, ◌*◌, ◌<◌, ◌≤◌, Bool, true, false, List, [], ◌∷◌, ◌++◌, length, take, drop, get_or, IsTrue, refl, sym, ap, ◌∙◌, arith, cond, length-take-le}
-use Rattle.std.specs.Prelude.{nat_lt, nat_le, ◌||◌, not, position, Option, Some, None, sum_by, bytes_eq}
+use Rattle.std.proofs.Common.{◌≡◌, ℕ, ◌+◌, ◌<◌, ◌≤◌, Bool, true, false, List, length, take, drop, get_or, refl, arith, cond, length-take-le}
+use Rattle.std.specs.Prelude.{nat_lt, position, Some, None}
 use Rattle.std.specs.List.{All, position_or_len}
-use Rattle.std.proofs.lemmas.List.Sums.{fails_before_first, sum_by-le, sum_by_more, sum_by-take-le}
-use Rattle.std.proofs.lemmas.Bool.{cases_Bool, ltb-false, false≢true}
+use Rattle.std.proofs.lemmas.List.Sums.{fails_before_first, sum_by-le}
+use Rattle.std.proofs.lemmas.Bool.{ltb-false}
 use Rattle.std.proofs.lemmas.Bool.Decides.{nat_tests}
 use Rattle.group_plan.specs.declared.plan.GroupPlan.{GroupPlan}
-use Rattle.std.specs.Option.{option_map, option_or}
 use Rattle.std.proofs.lemmas.List.{drop_more, drop_all, take_more}
-use Rattle.group_plan.specs.declared.plan.PlanError.{PlanError}
 use Rattle.group_plan.specs.declared.plan.PlanError.TheVariants as fault
-use Rattle.group_plan.specs.NewPlans.{has_wrong_meters, meters_of, same_name, same_name_from, position_of_name}
+use Rattle.group_plan.specs.NewPlans.{has_wrong_meters, meters_of, same_name_from, position_of_name}
 
 -- where none is found, none passes
 pub position-none : {X : Type 0} (p : X → Bool) (xs : List X) → position p xs ≡ None → All (λ x. p x ≡ false) xs

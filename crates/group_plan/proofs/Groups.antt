@@ -1,12 +1,11 @@
 -- The groups of a plan, from the spans of all meters that stand one group after another.
-use Rattle.std.proofs.Common.{◌≡◌, ℕ, zero, suc, ◌+◌, ◌*◌, ◌-◌, ◌<◌, ◌≤◌, List, [], ◌∷◌, ◌++◌, length, map, take, drop, replicate, get_or, refl, sym, ap, ◌∙◌, arith, length-take-le, length-drop, take-append-drop}
-use Rattle.std.specs.Prelude.{sum_by, slice_get, slice_index_or, Option, Some, None}
-use Rattle.std.proofs.lemmas.List.{drop-drop, take_at, drop_at, length-replicate, replicate-append-replicate, length-map, get_or-take, get_or-drop}
+use Rattle.std.proofs.Common.{◌≡◌, ℕ, zero, suc, ◌+◌, ◌<◌, ◌≤◌, List, [], ◌∷◌, ◌++◌, length, map, take, drop, replicate, get_or, refl, sym, ap, ◌∙◌, arith, length-take-le, length-drop}
+use Rattle.std.specs.Prelude.{slice_get, Some}
+use Rattle.std.proofs.lemmas.List.{drop-drop, take_at, drop_at, length-replicate, replicate-append-replicate}
 use Rattle.std.proofs.lemmas.List.Sums.{sum_by-cons, sum_by-take-le}
-use Rattle.std.proofs.lemmas.Option.{slice_get-get_or}
-use Rattle.group_plan.specs.Plans.{Rounds, Group, PlanView, size, name_of, floor_of, span_of, all_meters, all_pairs, pairs}
+use Rattle.group_plan.specs.Plans.{Rounds, Group, all_meters, all_pairs, pairs}
 use Rattle.group_plan.specs.declared.plan.GroupPlan.{GroupPlan}
-use Rattle.group_plan.specs.NewPlans.{group_of, plan_of, stated, meters_of, pairs_of}
+use Rattle.group_plan.specs.NewPlans.{group_of, stated, meters_of, pairs_of}
 use Rattle.group_plan.specs.PlanParts.{groups_of}
 
 meters-cons : (g : GroupPlan) (groups : List GroupPlan) → meters_of (g ∷ groups) ≡ g.meters + meters_of groups

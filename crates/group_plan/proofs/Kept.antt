@@ -1,11 +1,11 @@
 -- What the parts of a plan say of it.
 use Rattle.std.proofs.Common.{◌≡◌, ℕ, zero, suc, List, [], ◌∷◌, replicate, ◌+◌, ◌<◌, ◌≤◌, length, take, drop, get_or, map, refl, sym, ap, ◌∙◌, subst, ◌*◌, arith}
-use Rattle.std.specs.Prelude.{true, nat_lt, slice_get, slice_index_or, Option, Some, None}
+use Rattle.std.specs.Prelude.{true, nat_lt, slice_get, Option, Some, None}
 use Rattle.std.proofs.lemmas.List.{get_or-take, get_or-drop, get_or_default, get_or-replicate, length-take, length-replicate}
 use Rattle.std.proofs.lemmas.Bool.{and_parts, ltb-true}
 use Rattle.std.proofs.lemmas.Bool.Decides.{nat_tests}
 use Rattle.std.proofs.Math.Nat.{mul-le-mul_right}
-use Rattle.group_plan.specs.Plans.{Rounds, Group, PlanView, size, size_or, is_place, span_of, span_or, is_member, is_member_of, holds, all_meters, IsWithinLimits}
+use Rattle.group_plan.specs.Plans.{Rounds, Group, PlanView, size, size_or, is_place, span_of, span_or, is_member_of, holds, all_meters, IsWithinLimits}
 use Rattle.group_plan.specs.Places.{meter_at}
 use Rattle.group_plan.specs.declared.plan.GroupPlan.{GroupPlan}
 use Rattle.group_plan.specs.declared.plan.Plan.TheInside.{Inside}

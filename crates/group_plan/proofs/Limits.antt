@@ -1,15 +1,15 @@
 -- A plan whose numbers have no fault is within the limits.
-use Rattle.std.proofs.Common.{◌≡◌, ℕ, zero, suc, ◌+◌, ◌*◌, ◌-◌, ◌<◌, ◌≤◌, ◌≢◌, Bool, true, false, List, [], ◌∷◌, ◌++◌, length, map, take, get_or, IsTrue, refl, sym, ap, ◌∙◌, subst, inl, inr, arith, length-take-le, append_assoc, cond}
-use Rattle.std.specs.Prelude.{slice_get, Option, Some, None, position, bytes_eq, nat_lt, nat_le, ◌||◌, ◌&&◌, ◌⊎◌, if◌then◌else◌}
+use Rattle.std.proofs.Common.{◌≡◌, ℕ, zero, suc, ◌*◌, ◌<◌, ◌≤◌, ◌≢◌, Bool, true, false, List, [], ◌∷◌, ◌++◌, length, map, take, get_or, IsTrue, refl, sym, ap, ◌∙◌, subst, inl, inr, arith, length-take-le, append_assoc, cond}
+use Rattle.std.specs.Prelude.{Option, Some, None, bytes_eq, nat_lt, nat_le, ◌&&◌}
 use Rattle.std.specs.List.{All}
 use Rattle.std.specs.Option.{option_map, option_or}
-use Rattle.std.proofs.lemmas.List.{length-map, append-nil, get_or-take, get_or_append_left}
-use Rattle.std.proofs.lemmas.Bool.{cases_lt, and_parts, false≢true}
+use Rattle.std.proofs.lemmas.List.{length-map, append-nil, get_or-take}
+use Rattle.std.proofs.lemmas.Bool.{cases_lt, and_parts}
 use Rattle.std.proofs.lemmas.Bool.Decides.{nat_tests}
 use Rattle.std.proofs.lemmas.Slice.Eq.{bytes_eq-Decides}
 use Rattle.std.proofs.lemmas.Option.{slice_get_past}
 use Rattle.group_plan.specs.Names.{is_name}
-use Rattle.group_plan.specs.Plans.{Rounds, Group, PlanView, size, size_or, name_of, floor_of, floor_or, span_of, all_meters, all_pairs, pairs, IsWithinLimits}
+use Rattle.group_plan.specs.Plans.{Group, PlanView, size, size_or, name_of, floor_of, floor_or, IsWithinLimits}
 use Rattle.group_plan.specs.declared.plan.GroupPlan.{GroupPlan}
 use Rattle.group_plan.specs.declared.plan.PlanError.{PlanError}
 use Rattle.group_plan.specs.declared.plan.PlanError.TheVariants as fault

@@ -1,18 +1,16 @@
 -- The spans that a plan is given, one after another.
-use Rattle.std.proofs.Common.{◌≡◌, ◌≢◌, ℕ, zero, suc, ◌+◌, ◌*◌, ◌<◌, ◌≤◌, Bool, true, false, List, [], ◌∷◌, ◌++◌, length, map, take, drop, set, get_or, replicate, refl, sym, ap, ◌∙◌, subst, arith, length-set, length-take-le, get_or-set_same, get_or-set_other, append_assoc, length-append, cond, inl, inr}
-use Rattle.std.specs.Prelude.{◌&&◌, ◌||◌, ◌==◌, not, nat_lt, nat_le, count_by, Option, Some, None, if◌then◌else◌}
+use Rattle.std.proofs.Common.{◌≡◌, ◌≢◌, ℕ, ◌+◌, ◌*◌, ◌<◌, ◌≤◌, Bool, true, false, List, [], ◌∷◌, ◌++◌, length, take, drop, set, get_or, replicate, refl, sym, ap, ◌∙◌, arith, length-set, length-take-le, get_or-set_same, get_or-set_other, length-append, cond, inl, inr}
+use Rattle.std.specs.Prelude.{◌&&◌, ◌||◌, ◌==◌, nat_lt, nat_le, count_by, Some, None}
 use Rattle.std.specs.List.{list_any}
 use Rattle.std.proofs.Math.Nat.{mul-le-mul_right}
-use Rattle.std.proofs.lemmas.Bool.{and_parts, cases_Bool, eqb-true, eq-eqb, ltb-true, leb-true, not-true, not-false, both_ways, cases_eq}
-use Rattle.std.proofs.lemmas.Bool.Decides.{nat_tests}
-use Rattle.std.proofs.lemmas.List.{drop_more, drop_all, take_more, get_or_default, get_or-replicate, length-replicate, take_all}
+use Rattle.std.proofs.lemmas.Bool.{and_parts, eqb-true, eq-eqb, ltb-true, leb-true, both_ways, cases_eq}
+use Rattle.std.proofs.lemmas.List.{drop_more, drop_all, take_more, get_or_default, get_or-replicate, length-replicate}
 use Rattle.std.proofs.lemmas.List.Folds.{list_any-append, sum_by-replicate}
 use Rattle.std.proofs.lemmas.List.Sums.{sum_by-set, count_by-le-length}
-use Rattle.group_plan.specs.Plans.{Rounds, Group, PlanView, size, all_meters, IsWithinLimits}
+use Rattle.group_plan.specs.Plans.{Rounds, PlanView, size, all_meters, IsWithinLimits}
 use Rattle.group_plan.specs.Places.{meter_at}
 use Rattle.group_plan.specs.NewPlans.{whole}
 use Rattle.group_plan.specs.declared.plan.members.Span.{Span}
-use Rattle.group_plan.specs.declared.plan.members.SpanError.{SpanError}
 use Rattle.group_plan.specs.declared.plan.members.SpanError.TheVariants as fault
 use Rattle.group_plan.specs.Spans.{is_in_plan, is_of, span_fault_from, rounds_given, rounds_of, AreGiven}
 use Rattle.group_plan.proofs.MeterNumbers.{meter_at-lt, same_meter}

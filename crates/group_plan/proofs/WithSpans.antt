@@ -1,19 +1,19 @@
 -- The plan that has been given spans.
-use Rattle.std.proofs.Common.{◌≡◌, ℕ, ◌+◌, ◌-◌, ◌<◌, ◌≤◌, List, [], length, map, take, drop, get_or, refl, sym, ap, ◌∙◌, subst, inl, inr, arith, length-take-le}
-use Rattle.std.specs.Prelude.{slice_get, Option, Some, None}
+use Rattle.std.proofs.Common.{◌≡◌, ℕ, ◌+◌, ◌<◌, ◌≤◌, List, [], length, map, take, drop, get_or, refl, sym, ap, ◌∙◌, subst, inl, inr, arith, length-take-le}
+use Rattle.std.specs.Prelude.{slice_get, Some}
 use Rattle.std.specs.List.{range_with_len}
 use Rattle.std.proofs.lemmas.Bool.{cases_lt}
 use Rattle.std.proofs.lemmas.List.{get_or-take, get_or-drop, get_or_default, length-drop}
 use Rattle.std.proofs.lemmas.List.Sums.{sum_by_more, sum_by-take-le}
-use Rattle.std.proofs.lemmas.List.FromFn.{fill_by_all, length-range_with_len, get_or-map-range_with_len, length-map-range_with_len}
+use Rattle.std.proofs.lemmas.List.FromFn.{fill_by_all, get_or-map-range_with_len, length-map-range_with_len}
 use Rattle.std.proofs.lemmas.Option.{get_or_from_slice_get, slice_get-get_or, slice_get_past}
-use Rattle.group_plan.specs.Plans.{Rounds, Group, PlanView, size, size_or, name_of, name_or, floor_of, floor_or, span_of, span_or, all_meters}
+use Rattle.group_plan.specs.Plans.{Rounds, Group, PlanView, size, size_or, name_or, floor_or, span_of, span_or, all_meters}
 use Rattle.group_plan.specs.Places.{meter_at}
-use Rattle.group_plan.specs.NewPlans.{AreNamed, whole, meters_of, first_fault}
+use Rattle.group_plan.specs.NewPlans.{AreNamed, whole, meters_of}
 use Rattle.group_plan.specs.declared.plan.GroupPlan.{GroupPlan}
 use Rattle.group_plan.specs.declared.plan.Plan.TheInside.{Inside}
 use Rattle.group_plan.specs.declared.plan.members.Span.{Span}
-use Rattle.group_plan.specs.PlanParts.{plan, KeepsPlan, AreSpans, groups_of}
+use Rattle.group_plan.specs.PlanParts.{plan, KeepsPlan, AreSpans}
 use Rattle.group_plan.specs.Spans.{rounds_given, group_with, with_spans, AreGiven}
 use Rattle.group_plan.proofs.Groups.{group_at, groups_of-at, start-groups_of}
 use Rattle.group_plan.proofs.Limits.{none}

@@ -1,5 +1,5 @@
 -- How a plan is kept: its groups, and the spans of all meters, one group after another.
-use Rattle.std.specs.Prelude.{◌≡◌, ℕ, ◌<◌, ◌≤◌, List, [], ◌∷◌, length, take, drop, sum_by, None}
+use Rattle.std.specs.Prelude.{◌≡◌, ℕ, ◌<◌, ◌≤◌, List, [], ◌∷◌, length, take, drop, None}
 use Rattle.group_plan.specs.Plans.{Rounds, Group, PlanView, size, span_of}
 use Rattle.group_plan.specs.NewPlans.{AreNamed, first_fault, meters_of}
 use Rattle.group_plan.specs.PlanStarts.{AreStarts}

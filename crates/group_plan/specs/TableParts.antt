@@ -2,7 +2,7 @@
 use Rattle.std.specs.Prelude.{◌≡◌, ℕ, ◌^◌, ◌<◌, Bool, true, false, List, length, slice_index_or, Option, Some, None, is_some}
 use Rattle.group_plan.specs.Plans.{PlanView, is_place, is_member, IsWithinLimits}
 use Rattle.group_plan.specs.Places.{place_at, places}
-use Rattle.group_plan.specs.Tables.{table_of, ReadingsView, PresenceView}
+use Rattle.group_plan.specs.Tables.{table_of}
 
 -- the table that has at each place what is kept at its number
 abbrev pub kept_table : {X : Type 0} → X → PlanView → List X → List (List (List X))

@@ -1,5 +1,5 @@
 -- Tables over the places of a plan: reading tables, and their presence.
-use Rattle.std.specs.Prelude.{◌≡◌, ℕ, ◌^◌, ◌<◌, Bool, true, false, ◌==◌, ◌&&◌, IsTrue, List, [], length, map, slice_index_or, Option, Some, None, is_some}
+use Rattle.std.specs.Prelude.{◌≡◌, ℕ, ◌^◌, ◌<◌, Bool, true, false, ◌==◌, ◌&&◌, List, [], length, map, slice_index_or, Option, Some, None, is_some}
 use Rattle.std.specs.List.{range_with_len}
 use Rattle.group_plan.specs.Plans.{PlanView, size, is_member}
 

@@ -1,6 +1,4 @@
-use Rattle.std.proofs.Common.{◌≡◌, ◌+◌, ◌<◌, arith}
-use Rattle.group_plan.specs.Plans.{all_meters}
-use Rattle.group_plan.specs.Places.{meter_at}
+use Rattle.std.proofs.Common.{arith}
 use Rattle.group_plan.proofs.Kept.{group_is, start_read, all_is, few_meters}
 use Rattle.group_plan.proofs.MeterNumbers.{meter_at-lt}
 use Rattle.group_plan.proofs.plan.Plan.number_of.Goals as goal

@@ -1,4 +1,4 @@
-use Rattle.std.proofs.Common.{◌≡◌, ◌*◌, sym, ap, ◌∙◌, mul_comm, arith}
+use Rattle.std.proofs.Common.{◌≡◌, ap, mul_comm, arith}
 use Rattle.group_plan.specs.Plans.{all_meters}
 use Rattle.group_plan.proofs.Kept.{all_is, limits_of}
 use Rattle.group_plan.proofs.plan.Plan.places.Goals as goal

@@ -1,9 +1,9 @@
-use Rattle.std.proofs.Common.{◌≡◌, ◌<◌, ◌+◌, Bool, true, false, List, replicate, take, length, get_or, refl, sym, ap, ◌∙◌, subst, rules, arith}
+use Rattle.std.proofs.Common.{◌≡◌, true, false, List, replicate, take, get_or, refl, sym, ap, ◌∙◌, subst, rules, arith}
 use Rattle.std.proofs.lemmas.List.{take_more, take_all}
 use Rattle.group_plan.specs.Plans.{all_meters}
 use Rattle.group_plan.specs.NewPlans.{whole}
 use Rattle.group_plan.specs.declared.plan.members.Span.{Span}
-use Rattle.group_plan.specs.Spans.{AreGiven, span_fault_from}
+use Rattle.group_plan.specs.Spans.{AreGiven}
 use Rattle.group_plan.proofs.Kept.{limits_of, all_is}
 use Rattle.group_plan.proofs.Members.{AreMarked, mark_is, fault_range, fault_twice, fault_more, fault_end, few_spans, none_marked, none_given, one_marked, one_given}
 use Rattle.group_plan.proofs.plan.Plan.spans_given.Goals as goal

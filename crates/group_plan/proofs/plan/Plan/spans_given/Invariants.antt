@@ -1,6 +1,5 @@
 use Rattle.std.proofs.Common.{◌≡◌, take, drop}
 use Rattle.group_plan.specs.Spans.{span_fault, span_fault_from, AreGiven}
-use Rattle.group_plan.specs.PlanParts.{plan}
 use Rattle.group_plan.proofs.Members.{AreMarked}
 use Rattle.group_plan.proofs.plan.Plan.spans_given.Given as goal
 
