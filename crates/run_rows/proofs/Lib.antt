@@ -8,3 +8,4 @@ pub mod Effective
 pub mod SummaryLemmas
 pub mod PostLemmas
 pub mod RunLemmas
+pub mod PlanLemmas

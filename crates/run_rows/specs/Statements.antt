@@ -1,15 +1,21 @@
 -- What the laws of this crate say. Each is proved for every plan, presence, list of lanes and list of entries.
 use Rattle.std.specs.Prelude.{◌≡◌, ℕ, ◌<◌, List, [], length, reverse}
+use Rattle.group_plan.specs.Plans.{IsWithinLimits}
+use Rattle.group_plan.specs.Tables.{PresenceView, IsPresenceTable}
 use Rattle.link_lanes.specs.Lanes.{Slot}
 use Rattle.transcript_log.specs.declared.Entry.{Entry}
 use Rattle.transcript_log.specs.Events.{events_of}
-use Rattle.transcript_log.specs.Schedule.{Shape}
+use Rattle.transcript_log.specs.Schedule.{Shape, shape_of_presence}
 use Rattle.transcript_log.specs.Transcript.{Contents, lines_after}
-use Rattle.run_rows.specs.Ticks.{Clock, HaveDelays, IsRunPlan, IsTickRun, posts_of}
+use Rattle.run_rows.specs.Ticks.{Clock, clock_of, HaveDelays, IsRunPlan, IsTickRun, posts_of}
 use Rattle.run_rows.specs.Report.{fate_at, row, outcome_row}
 use Rattle.run_rows.specs.Summary.{summary_of_lines, summary_of_posts}
 use Rattle.run_rows.specs.Posts.{posts_by_lanes}
 use Rattle.run_rows.specs.Runs.{IsRun, IsReported}
+
+-- a plan within the limits and a presence of it can run
+abbrev pub PlansCanRun : Type 0
+PlansCanRun = (p : PresenceView) → IsWithinLimits p.plan → IsPresenceTable p.plan p.table → IsRunPlan (shape_of_presence p) (clock_of p.plan)
 
 -- in every tick run the posts are those by the lanes alone
 abbrev pub PostsAreByLanes : Type 0

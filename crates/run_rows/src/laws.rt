@@ -9,9 +9,14 @@ ghost use Rattle.transcript_log.specs.Tables.{plain_sum};
 ghost use Rattle.run_rows.specs.Posts.{posts_by_lanes};
 ghost use Rattle.run_rows.specs.Report.{ThinRow, TotalRow, NoneRow, outcome_row};
 ghost use Rattle.run_rows.specs.Rows.{clock, hung, only, burst, first_two_read, one_read, three_rounds_read, three_long, one_then_three, one_then_three_read, reported, counts, heard_twice, north, late_run};
-ghost use Rattle.run_rows.specs.Statements.{PostsAreByLanes, RowsAreDelays, SummariesAreOfPosts, Reports};
+ghost use Rattle.run_rows.specs.Statements.{PlansCanRun, PostsAreByLanes, RowsAreDelays, SummariesAreOfPosts, Reports};
 ghost use Rattle.run_rows.specs.Summary.{summary_of_lines};
-ghost use Rattle.run_rows.specs.Ticks.{sent_at, due_of, posts_of};
+ghost use Rattle.run_rows.specs.Ticks.{IsOrdered, sent_at, due_of, posts_of};
+
+/// A plan and a presence of it can run.
+pub fn plans()
+    ensures { PlansCanRun }
+{}
 
 /// The posts of a run depend on its plan, presence and lanes alone.
 pub fn posts()
@@ -60,6 +65,7 @@ pub fn several_rounds()
 pub fn late_answer_by_ticks()
     ensures outcome { outcome_row north (plain_sum readings) 0 0 (reverse (events_of late_run)) ≡ NoneRow all }
     ensures summary { summary_of_lines north (clock 1 1 2) (plain_sum readings) (lines_of late_run) ≡ counts 1 0 1 0 10 10 }
+    ensures ordered { IsOrdered late_run }
     ensures posts { posts_of late_run ≡ posts_by_lanes north (clock 1 1 2) heard_twice }
     ensures fates { map (λ p. p.fate) (posts_of late_run) ≡ fates_after heard_twice [] (posts_of late_run) }
     ensures sent_0 { sent_at late_run 0 ≡ due_of north (clock 1 1 2) late_run 0 0 }

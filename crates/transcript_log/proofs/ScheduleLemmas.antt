@@ -11,7 +11,7 @@ use Rattle.transcript_log.specs.Events.{once, is_take, is_send}
 use mathlib.Core.List.{reverse_aux, reverse}
 use Rattle.transcript_log.proofs.ListLemmas.{and_first, and_last, list_all-weaker, or-and_not}
 
--- the past after more events_of
+-- the past after more events
 unfoldable pub after : List Event → List Event → List Event
 after past [] = past
 after past (e ∷ rest) = after (e ∷ past) rest
@@ -129,14 +129,14 @@ survivors-after s g r p rest closed = (stays-after s g r p rest closed).survivor
 pub missing-after : (s : Shape) (g r : ℕ) (p rest : List Event) → is_closed g r p ≡ true → missing s g r (after p rest) ≡ missing s g r p
 missing-after s g r p rest closed = (stays-after s g r p rest closed).missing_stay
 
--- the events_of, the newest first
+-- the events, the newest first
 pub after-reverse_aux : (p rest : List Event) → after p rest ≡ reverse_aux rest p
 unfolding after
 after-reverse_aux p [] = refl
 after-reverse_aux p (e ∷ rest) = after-reverse_aux (e ∷ p) rest
 
-pub after-reverse : (events_of : List Event) → after [] events_of ≡ reverse events_of
-after-reverse events_of = after-reverse_aux [] events_of
+pub after-reverse : (events : List Event) → after [] events ≡ reverse events
+after-reverse events = after-reverse_aux [] events
 
 -- who was sent an announcement is a survivor, and so is who answered
 is_reading_taken-from_announcement : (s : Shape) (g r i : ℕ) (p : List Event) → is_announcement_sent s g r i p ≡ true → is_reading_taken s g r i p ≡ true

@@ -18,7 +18,7 @@ use Rattle.transcript_log.proofs.ScheduleLemmas.{after, after-keeps, is_closed-f
 use Rattle.transcript_log.proofs.ListLemmas.{and_first}
 use Rattle.transcript_log.proofs.EventLemmas.{is_send-itself}
 
--- two contents_of_tables say the same of all that a schedule shows: the events_of, the newest first, are whole
+-- two contents say the same of all that a schedule shows: the events, the newest first, are whole
 pub record Alike (s : Shape) (c d : Contents) (whole : List Event) : Type 0 where
   pub readings : (g r i : ℕ) → s.present g r i ≡ true → c.reading g r i ≡ d.reading g r i
   pub answers : (g r i : ℕ) → is_answer_sent s g r i whole ≡ true → c.answer g r i (missing s g r whole) ≡ d.answer g r i (missing s g r whole)
@@ -91,6 +91,6 @@ unfolding after lines_after
 lines_after-push s c p [] e = refl
 lines_after-push s c p (x ∷ rest) e = ap (λ l. line s c p x ∷ l) (lines_after-push s c (x ∷ p) rest e)
 
--- the same presence is the same shape_of_readings
+-- the same presence is the same shape
 pub shape-same : (groups : List Group) (x y : Readings) → ((g r i : ℕ) → is_some (x g r i) ≡ is_some (y g r i)) → shape_of_readings groups x ≡ shape_of_readings groups y
 shape-same groups x y same = ap (λ p. record { groups = groups; present = p }) (fun_ext (λ g. fun_ext (λ r. fun_ext (λ i. same g r i))))

@@ -1,5 +1,5 @@
 -- Worked rows: one group of three meters with floor 2, and what its schedules give.
-use Rattle.std.specs.Prelude.{ℕ, zero, suc, ◌+◌, ◌*◌, List, [], ◌∷◌, ◌++◌, map, Some, None, codes}
+use Rattle.std.specs.Prelude.{ℕ, zero, suc, ◌+◌, ◌-◌, ◌*◌, ◌^◌, List, [], ◌∷◌, ◌++◌, map, Some, None, codes}
 use Rattle.group_plan.specs.declared.Kind.{Kind}
 use Rattle.group_plan.specs.declared.Kind.TheVariants.{Reading, Announcement, Answer}
 use Rattle.group_plan.specs.declared.Tag.{Tag}
@@ -176,3 +176,21 @@ joining_lines_1 =
     ++ took 1 Reading Fresh all ++ CloseLine 0 1 (Announced []) ∷ []
     ++ announced_to 1 [] all ++ took 1 Announcement Fresh all
     ++ sent 1 Answer [] 0 100 ∷ sent 1 Answer [] 1 200 ∷ sent 1 Answer [] 2 300 ∷ took 1 Answer Fresh all ++ EndLine 0 1 (Total 6) ∷ []
+
+-- ---- lines by their frames alone: the whole round, with the word of the first reading raised and this total at the End
+
+abbrev pub raised : ℕ → ℕ → List Line
+raised more total =
+    sent 0 Reading [] 0 (122 + more) ∷ sent 0 Reading [] 1 226 ∷ sent 0 Reading [] 2 312 ∷ []
+    ++ took 0 Reading Fresh all ++ CloseLine 0 0 (Announced []) ∷ []
+    ++ announced_to 0 [] all ++ took 0 Announcement Fresh all
+    ++ sent 0 Answer [] 0 100 ∷ sent 0 Answer [] 1 200 ∷ sent 0 Answer [] 2 300 ∷ []
+    ++ took 0 Answer Fresh all ++ EndLine 0 0 (Total total) ∷ []
+
+-- what three readings can be at most
+abbrev pub most : ℕ
+most = 3 * (2 ^ 40 - 1)
+
+-- a reading of meter 2, which is no member of round 0
+abbrev pub frame_of_no_member : List Line
+frame_of_no_member = sent 0 Reading [] 2 1 ∷ []

@@ -5,6 +5,7 @@ use Rattle.std.specs.List.{list_all}
 use Rattle.group_plan.specs.declared.Kind.{Kind}
 use Rattle.group_plan.specs.declared.Kind.TheVariants.{Reading, Announcement, Answer}
 use Rattle.group_plan.specs.Plans.{Group, floor_or, members}
+use Rattle.group_plan.specs.Tables.{PresenceView, is_present}
 use Rattle.round_machine.specs.declared.Verdict.{Verdict}
 use Rattle.round_machine.specs.declared.Verdict.TheVariants.{Fresh, Again, Late, Void}
 use Rattle.round_machine.specs.declared.Closing.{Closing}
@@ -17,6 +18,10 @@ use Rattle.transcript_log.specs.Events.{is_send, is_take, is_close, is_end, once
 pub record Shape : Type 0 where
   pub groups : List Group
   pub present : ℕ → ℕ → ℕ → Bool
+
+-- the shape of a plan and a presence of it
+abbrev pub shape_of_presence : PresenceView → Shape
+shape_of_presence p = record { groups = p.plan.groups; present = is_present p.table }
 
 -- the members of a round, and the floor of a group (0 outside the plan)
 abbrev pub members_of : Shape → ℕ → ℕ → List ℕ

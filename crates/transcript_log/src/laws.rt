@@ -1,8 +1,9 @@
 //! What holds for every schedule, and worked rows of the definitions. Each law is a contract with an empty body.
 
-ghost use Rattle.std.specs.Prelude.{◌≡◌, [], ◌∷◌, ◌++◌, true, false, drop, reverse};
+ghost use Rattle.std.specs.Prelude.{◌≡◌, ◌+◌, ◌-◌, [], ◌∷◌, ◌++◌, true, false, drop, reverse};
 ghost use Rattle.group_plan.specs.Plans.{members};
-ghost use Rattle.transcript_log.specs.Rows.{three, joining, readings, joining_readings, masks, all, first_two, whole, whole_lines, late, late_lines, unanswered, unanswered_end, deaf, deaf_end, waking, waking_lines, calls, call_lines, joining_round, joining_lines_0, joining_lines_1};
+ghost use Rattle.transcript_log.specs.Frames.{IsPossible};
+ghost use Rattle.transcript_log.specs.Rows.{three, joining, readings, joining_readings, masks, all, first_two, whole, whole_lines, late, late_lines, unanswered, unanswered_end, deaf, deaf_end, waking, waking_lines, calls, call_lines, joining_round, joining_lines_0, joining_lines_1, raised, most, frame_of_no_member};
 ghost use Rattle.transcript_log.specs.Schedule.{answered, is_opened, is_published, outcome, Running, EndedThin, Published, Unpublished};
 ghost use Rattle.transcript_log.specs.Statements.{VerdictsAreTable, LinesSayEffective, OutcomesAreSettled, ShapeAlone, OneMoreLine, JournalIsTranscript, TranscriptsArePossible};
 ghost use Rattle.transcript_log.specs.Tables.{plain_sum};
@@ -34,6 +35,13 @@ pub fn opened_rounds()
     ensures never_published { is_published (shape_of_readings three readings) 0 0 (reverse (deaf ++ waking)) ≡ false }
     ensures thin { outcome (shape_of_readings three readings) (plain_sum readings) 0 0 (reverse calls) ≡ EndedThin }
     ensures running { outcome (shape_of_readings three readings) (plain_sum readings) 0 0 [] ≡ Running }
+{}
+
+/// Worked rows: lines that no readings explain.
+pub fn impossible_lines()
+    ensures word_raised_by_1 { ¬ IsPossible three (raised 1 60) }
+    ensures total_above_three_readings { ¬ IsPossible three (raised (most + 1 - 60) (most + 1)) }
+    ensures frame_of_no_member { ¬ IsPossible joining frame_of_no_member }
 {}
 
 /// The verdict of a Take is that of the protocol's table.

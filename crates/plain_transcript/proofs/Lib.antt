@@ -1,0 +1,2 @@
+pub mod SetLoops
+pub mod Written
