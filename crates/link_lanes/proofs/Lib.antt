@@ -1,1 +1,3 @@
 pub mod RackLemmas
+pub mod TextLemmas
+pub mod RuleLemmas

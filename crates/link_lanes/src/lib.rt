@@ -1,11 +1,26 @@
-//! Fates of posted frames: which copies arrive, and after how many ticks.
+//! Fates of posted frames, which copies arrive and after how many ticks, and the lanes that give them.
 #![tactic(auto)]
 
 ghost use Rattle.std.specs.Prelude.{◌≡◌, ◌≤◌, length, true};
 ghost use Rattle.std.specs.List.{list_all};
 ghost use Rattle.link_lanes.specs.Fates.{is_delay, never_falls, MakesFate};
 
+mod burst;
+mod clear;
+mod every;
+mod lane;
+mod made;
+mod rules;
+mod seeded;
+mod texts;
+
+pub use burst::Burst;
+pub use clear::Clear;
+pub use every::EveryNth;
 use group_plan::Tag;
+pub use lane::{Lane, LaneError};
+pub use rules::Rules;
+pub use seeded::Seeded;
 use std::marker::Model;
 
 /// The copies of a posted frame, seen as the list of their delays: 0 to 3 of them, each 1 to 16 ticks, none below the one before it.
