@@ -1,3 +1,9 @@
 pub mod RackLemmas
 pub mod TextLemmas
 pub mod RuleLemmas
+pub mod ListLemmas
+pub mod CountLemmas
+pub mod AskLemmas
+pub mod FitLemmas
+pub mod ArgLemmas
+pub mod HistoryLemmas

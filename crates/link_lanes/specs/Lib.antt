@@ -5,3 +5,9 @@ pub mod Loads
 pub mod Texts
 pub mod Kinds
 pub mod MadeLanes
+pub mod ArgBytes
+pub mod Args
+pub mod Counts
+pub mod Racks
+pub mod Fits
+pub mod Histories

@@ -7,18 +7,26 @@ ghost use Rattle.link_lanes.specs.Fates.{is_delay, never_falls, MakesFate};
 
 mod burst;
 mod clear;
+mod cupboard;
 mod every;
 mod lane;
+#[cfg(test)]
+mod lane_tests;
 mod made;
+mod rack;
+mod row;
 mod rules;
 mod seeded;
 mod texts;
 
 pub use burst::Burst;
 pub use clear::Clear;
+pub use cupboard::{RackCause, RackError};
 pub use every::EveryNth;
 use group_plan::Tag;
 pub use lane::{Lane, LaneError};
+pub use rack::Rack;
+pub use row::{Arg, ArgError, LaneRow};
 pub use rules::Rules;
 pub use seeded::Seeded;
 use std::marker::Model;
