@@ -1,0 +1,4 @@
+pub mod ArrivalLemmas
+pub mod WaitingLemmas
+pub mod CallLemmas
+pub mod HistoryLemmas

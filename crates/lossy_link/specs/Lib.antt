@@ -1,0 +1,4 @@
+pub mod Arrivals
+pub mod Waiting
+pub mod Calls
+pub mod Histories
