@@ -70,6 +70,39 @@ fn words_over_ideal_table(rt: HostRuntime) -> Result<(), Fail> {
     Ok(())
 }
 
+// Words that look random, and the same at each run.
+fn next_word(seed: u64) -> u64 {
+    let mixed = (seed ^ (seed >> 29)).wrapping_mul(0xbf58_476d_1ce4_e5b9);
+    (mixed ^ (mixed >> 32)).wrapping_add(0x9e37_79b9_7f4a_7c15)
+}
+
+#[test]
+fn group_as_one_by_one(rt: HostRuntime) -> Result<(), Fail> {
+    let mut seed = 7;
+    for _ in 0..20 {
+        let mut words = [0u64; 6];
+        for place in 0..words.len() {
+            seed = next_word(seed);
+            words[place] = seed;
+        }
+        let [own0, own1, own2, pair01, pair02, pair12] = words;
+        let masks = Listed {
+            own: [own0, own1, own2],
+            pair: [pair01, pair02, pair12],
+        };
+        let all = MeterSet::full(3);
+        let readings = [Some(1), Some(1 << 39), Some(1_099_511_627_775)];
+        let group = masked_group(rt.alloc(), &masks, 0, &all, 0, &readings)?;
+        let alone = [
+            masked(&masks, 0, &all, 0, 0, 1),
+            masked(&masks, 0, &all, 0, 1, 1 << 39),
+            masked(&masks, 0, &all, 0, 2, 1_099_511_627_775),
+        ];
+        assert_eq!(rt; group.as_slice(), alone.as_slice());
+    }
+    Ok(())
+}
+
 #[test]
 fn answers_and_two_members(rt: HostRuntime) {
     let missing = MeterSet::empty().with(2);
