@@ -1,5 +1,5 @@
 -- A small world for tests: a group of three meters with floor 2, all members in rounds 0 and 1, each with a reading.
-use Rattle.std.specs.Prelude.{ℕ, ◌+◌, ◌*◌, true, length}
+use Rattle.std.specs.Prelude.{◌+◌, ◌*◌, true, length}
 use Rattle.transcript_log.specs.Rows.{three}
 use Rattle.transcript_log.specs.Schedule.{Shape}
 use Rattle.transcript_log.specs.Transcript.{Contents}
