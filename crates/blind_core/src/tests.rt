@@ -56,13 +56,17 @@ const IDEAL: Listed = Listed {
 };
 
 #[test]
-fn words_over_ideal_table(rt: HostRuntime) -> Result<(), Fail> {
+fn words_over_ideal_table(rt: HostRuntime) {
     let all = MeterSet::full(3);
     assert_eq!(rt; masked(&IDEAL, 0, &all, 0, 0, 10), Word(122));
     assert_eq!(rt; masked(&IDEAL, 0, &all, 0, 1, 20), Word(226));
     assert_eq!(rt; masked(&IDEAL, 0, &all, 0, 2, 30), Word(312));
+}
+
+#[test]
+fn group_words_at_once(rt: HostRuntime) -> Result<(), Fail> {
     let readings = [Some(10), Some(20), Some(30)];
-    let words = masked_group(rt.alloc(), &IDEAL, 0, &all, 0, &readings)?;
+    let words = masked_group(rt.alloc(), &IDEAL, 0, &MeterSet::full(3), 0, &readings)?;
     assert_eq!(rt;
         words.as_slice(),
         [Word(122), Word(226), Word(312)].as_slice()
@@ -104,18 +108,29 @@ fn group_as_one_by_one(rt: HostRuntime) -> Result<(), Fail> {
 }
 
 #[test]
-fn answers_and_two_members(rt: HostRuntime) {
+fn answers_open_total_30(rt: HostRuntime) {
     let missing = MeterSet::empty().with(2);
     assert_eq!(rt; answer(&IDEAL, 0, 0, 0, &missing), Word(107));
     assert_eq!(rt; answer(&IDEAL, 0, 0, 1, &missing), Word(211));
+}
+
+#[test]
+fn words_over_two_members(rt: HostRuntime) {
     let two = MeterSet::full(2);
     assert_eq!(rt; masked(&IDEAL, 0, &two, 0, 0, 10), Word(115));
     assert_eq!(rt; masked(&IDEAL, 0, &two, 0, 1, 20), Word(215));
+}
+
+#[test]
+fn higher_meter_subtracts(rt: HostRuntime) {
     let one = Listed {
         own: [0, 0, 0],
         pair: [1, 0, 0],
     };
-    assert_eq!(rt; masked(&one, 0, &two, 0, 1, 0), Word(0xffff_ffff_ffff_ffff));
+    assert_eq!(rt;
+        masked(&one, 0, &MeterSet::full(2), 0, 1, 0),
+        Word(0xffff_ffff_ffff_ffff)
+    );
 }
 
 #[test]

@@ -32,7 +32,7 @@ mod tests {
     use super::stream_word;
 
     #[test]
-    fn word_of_the_zero_key(rt: HostRuntime) {
+    fn zero_key_stream_word(rt: HostRuntime) {
         assert_eq!(rt; stream_word(&[0; 32], 0).value(), 0x903d_f1a0_ade0_b876);
     }
 }
