@@ -1,8 +1,8 @@
 -- What the two files come to: the report of their one round.
 use Rattle.std.specs.Prelude.{ℕ, List, ◌++◌, Option, Some, None, Result, Ok, Err, codes, sum}
 use Rattle.std.specs.Fmt.{decimal}
-use Rattle.plan_files.specs.Plans.{plan_of}
-use Rattle.plan_files.specs.Readings.{readings_of}
+use Rattle.plan_files.specs.FirstPlans.{plan_of}
+use Rattle.plan_files.specs.FirstReadings.{readings_of}
 use Rattle.plan_files.specs.declared.first_plan.FirstPlan.{FirstPlan}
 use Rattle.meteragg.specs.declared.report.Fault.{Fault}
 use Rattle.meteragg.specs.declared.report.Fault.TheVariants.{BadPlan, BadReadings}

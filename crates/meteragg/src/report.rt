@@ -4,7 +4,7 @@ ghost use Rattle.meteragg.specs.Report.{report_of};
 ghost use Rattle.meteragg.specs.Reporting.{ReportEnds};
 
 use crate::round::total;
-use plan_files::{FormError, read_plan, read_readings};
+use plan_files::{FormError, read_first_plan, read_first_readings};
 use std::alloc::{AllocError, Global};
 
 /// Why the files come to no report.
@@ -31,12 +31,12 @@ fn report_text(alloc: Global, name: &[u8], total: u64) -> Result<Vec<u8>, AllocE
 pub fn report(alloc: Global, plan_bytes: &[u8], readings_bytes: &[u8]) -> Result<Vec<u8>, Fault>
     ensures { ReportEnds plan_bytes.now readings_bytes.now result }
 {
-    let plan = match read_plan(alloc, plan_bytes) {
+    let plan = match read_first_plan(alloc, plan_bytes) {
         Ok(plan) => plan,
         Err(FormError::Form) => return Err(Fault::BadPlan),
         Err(FormError::Memory) => return Err(Fault::Memory),
     };
-    let readings = match read_readings(alloc, plan.name.bytes(), readings_bytes) {
+    let readings = match read_first_readings(alloc, plan.name.bytes(), readings_bytes) {
         Ok(readings) => readings,
         Err(FormError::Form) => return Err(Fault::BadReadings),
         Err(FormError::Memory) => return Err(Fault::Memory),

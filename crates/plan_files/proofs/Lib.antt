@@ -1,4 +1,5 @@
 pub mod AllRecords
 pub mod FieldLemmas
+pub mod FirstReadingLemmas
 pub mod ReadingLemmas
 pub mod RowLemmas

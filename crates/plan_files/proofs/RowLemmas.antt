@@ -1,7 +1,7 @@
 -- Fields of a row, rows of a file, and lists compared item by item.
 use Rattle.std.proofs.Common.{◌≡◌, ◌≢◌, ◌∙◌, ◌<◌, ◌+◌, ℕ, zero, suc, Bool, true, false, ◌&&◌, List, [], ◌∷◌, length, drop, take, get_or, ap, bytes_eq, drop-drop, ◌++◌, Option, Some, None, refl, arith, add-one}
 use Rattle.std.specs.Cmp.Lexicographic.{pointwise}
-use Rattle.plan_files.specs.Plans.{group_rows_of, has_plan_form, head_rows, pair_rows_of}
+use Rattle.plan_files.specs.FirstPlans.{group_rows_of, has_plan_form, head_rows, pair_rows_of}
 use Rattle.plan_files.specs.Rows.{same_rows}
 use Rattle.csv.specs.Records.{field_at}
 

@@ -1,4 +1,7 @@
+pub mod Faults
 pub mod Fields
-pub mod Plans
+pub mod Filling
+pub mod FirstPlans
+pub mod FirstReadings
 pub mod Readings
 pub mod Rows

@@ -1,31 +1,83 @@
--- The readings file of one group of three meters in one round.
-use Rattle.std.specs.Prelude.{◌≡◌, ℕ, ◌^◌, if◌then◌else◌, List, [], ◌∷◌, codes, map, Option, Some, None, Result, Ok, Err, ⊤}
+-- The readings file of a plan: one row for each group and round, ordered by group and then by round.
+use Rattle.std.specs.Prelude.{◌≡◌, ℕ, ◌+◌, ◌*◌, ◌/◌, ◌%◌, ◌^◌, ◌==◌, ◌&&◌, not, nat_lt, if◌then◌else◌, Bool, false, List, [], ◌∷◌, length, drop, bytes_eq, slice_index_or, Option, Some, None, Result, Ok, Err}
+use Rattle.std.specs.Option.{option_map, option_or}
+use Rattle.std.specs.Result.{result_err}
+use Rattle.group_plan.specs.Plans.{PlanView, size, name_of, is_member}
+use Rattle.group_plan.specs.Tables.{ReadingsView, table_of}
+use Rattle.plan_files.specs.Faults.{ButMemory, in_row, unless}
 use Rattle.plan_files.specs.Fields.{number_below}
-use Rattle.plan_files.specs.Rows.{all_of, file_rows, same_rows, text_at}
-use Rattle.plan_files.specs.declared.error.FormError.{FormError}
-use Rattle.plan_files.specs.declared.error.FormError.TheVariants.{Form, Memory}
+use Rattle.plan_files.specs.Rows.{file_rows, text_at}
+use Rattle.plan_files.specs.declared.fault.FileCause.{FileCause}
+use Rattle.plan_files.specs.declared.fault.FileCause.TheVariants as cause
+use Rattle.plan_files.specs.declared.fault.FileError.{FileError}
 
--- the one row of the file, with this name and these texts as readings
-abbrev pub readings_rows : (name first second third : List ℕ) → List (List (List ℕ))
-readings_rows name first second third = (name ∷ codes "0" ∷ first ∷ second ∷ third ∷ []) ∷ []
+-- a member's number as a reading, in watt-hours
+abbrev pub within_range : Option ℕ → Result (Option ℕ) FileCause
+within_range None = Err cause.Number
+within_range (Some n) = if nat_lt n (2 ^ 40) then Ok (Some n) else Err cause.Range
 
--- a reading, in watt-hours
-abbrev pub reading_of : List ℕ → Option ℕ
-reading_of text = number_below (2 ^ 40) text
+-- what a field says: an empty one is an absent reading
+unfoldable pub reading_of : Bool → List ℕ → Result (Option ℕ) FileCause
+reading_of member text =
+    if length text == 0 then Ok None else if member then within_range (number_below (2 ^ 64) text) else Err cause.NotMember
 
--- the readings that the rows of a file say
-unfoldable pub readings_from : List ℕ → List (List (List ℕ)) → Option (List ℕ)
-readings_from name rows =
-    if same_rows rows (readings_rows name (text_at rows 0 2) (text_at rows 0 3) (text_at rows 0 4))
-    then all_of (map reading_of (text_at rows 0 2 ∷ text_at rows 0 3 ∷ text_at rows 0 4 ∷ []))
-    else None
+-- the first fault among the fields of group g in round r, of which the first is meter i's
+unfoldable pub fields_fault : PlanView → (g r i : ℕ) → List (List ℕ) → Option FileCause
+fields_fault plan g r i [] = None
+fields_fault plan g r i (text ∷ texts) =
+    option_or (result_err (reading_of (is_member plan.groups g r i) text)) (fields_fault plan g r (i + 1) texts)
 
--- the readings that the bytes of a file say of the group of this name, if they are those of a readings file
-unfoldable pub readings_of : List ℕ → List ℕ → Option (List ℕ)
-readings_of name bytes = readings_from name (file_rows bytes)
+-- whether the number is there, and is n
+abbrev pub is_number : ℕ → Option ℕ → Bool
+is_number n None = false
+is_number n (Some m) = m == n
+
+-- whether a row is group g's in round r: it starts with the group's name and the round
+unfoldable pub is_row_of : PlanView → (g r : ℕ) → List (List ℕ) → Bool
+is_row_of plan g r fields =
+    bytes_eq (slice_index_or fields 0 []) (name_of plan.groups g) && is_number r (number_below (2 ^ 32) (slice_index_or fields 1 []))
+
+-- the first fault of the row that should be group g's in round r
+unfoldable pub row_fault : PlanView → (g r : ℕ) → List (List ℕ) → Option FileCause
+row_fault plan g r fields =
+    if not (is_row_of plan g r fields) then Some cause.Row else
+    if not (length fields == 2 + size plan.groups g) then Some cause.Fields else
+    fields_fault plan g r 0 (drop 2 fields)
+
+-- how many rows the file of a plan has
+abbrev pub rows_due : PlanView → ℕ
+rows_due plan = length plan.groups * plan.rounds
+
+-- the first fault of the rows that come after k others
+unfoldable pub rows_fault : PlanView → ℕ → List (List (List ℕ)) → Option FileError
+rows_fault plan k [] = if nat_lt k (rows_due plan) then Some (in_row (k + 1) cause.Short) else None
+rows_fault plan k (row ∷ rows) =
+    if nat_lt k (rows_due plan)
+    then option_or (option_map (in_row (k + 1)) (row_fault plan (k / plan.rounds) (k % plan.rounds) row)) (rows_fault plan (k + 1) rows)
+    else Some (in_row (k + 1) cause.Extra)
+
+-- the reading that a field without fault says
+abbrev pub reading_or_none : Result (Option ℕ) FileCause → Option ℕ
+reading_or_none (Ok value) = value
+reading_or_none (Err what) = None
+
+-- the reading of meter i in the row of group g in round r
+unfoldable pub reading_in : PlanView → (g r : ℕ) → List (List ℕ) → ℕ → Option ℕ
+reading_in plan g r fields i = reading_or_none (reading_of (is_member plan.groups g r i) (slice_index_or fields (2 + i) []))
+
+-- the reading of meter i of group g in round r among the rows of a file
+abbrev pub reading_at : PlanView → List (List (List ℕ)) → (g r i : ℕ) → Option ℕ
+reading_at plan rows g r i = reading_in plan g r (slice_index_or rows (g * plan.rounds + r) []) i
+
+-- the readings that the rows say
+abbrev pub readings_by : PlanView → List (List (List ℕ)) → ReadingsView
+readings_by plan rows = record { plan = plan; table = table_of plan (reading_at plan rows) }
+
+-- the readings that the bytes of a file say of a plan, or its first fault
+unfoldable pub readings_of : PlanView → List ℕ → Result ReadingsView FileError
+readings_of plan bytes = unless (rows_fault plan 0 (file_rows bytes)) (readings_by plan (file_rows bytes))
 
 -- how the reading of a readings file ends
-abbrev pub ReadingsEnd : List ℕ → List ℕ → Result (List ℕ) FormError → Type 0
-ReadingsEnd name bytes (Ok readings) = readings_of name bytes ≡ Some readings
-ReadingsEnd name bytes (Err Form) = readings_of name bytes ≡ None
-ReadingsEnd name bytes (Err Memory) = ⊤
+abbrev pub ReadingsEnd : PlanView → List ℕ → Result ReadingsView FileError → Type 0
+ReadingsEnd plan bytes (Ok readings) = readings_of plan bytes ≡ Ok readings
+ReadingsEnd plan bytes (Err fault) = ButMemory fault.cause (readings_of plan bytes ≡ Err fault)

@@ -1,5 +1,5 @@
 //! Numbers, names and keys: what a field may hold.
-ghost use Rattle.std.specs.Prelude.{◌≡◌, ◌+◌};
+ghost use Rattle.std.specs.Prelude.{◌≡◌, ◌≤◌, ◌+◌, IfSome};
 ghost use Rattle.std.specs.List.{list_all};
 ghost use Rattle.plan_files.specs.Fields.{has_no_leading_zero, is_name, is_name_byte, key_of, number_below};
 
@@ -19,7 +19,8 @@ fn has_no_leading_zero(text: &[u8]) -> bool
 /// The decimal number of a text, where it is at most `most`.
 #[tactic(auto, using(crate::proofs::FieldLemmas::number_start, crate::proofs::FieldLemmas::number_refused, crate::proofs::FieldLemmas::number_step, crate::proofs::FieldLemmas::number_stop, crate::proofs::FieldLemmas::number_large, crate::proofs::FieldLemmas::number_end))]
 pub fn number(text: &[u8], most: u64) -> Option<u64>
-    ensures { result ≡ number_below (most + 1) text.now }
+    ensures value { result ≡ number_below (most + 1) text.now }
+    ensures small { IfSome result (λ n. n ≤ most) }
 {
     if !has_no_leading_zero(text) {
         return None;

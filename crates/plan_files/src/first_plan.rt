@@ -2,7 +2,7 @@
 ghost use Rattle.std.specs.Prelude.{◌≡◌, ◌∷◌, [], drop, length, map, take};
 ghost use Rattle.csv.specs.Records.{fields_of};
 ghost use Rattle.plan_files.specs.Fields.{keys_of};
-ghost use Rattle.plan_files.specs.Plans.{PlanEnds, group_rows_of, has_plan_form, head_rows, pair_rows_of};
+ghost use Rattle.plan_files.specs.FirstPlans.{PlanEnds, group_rows_of, has_plan_form, head_rows, pair_rows_of};
 ghost use Rattle.plan_files.specs.Rows.{same_rows};
 
 use crate::error::FormError;
@@ -90,8 +90,8 @@ fn three_keys(first: &[u8], second: &[u8], third: &[u8]) -> Option<[[u8; 32]; 3]
 /// The plan that the bytes of a plan file say.
 ///
 /// `Form` where they aren't the ten rows of such a file, `Memory` where memory is wanting.
-#[tactic(auto, unfolding(crate::specs::Plans::plan_of, crate::specs::Plans::plan_from))]
-pub fn read_plan(alloc: Global, bytes: &[u8]) -> Result<FirstPlan, FormError>
+#[tactic(auto, unfolding(crate::specs::FirstPlans::plan_of, crate::specs::FirstPlans::plan_from))]
+pub fn read_first_plan(alloc: Global, bytes: &[u8]) -> Result<FirstPlan, FormError>
     ensures { PlanEnds bytes.now result }
 {
     let Ok(rows) = rows(alloc, bytes) else {

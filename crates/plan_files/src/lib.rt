@@ -2,16 +2,22 @@
 #![tactic(auto)]
 
 mod error;
+mod fault;
 mod fields;
 mod first_plan;
+mod first_readings;
 mod name;
 mod readings;
 mod table;
 
 pub use error::FormError;
-pub use first_plan::{FirstPlan, read_plan};
+pub use fault::{FileCause, FileError};
+pub use first_plan::{FirstPlan, read_first_plan};
+pub use first_readings::read_first_readings;
 pub use name::ShortName;
 pub use readings::read_readings;
 
+#[cfg(test)]
+mod first_tests;
 #[cfg(test)]
 mod tests;

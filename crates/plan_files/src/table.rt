@@ -29,7 +29,7 @@ pub fn rows(alloc: Global, bytes: &[u8]) -> Result<Vec<ByteRecord>, AllocError>
 }
 
 /// The field at a place, counted from 0; empty past the end of the row.
-fn field<'r>(row: &'r ByteRecord, place: usize) -> &'r [u8]
+pub fn field<'r>(row: &'r ByteRecord, place: usize) -> &'r [u8]
     ensures { result.now ≡ slice_index_or (fields_of row.now) place [] }
 {
     match row.get(place) {
@@ -50,7 +50,7 @@ pub fn text_at<'r>(rows: &'r [ByteRecord], row: usize, place: usize) -> &'r [u8]
 }
 
 /// Whether these are the fields of the row, no more and no less.
-fn is_row(row: &ByteRecord, texts: &[&[u8]]) -> bool
+pub fn is_row(row: &ByteRecord, texts: &[&[u8]]) -> bool
     ensures { result ≡ pointwise bytes_eq (fields_of row.now) (map (λ f. f.now) texts.now) }
 {
     if row.len() != texts.len() {

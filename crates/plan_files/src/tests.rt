@@ -1,161 +1,166 @@
-use crate::{FormError, read_plan, read_readings};
-use std::alloc::{AllocError, Global};
+use crate::{FileCause, FileError, read_readings};
+use group_plan::{GroupPlan, Kind, Name, Plan, Readings, Span, Tag};
+use std::alloc::Global;
 use std::test::Fail;
 
-static ROWS: [&str; 10] = [
-    "plan,1",
-    "rounds,1",
-    "windows,1,2",
-    "group,north,3,2",
-    "own,0,0,00112233445566778899aabbccddeeff00112233445566778899aabbccddeeff",
-    "own,0,1,0100000000000000000000000000000000000000000000000000000000000000",
-    "own,0,2,0200000000000000000000000000000000000000000000000000000000000000",
-    "pair,0,0,1,0300000000000000000000000000000000000000000000000000000000000000",
-    "pair,0,0,2,0400000000000000000000000000000000000000000000000000000000000000",
-    "pair,0,1,2,0500000000000000000000000000000000000000000000000000000000000000",
-];
+fn group(name: &[u8], meters: u32) -> Result<GroupPlan, Fail> {
+    let name = Name::new(name).ok_or("no name")?;
+    Ok(GroupPlan {
+        name,
+        meters,
+        floor: 2,
+    })
+}
 
-// The plan file with another row at one place.
-fn plan_file(alloc: Global, place: usize, other: &str) -> Result<Vec<u8>, AllocError> {
-    let mut text = Vec::new(alloc);
-    for (i, row) in ROWS.iter().enumerate() {
-        let row = if i == place { other } else { *row };
-        text.extend_from_slice(row.as_bytes())?;
-        text.push(b'\n')?;
+// Two rounds of three meters and of two, the last of the three a member in round 1 alone.
+fn small_plan(alloc: Global) -> Result<Plan, Fail> {
+    let groups = [group(b"north", 3)?, group(b"south", 2)?];
+    let span = Span {
+        group: 0,
+        meter: 2,
+        from: 1,
+        until: 2,
+    };
+    let plan = Plan::new(alloc, &groups, 2, 1, 2)?.with_members(&[span])?;
+    Ok(plan)
+}
+
+const WHOLE: Option<FileError> = None;
+
+fn fault(row: u32, cause: FileCause) -> Option<FileError> {
+    Some(FileError { row, cause })
+}
+
+fn fault_of_readings(alloc: Global, plan: &Plan, text: &[u8]) -> Option<FileError> {
+    if text.len() > 1 << 28 {
+        return None;
     }
-    Ok(text)
+    match read_readings(alloc, plan, text) {
+        Ok(_) => None,
+        Err(error) => Some(error),
+    }
+}
+
+fn reading_at(readings: &Readings, group: u16, round: u32, meter: u8) -> Option<u64> {
+    let tag = Tag {
+        group,
+        round,
+        meter,
+        kind: Kind::Reading,
+    };
+    if !readings.plan().holds(tag) {
+        return None;
+    }
+    readings.get(group, round, meter)
 }
 
 #[test]
-fn reads_a_plan(rt: HostRuntime) -> Result<(), Fail> {
-    let text = plan_file(rt.alloc(), 0, "plan,1")?;
-    let Ok(plan) = read_plan(rt.alloc(), text.as_slice()) else {
+fn readings_of_two_groups(rt: HostRuntime) -> Result<(), Fail> {
+    let plan = small_plan(rt.alloc())?;
+    let text = b"north,0,10,20,\nnorth,1,1,,1099511627775\nsouth,0,4,5\nsouth,1,\"\",0";
+    let Ok(readings) = read_readings(rt.alloc(), &plan, text) else {
         panic!(rt; "refused")
     };
-    assert_eq!(rt; plan.name.bytes(), b"north".as_slice());
-    assert_eq!(rt; plan.own[0][10], 0xaa);
-    assert_eq!(rt; plan.own[0][31], 0xff);
-    assert_eq!(rt; [plan.own[1][0], plan.own[2][0]], [1, 2]);
-    assert_eq!(rt;
-        [plan.pair[0][0], plan.pair[1][0], plan.pair[2][0]],
-        [3, 4, 5]
-    );
-    Ok(())
-}
-
-#[test]
-fn judges_plans(rt: HostRuntime) -> Result<(), Fail> {
-    for (place, row, accepted) in [
-        (0, "\u{feff}plan,1", true),
-        (0, "\u{feff}\"plan\",1\r", true),
-        (0, "plan,1\r\r", true),
-        (0, "\u{feff}\u{feff}plan,1", false),
-        (0, "plan,1,", false),
-        (0, "plan,01", false),
-        (1, "\n\nrounds,1", true),
-        (1, " \nrounds,1", false),
-        (1, "windows,1,2", false),
-        (3, "group,\"a-1_Z\",\"3\"\"\",2", false),
-        (3, "group,\"a-1_Z0123456789A\",\"3\",2", true),
-        (3, "group,a-1_Z0123456789AB,3,2", false),
-        (3, "group,,3,2", false),
-        (3, "group,a b,3,2", false),
-        (
-            4,
-            "own,0,0,00112233445566778899AABBCCDDEEFF00112233445566778899aAbBcCdDeEfF",
-            true,
-        ),
-        (
-            4,
-            "own,0,0,00112233445566778899aabbccddeeff00112233445566778899aabbccddeef",
-            false,
-        ),
-        (
-            4,
-            "own,0,0,00112233445566778899aabbccddeeff00112233445566778899aabbccddeefg",
-            false,
-        ),
-        (
-            5,
-            "own,0,2,0100000000000000000000000000000000000000000000000000000000000000",
-            false,
-        ),
-        (
-            7,
-            "pair,0,1,1,0300000000000000000000000000000000000000000000000000000000000000",
-            false,
-        ),
-        (
-            9,
-            "pair,0,1,2,0500000000000000000000000000000000000000000000000000000000000000\n\n",
-            true,
-        ),
-        (
-            9,
-            "pair,0,1,2,0500000000000000000000000000000000000000000000000000000000000000\n\"\"",
-            false,
-        ),
-        (
-            9,
-            "pair,0,1,2,0500000000000000000000000000000000000000000000000000000000000000\nlane,clear,,0,3",
-            false,
-        ),
-        (
-            9,
-            "\"pair\",0,1,2,\"0500000000000000000000000000000000000000000000000000000000000000",
-            false,
-        ),
-        (9, "", false),
+    for (group, round, meter, reading) in [
+        (0, 0, 0, Some(10)),
+        (0, 0, 1, Some(20)),
+        (0, 0, 2, None),
+        (0, 1, 0, Some(1)),
+        (0, 1, 1, None),
+        (0, 1, 2, Some(1_099_511_627_775)),
+        (1, 0, 0, Some(4)),
+        (1, 0, 1, Some(5)),
+        (1, 1, 0, None),
+        (1, 1, 1, Some(0)),
     ] {
-        let text = plan_file(rt.alloc(), place, row)?;
-        assert_eq!(rt;
-            read_plan(rt.alloc(), text.as_slice()).is_ok(),
-            accepted,
-            "{row}"
-        );
+        assert_eq!(rt; reading_at(&readings, group, round, meter), reading);
     }
     Ok(())
 }
 
 #[test]
-fn judges_readings(rt: HostRuntime) -> Result<(), Fail> {
-    for (text, readings) in [
-        ("north,0,10,20,30\n", Ok([10, 20, 30])),
-        ("north,0,10,20,30", Ok([10, 20, 30])),
-        ("\u{feff}\"north\",\"0\",\"1\"0,20,\"30", Ok([10, 20, 30])),
+fn first_faults_of_readings(rt: HostRuntime) -> Result<(), Fail> {
+    let plan = small_plan(rt.alloc())?;
+    for (text, expected) in [
         (
-            "\r\n\nnorth,0,0,0,1099511627775\r\r",
-            Ok([0, 0, 1_099_511_627_775]),
+            "north,0,10,20,\nnorth,1,1,2,3\nsouth,0,4,5\nsouth,1,,0\n",
+            WHOLE,
         ),
-        ("north,0,10,20,1099511627776\n", Err(FormError::Form)),
-        ("north,0,10,20,18446744073709551626\n", Err(FormError::Form)),
-        ("north,0,010,20,30\n", Err(FormError::Form)),
-        ("north,0,00,20,30\n", Err(FormError::Form)),
-        ("north,0,+1,20,30\n", Err(FormError::Form)),
-        ("north,0, 1,20,30\n", Err(FormError::Form)),
-        ("north,0,,20,30\n", Err(FormError::Form)),
-        ("north,00,10,20,30\n", Err(FormError::Form)),
-        ("north,1,10,20,30\n", Err(FormError::Form)),
-        ("south,0,10,20,30\n", Err(FormError::Form)),
-        ("north,0,10,20\n", Err(FormError::Form)),
-        ("north,0,10,20,30,40\n", Err(FormError::Form)),
-        ("north,0,10,20,30\n\"\"\n", Err(FormError::Form)),
-        ("\n", Err(FormError::Form)),
-        ("", Err(FormError::Form)),
+        (
+            "\u{feff}north,0,10,20,\r\nnorth,1,1,2,3\rsouth,0,4,5\r\n\r\nsouth,1,,0\n\n",
+            WHOLE,
+        ),
+        (
+            "\u{feff}\"north\",\"0\",\"1\"0,20,\nnorth,1,1,2,3\nsouth,0,4,5\nsouth,1,,\"0",
+            WHOLE,
+        ),
+        ("", fault(1, FileCause::Short)),
+        ("\n\r\n", fault(1, FileCause::Short)),
+        ("north,0,10,20,\n", fault(2, FileCause::Short)),
+        (
+            "north,0,10,20,\n\n\nnorth,1,1,2,3\nsouth,0,4,5\n",
+            fault(4, FileCause::Short),
+        ),
+        (
+            "north,0,10,20,\nnorth,1,1,2,3\nsouth,0,4,5\nsouth,1,,0\n\"\"\n",
+            fault(5, FileCause::Extra),
+        ),
+        (
+            "north,0,10,20,\nnorth,1,1,2,3\nsouth,0,4,5\nsouth,1,,0\n ",
+            fault(5, FileCause::Extra),
+        ),
+        (
+            "north,0,10,20,\nnorth,1,1,2,3\nsouth,0,4,5\nsouth,1,,0\nsouth,1,,0",
+            fault(5, FileCause::Extra),
+        ),
+        ("\"\"\n", fault(1, FileCause::Row)),
+        ("\u{feff}\u{feff}north,0,10,20,\n", fault(1, FileCause::Row)),
+        ("north\n", fault(1, FileCause::Row)),
+        ("south,0,4,5\n", fault(1, FileCause::Row)),
+        ("north,1,1,2,3\n", fault(1, FileCause::Row)),
+        ("north,00,10,20,\n", fault(1, FileCause::Row)),
+        ("north,0 ,10,20,\n", fault(1, FileCause::Row)),
+        ("north,0,10,20,\nnorth,0,10,20,\n", fault(2, FileCause::Row)),
+        ("north,0\n", fault(1, FileCause::Fields)),
+        ("north,0,10,20\n", fault(1, FileCause::Fields)),
+        ("north,0,x,20,30,\n", fault(1, FileCause::Fields)),
+        ("north,0,10,20,30\n", fault(1, FileCause::NotMember)),
+        ("north,0,10,20,x\n", fault(1, FileCause::NotMember)),
+        (
+            "north,0,10,20,\nnorth,1,1,2,x\n",
+            fault(2, FileCause::Number),
+        ),
+        ("north,0,x,20,30\n", fault(1, FileCause::Number)),
+        ("north,0,x,1099511627776,\n", fault(1, FileCause::Number)),
+        ("north,0,1099511627776,x,\n", fault(1, FileCause::Range)),
+        (
+            "north,0,18446744073709551615,,\n",
+            fault(1, FileCause::Range),
+        ),
+        (
+            "north,0,18446744073709551616,,\n",
+            fault(1, FileCause::Number),
+        ),
+        (
+            "north,0,18446744073709551626,,\n",
+            fault(1, FileCause::Number),
+        ),
+        (
+            "north,0,1000000000000000000000000000000000000000000000000000,,\n",
+            fault(1, FileCause::Number),
+        ),
+        ("north,0,010,20,\n", fault(1, FileCause::Number)),
+        ("north,0,+1,20,\n", fault(1, FileCause::Number)),
+        ("north,0,-0,20,\n", fault(1, FileCause::Number)),
+        ("north,0, 1,20,\n", fault(1, FileCause::Number)),
+        ("north,0,1\"0,20,\n", fault(1, FileCause::Number)),
+        ("north,0,\u{661},20,\n", fault(1, FileCause::Number)),
     ] {
         assert_eq!(rt;
-            read_readings(rt.alloc(), b"north", text.as_bytes()),
-            readings,
+            fault_of_readings(rt.alloc(), &plan, text.as_bytes()),
+            expected,
             "{text}"
         );
     }
-    let mut long = Vec::from_slice(rt.alloc(), b"north,0,10,20,")?;
-    for _ in 0..3000 {
-        long.push(b'9')?;
-    }
-    assert_eq!(rt;
-        read_readings(rt.alloc(), b"north", long.as_slice()),
-        Err(FormError::Form)
-    );
     Ok(())
 }

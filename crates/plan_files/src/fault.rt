@@ -1,0 +1,47 @@
+//! Why a file is refused.
+use group_plan::{PlanError, SpanError};
+
+/// The first fault of a file.
+#[derive(Clone, Copy, Debug, PartialEq, Eq)]
+pub struct FileError {
+    /// The row, counted from 1 among the rows that `csv` gives; 0 is the file as a whole.
+    pub row: u32,
+    pub cause: FileCause,
+}
+
+/// What is wrong with a row, or with the file as a whole.
+#[derive(Clone, Copy, Debug, PartialEq, Eq)]
+pub enum FileCause {
+    /// The row starts with a word, or with a name and a round, that isn't due here.
+    Row,
+    /// The row has too few or too many fields.
+    Fields,
+    /// The first faulty field should be a number within its bound.
+    Number,
+    /// The first faulty field should be a name or an argument.
+    Name,
+    /// The first faulty field should be a key of 64 hexadecimal digits.
+    Hex,
+    /// The plan's numbers have this fault.
+    Plan(PlanError),
+    /// The lane's span doesn't end, or ends after the last tick.
+    LaneSpan,
+    /// The first faulty field is a reading of 2^40 or more.
+    Range,
+    /// The file ends before this row.
+    Short,
+    /// The file has this row after its last.
+    Extra,
+    /// Memory ran out.
+    Memory,
+    /// The row's span has this fault, at this place among those of the file.
+    Member(SpanError),
+    /// The first faulty field is a reading of a meter that is no member in the round.
+    NotMember,
+}
+
+/// Want of memory.
+pub(crate) const NO_MEMORY: FileError = FileError {
+    row: 0,
+    cause: FileCause::Memory,
+};
