@@ -1,0 +1,7 @@
+pub mod Transcripts
+pub mod Spelling
+pub mod Writing
+pub mod Parts
+pub mod Numbers
+pub mod Reading
+pub mod Heads

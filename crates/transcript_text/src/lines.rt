@@ -1,0 +1,71 @@
+//! The entries of a transcript, line by line.
+ghost use Rattle.std.specs.Prelude.{◌≡◌, ◌+◌, ◌-◌, ◌<◌, ◌^◌, length};
+ghost use Rattle.transcript_text.specs.Parts.{parts};
+ghost use Rattle.transcript_text.specs.Reading.{Gives, in_line, entries_from};
+
+use crate::cut::cut_far;
+use crate::fault::{ReadError, Row, RowFault};
+use crate::rows::row;
+use crate::version::Version;
+use group_plan::Plan;
+use meter_frames::Frame;
+use round_machine::{Closing, Ending, Verdict};
+use std::alloc::Global;
+use transcript_log::{Entry, Line};
+
+fn in_line(n: u64, fault: RowFault) -> ReadError
+    ensures { result ≡ in_line n fault }
+{
+    match fault {
+        RowFault::Form => ReadError::Line(n),
+        RowFault::Field(k) => ReadError::Field(n, k),
+    }
+}
+
+// What an entry is made of. A function that keeps an entry has to name these types.
+type Parts = (
+    Option<Frame>,
+    Option<Verdict>,
+    Option<Closing>,
+    Option<Ending>,
+    Option<Line>,
+);
+
+/// The entries of the lines from line `first` on.
+pub(crate) fn entries(
+    alloc: Global,
+    version: Version,
+    plan: &Plan,
+    first: u64,
+    bytes: &[u8],
+) -> Result<Vec<Entry>, ReadError>
+    requires { first + length bytes.now < 2 ^ 64 - 1 }
+    ensures { Gives (λ v. v.items) result (entries_from version plan.now first 0 0 (parts 10 bytes.now)) }
+{
+    let _parts: Parts = (None, None, None, None, None);
+    let mut entries = Vec::new(alloc);
+    let mut rest = bytes;
+    let mut last = 0u32;
+    let mut n = first;
+    while let Some((line, after)) = cut_far(b'\n', rest) {
+        match row(version, plan, last, line) {
+            Ok(Row::Entry(entry)) => {
+                last = entry.tick;
+                entries.push(entry)?;
+                n += 1;
+                rest = after;
+            }
+            Ok(Row::Last(count)) => {
+                if count != entries.len() as u64 {
+                    return Err(ReadError::Count(n));
+                }
+                if !after.is_empty() {
+                    return Err(ReadError::After(n + 1));
+                }
+                return Ok(entries);
+            }
+            Err(fault) => return Err(in_line(n, fault)),
+        }
+    }
+    Err(ReadError::NoEnd(n))
+}

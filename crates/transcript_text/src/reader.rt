@@ -1,0 +1,49 @@
+ghost use Rattle.std.specs.Prelude.{◌≡◌, IfOk};
+ghost use Rattle.transcript_text.specs.declared.version.Version.TheVariants.{One, Two};
+ghost use Rattle.transcript_text.specs.Transcripts.{IsTranscript};
+ghost use Rattle.transcript_text.specs.Spelling.{transcript_text, text_of};
+ghost use Rattle.transcript_text.specs.Reading.{Gives};
+ghost use Rattle.transcript_text.specs.Heads.{read_of};
+
+use crate::Transcript;
+use crate::fault::ReadError;
+use crate::head::read_head;
+use crate::lines::entries;
+use crate::version::Version;
+use std::alloc::Global;
+
+#[tactic(auto, unfolding(crate::specs::Heads::read_of))]
+fn read_version(alloc: Global, version: Version, bytes: &[u8]) -> Result<Transcript, ReadError>
+    ensures exact { Gives (λ t. t) result (read_of version bytes.now) }
+    ensures found { IfOk result (λ t. bytes.now ≡ text_of version t) }
+    ensures sound { IfOk result (λ t. IsTranscript t) }
+{
+    let head = match read_head(alloc, version, bytes) {
+        Ok(head) => head,
+        Err(fault) => return Err(fault),
+    };
+    let _groups = head.plan.groups();
+    let entries = match entries(alloc, version, &head.plan, head.line, head.rest) {
+        Ok(entries) => entries,
+        Err(fault) => return Err(fault),
+    };
+    Ok(Transcript::with_entries(head.plan, entries))
+}
+
+/// The transcript whose text of version 2 the bytes are, or the first fault.
+pub fn read(alloc: Global, bytes: &[u8]) -> Result<Transcript, ReadError>
+    ensures exact { Gives (λ t. t) result (read_of Two bytes.now) }
+    ensures found { IfOk result (λ t. bytes.now ≡ transcript_text t) }
+    ensures sound { IfOk result (λ t. IsTranscript t) }
+{
+    read_version(alloc, Version::Two, bytes)
+}
+
+/// The transcript whose text of version 1 the bytes are, or the first fault.
+pub fn read_old(alloc: Global, bytes: &[u8]) -> Result<Transcript, ReadError>
+    ensures exact { Gives (λ t. t) result (read_of One bytes.now) }
+    ensures found { IfOk result (λ t. bytes.now ≡ text_of One t) }
+    ensures sound { IfOk result (λ t. IsTranscript t) }
+{
+    read_version(alloc, Version::One, bytes)
+}

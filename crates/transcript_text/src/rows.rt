@@ -1,0 +1,169 @@
+//! The lines after the head.
+ghost use Rattle.std.specs.Prelude.{◌≡◌, []};
+ghost use Rattle.group_plan.specs.Plans.{size};
+ghost use Rattle.transcript_text.specs.Parts.{parts, view, AreFields};
+ghost use Rattle.transcript_text.specs.Reading.{tick_of, group_of, round_of, tag_of, send_of, take_of, close_of, end_of, row_of};
+
+use crate::Version;
+use crate::cut::{Fields, split_fields};
+use crate::fault::{Row, RowFault};
+use crate::fields::{closing, ending, fate, kind, sent, verdict};
+use crate::number::{number, number_within};
+use group_plan::{Plan, Tag};
+use link_lanes::Fate;
+use transcript_log::{Entry, Line};
+
+fn tick(last: u32, fields: &Fields) -> Result<u32, RowFault>
+    requires { AreFields fields.now }
+    ensures { result ≡ tick_of last (view fields.now) }
+{
+    let tick = number_within(u64::from(last), 1 << 32, fields.get(0)).ok_or(RowFault::Field(1))?;
+    Ok(tick as u32)
+}
+
+fn group(plan: &Plan, fields: &Fields) -> Result<u16, RowFault>
+    requires { AreFields fields.now }
+    ensures { result ≡ group_of plan.now (view fields.now) }
+{
+    let groups = plan.groups().len() as u64;
+    let group = number_within(0, groups, fields.get(2)).ok_or(RowFault::Field(3))?;
+    Ok(group as u16)
+}
+
+fn round(plan: &Plan, fields: &Fields) -> Result<u32, RowFault>
+    requires { AreFields fields.now }
+    ensures { result ≡ round_of plan.now (view fields.now) }
+{
+    let rounds = u64::from(plan.rounds());
+    let round = number_within(0, rounds, fields.get(3)).ok_or(RowFault::Field(4))?;
+    Ok(round as u32)
+}
+
+#[tactic(auto, unfolding(crate::specs::Reading::tag_of))]
+fn tag(plan: &Plan, fields: &Fields) -> Result<Tag, RowFault>
+    requires { AreFields fields.now }
+    ensures { result ≡ tag_of plan.now (view fields.now) }
+{
+    let group = group(plan, fields)?;
+    let round = round(plan, fields)?;
+    let kind = kind(fields.get(4)).ok_or(RowFault::Field(5))?;
+    let meters = u64::from(plan.meters(group));
+    let meter = number_within(0, meters, fields.get(5)).ok_or(RowFault::Field(6))?;
+    Ok(Tag {
+        group,
+        round,
+        meter: meter as u8,
+        kind,
+    })
+}
+
+/// The fate of a line without copies.
+fn no_fate() -> Fate
+    ensures { result ≡ [] }
+{
+    match Fate::new(&[]) {
+        Ok(fate) => fate,
+        Err(_) => unreachable!(),
+    }
+}
+
+#[tactic(auto, unfolding(crate::specs::Reading::send_of))]
+fn send(version: Version, plan: &Plan, last: u32, fields: &Fields) -> Result<Entry, RowFault>
+    requires { AreFields fields.now }
+    ensures { result ≡ send_of version plan.now last (view fields.now) }
+{
+    let tick = tick(last, fields)?;
+    let tag = tag(plan, fields)?;
+    let fate = fate(fields.get(6)).ok_or(RowFault::Field(7))?;
+    let meters = plan.meters(tag.group);
+    let frame = sent(version, meters, tag, fate, fields.get(7)).ok_or(RowFault::Field(8))?;
+    Ok(Entry {
+        tick,
+        fate,
+        line: Line::Send { tag, frame },
+    })
+}
+
+#[tactic(auto, unfolding(crate::specs::Reading::take_of))]
+fn take(plan: &Plan, last: u32, fields: &Fields) -> Result<Entry, RowFault>
+    requires { AreFields fields.now }
+    ensures { result ≡ take_of plan.now last (view fields.now) }
+{
+    let tick = tick(last, fields)?;
+    let tag = tag(plan, fields)?;
+    let verdict = verdict(fields.get(6)).ok_or(RowFault::Field(7))?;
+    Ok(Entry {
+        tick,
+        fate: no_fate(),
+        line: Line::Take { tag, verdict },
+    })
+}
+
+#[tactic(auto, unfolding(crate::specs::Reading::close_of))]
+fn close(plan: &Plan, last: u32, fields: &Fields) -> Result<Entry, RowFault>
+    requires { AreFields fields.now }
+    ensures { result ≡ close_of plan.now last (view fields.now) }
+{
+    let tick = tick(last, fields)?;
+    let group = group(plan, fields)?;
+    let round = round(plan, fields)?;
+    let closing = closing(plan.meters(group), fields.get(4), fields.get(5))?;
+    Ok(Entry {
+        tick,
+        fate: no_fate(),
+        line: Line::Close {
+            group,
+            round,
+            closing,
+        },
+    })
+}
+
+#[tactic(auto, unfolding(crate::specs::Reading::end_of))]
+fn end(plan: &Plan, last: u32, fields: &Fields) -> Result<Entry, RowFault>
+    requires { AreFields fields.now }
+    ensures { result ≡ end_of plan.now last (view fields.now) }
+{
+    let tick = tick(last, fields)?;
+    let group = group(plan, fields)?;
+    let round = round(plan, fields)?;
+    let ending = ending(plan.meters(group), fields.get(4), fields.get(5))?;
+    Ok(Entry {
+        tick,
+        fate: no_fate(),
+        line: Line::End {
+            group,
+            round,
+            ending,
+        },
+    })
+}
+
+/// A line after an entry with the tick `last`.
+#[tactic(auto, using(crate::proofs::LineFields::row_many, crate::proofs::Cutting::length_view), unfolding(crate::specs::Reading::row_of))]
+pub(crate) fn row(version: Version, plan: &Plan, last: u32, line: &[u8]) -> Result<Row, RowFault>
+    ensures { result ≡ row_of version plan.now last (parts 44 line.now) }
+{
+    let Some(fields) = split_fields(line) else {
+        return Err(RowFault::Form);
+    };
+    let kind = fields.get(1);
+    if fields.count == 2 && fields.get(0) == b"end".as_slice() {
+        let count = number(kind).ok_or(RowFault::Field(2))?;
+        Ok(Row::Last(count))
+    } else if fields.count == 8 && kind == b"s".as_slice() {
+        let entry = send(version, plan, last, &fields)?;
+        Ok(Row::Entry(entry))
+    } else if fields.count == 7 && kind == b"t".as_slice() {
+        let entry = take(plan, last, &fields)?;
+        Ok(Row::Entry(entry))
+    } else if fields.count == 6 && kind == b"c".as_slice() {
+        let entry = close(plan, last, &fields)?;
+        Ok(Row::Entry(entry))
+    } else if fields.count == 6 && kind == b"e".as_slice() {
+        let entry = end(plan, last, &fields)?;
+        Ok(Row::Entry(entry))
+    } else {
+        Err(RowFault::Form)
+    }
+}

@@ -1,0 +1,216 @@
+//! The lines of entries.
+ghost use Rattle.std.specs.Prelude.{◌≡◌, ◌++◌, ◌∷◌, codes, decimal, All, OnOk, IfOk, IfSome};
+ghost use Rattle.hex.specs.Hex.{encode_lower};
+ghost use Rattle.meter_frames.specs.Frames.{spelling, FitsKind};
+ghost use Rattle.transcript_text.specs.declared.version.Version.TheVariants.{Two};
+ghost use Rattle.transcript_text.specs.Spelling.{joined, numbers_text, verdict_text, tag_fields, sent_fields, closing_fields, ending_fields, entry_text, entries_text};
+ghost use Rattle.transcript_text.specs.Writing.{IsWritable};
+
+use group_plan::{Kind, Tag};
+use itoa::Buffer;
+use link_lanes::Fate;
+use meter_frames::{Frame, encode};
+use missing_round::MeterSet;
+use round_machine::{Closing, Ending, Verdict};
+use std::alloc::{AllocError, Global};
+use transcript_log::{Entry, Line};
+
+pub(crate) fn put_number(out: &mut Vec<u8>, number: u64) -> Result<(), AllocError>
+    ensures { OnOk result (out.new.items ≡ out.old.items ++ decimal number) }
+{
+    let mut buffer = Buffer::new();
+    out.extend_from_slice(buffer.format(number).as_bytes())
+}
+
+#[tactic(auto, using(crate::proofs::Plus::plus_more))]
+fn put_set(out: &mut Vec<u8>, set: MeterSet) -> Result<(), AllocError>
+    ensures { OnOk result (out.new.items ≡ out.old.items ++ numbers_text set) }
+{
+    let mut members = set.members();
+    let Some(first) = members.next() else {
+        out.push(b'-')?;
+        return Ok(());
+    };
+    put_number(out, u64::from(first))?;
+    for meter in members {
+        out.push(b'+')?;
+        put_number(out, u64::from(meter))?;
+    }
+    Ok(())
+}
+
+fn put_fate(out: &mut Vec<u8>, fate: Fate) -> Result<(), AllocError>
+    ensures { OnOk result (out.new.items ≡ out.old.items ++ numbers_text fate) }
+{
+    match *fate.delays() {
+        [first] => put_number(out, u64::from(first)),
+        [first, second] => {
+            put_number(out, u64::from(first))?;
+            out.extend_from_slice(b"+")?;
+            put_number(out, u64::from(second))
+        }
+        [first, second, third] => {
+            put_number(out, u64::from(first))?;
+            out.extend_from_slice(b"+")?;
+            put_number(out, u64::from(second))?;
+            out.extend_from_slice(b"+")?;
+            put_number(out, u64::from(third))
+        }
+        _ => out.extend_from_slice(b"-"),
+    }
+}
+
+/// Two numbers with a comma between them.
+pub(crate) fn put_two(out: &mut Vec<u8>, first: u64, second: u64) -> Result<(), AllocError>
+    ensures { OnOk result (out.new.items ≡ out.old.items ++ decimal first ++ codes "," ++ decimal second) }
+{
+    put_number(out, first)?;
+    out.extend_from_slice(b",")?;
+    put_number(out, second)
+}
+
+fn put_tag(out: &mut Vec<u8>, tag: Tag) -> Result<(), AllocError>
+    ensures { OnOk result (out.new.items ≡ out.old.items ++ joined (tag_fields tag)) }
+{
+    put_two(out, u64::from(tag.group), u64::from(tag.round))?;
+    match tag.kind {
+        Kind::Reading => out.extend_from_slice(b",r,")?,
+        Kind::Announcement => out.extend_from_slice(b",m,")?,
+        Kind::Answer => out.extend_from_slice(b",a,")?,
+    }
+    put_number(out, u64::from(tag.meter))
+}
+
+fn put_frame(out: &mut Vec<u8>, frame: &Frame) -> Result<(), AllocError>
+    requires { FitsKind frame.now.tag.kind frame.now.missing frame.now.word }
+    ensures { OnOk result (out.new.items ≡ out.old.items ++ encode_lower (spelling frame.now)) }
+{
+    let mut digits = [0u8; 104];
+    if hex::encode_to_slice(encode(frame), &mut digits).is_err() {
+        unreachable!()
+    }
+    out.extend_from_slice(&digits)
+}
+
+fn put_sent(out: &mut Vec<u8>, fate: Fate, sent: &Option<Frame>) -> Result<(), AllocError>
+    requires { IfSome sent.now (λ f. FitsKind f.tag.kind f.missing f.word) }
+    ensures { OnOk result (out.new.items ≡ out.old.items ++ codes "," ++ joined (sent_fields Two fate sent.now)) }
+{
+    match sent {
+        Some(frame) => {
+            out.extend_from_slice(b",")?;
+            put_fate(out, fate)?;
+            out.extend_from_slice(b",")?;
+            put_frame(out, frame)
+        }
+        None => out.extend_from_slice(b",-,void"),
+    }
+}
+
+fn put_verdict(out: &mut Vec<u8>, verdict: Verdict) -> Result<(), AllocError>
+    ensures { OnOk result (out.new.items ≡ out.old.items ++ codes "," ++ verdict_text verdict) }
+{
+    match verdict {
+        Verdict::Fresh => out.extend_from_slice(b",fresh"),
+        Verdict::Again => out.extend_from_slice(b",again"),
+        Verdict::Late => out.extend_from_slice(b",late"),
+        Verdict::Void => out.extend_from_slice(b",void"),
+    }
+}
+
+fn put_closing(out: &mut Vec<u8>, closing: Closing) -> Result<(), AllocError>
+    ensures { OnOk result (out.new.items ≡ out.old.items ++ codes "," ++ joined (closing_fields closing)) }
+{
+    match closing {
+        Closing::Announced(set) => {
+            out.extend_from_slice(b",announced,")?;
+            put_set(out, set)
+        }
+        Closing::Thin(set) => {
+            out.extend_from_slice(b",thin,")?;
+            put_set(out, set)
+        }
+        Closing::Already => out.extend_from_slice(b",already,-"),
+    }
+}
+
+fn put_ending(out: &mut Vec<u8>, ending: Ending) -> Result<(), AllocError>
+    ensures { OnOk result (out.new.items ≡ out.old.items ++ codes "," ++ joined (ending_fields ending)) }
+{
+    match ending {
+        Ending::Total(total) => {
+            out.extend_from_slice(b",total,")?;
+            put_number(out, total)
+        }
+        Ending::Lacking(set) => {
+            out.extend_from_slice(b",none,")?;
+            put_set(out, set)
+        }
+        Ending::Thin => out.extend_from_slice(b",thin,-"),
+        Ending::Already => out.extend_from_slice(b",already,-"),
+        Ending::NotClosed => out.extend_from_slice(b",notclosed,-"),
+    }
+}
+
+#[tactic(auto, unfolding(crate::specs::Spelling::entry_text))]
+fn put_entry(out: &mut Vec<u8>, entry: &Entry) -> Result<(), AllocError>
+    requires { IsWritable entry.now.line }
+    ensures { OnOk result (out.new.items ≡ out.old.items ++ entry_text Two entry.now) }
+{
+    put_number(out, u64::from(entry.tick))?;
+    match &entry.line {
+        Line::Send { tag, frame } => {
+            out.extend_from_slice(b",s,")?;
+            put_tag(out, *tag)?;
+            put_sent(out, entry.fate, frame)
+        }
+        Line::Take { tag, verdict } => {
+            out.extend_from_slice(b",t,")?;
+            put_tag(out, *tag)?;
+            put_verdict(out, *verdict)
+        }
+        Line::Close {
+            group,
+            round,
+            closing,
+        } => {
+            out.extend_from_slice(b",c,")?;
+            put_two(out, u64::from(*group), u64::from(*round))?;
+            put_closing(out, *closing)
+        }
+        Line::End {
+            group,
+            round,
+            ending,
+        } => {
+            out.extend_from_slice(b",e,")?;
+            put_two(out, u64::from(*group), u64::from(*round))?;
+            put_ending(out, *ending)
+        }
+    }
+}
+
+/// The entry's line in the text of a transcript, without its newline.
+pub fn line_text(alloc: Global, entry: &Entry) -> Result<Vec<u8>, AllocError>
+    requires { IsWritable entry.now.line }
+    ensures { IfOk result (λ text. text.items ≡ entry_text Two entry.now) }
+{
+    let mut out = Vec::new(alloc);
+    put_entry(&mut out, entry)?;
+    Ok(out)
+}
+
+#[tactic(auto, unfolding(crate::specs::Spelling::entries_text))]
+pub(crate) fn put_entries(out: &mut Vec<u8>, entries: &[Entry]) -> Result<(), AllocError>
+    requires { All (λ e. IsWritable e.line) entries.now }
+    ensures { OnOk result (out.new.items ≡ out.old.items ++ entries_text Two 0 entries.now) }
+{
+    for entry in entries {
+        put_entry(out, entry)?;
+        out.push(b'\n')?;
+    }
+    out.extend_from_slice(b"end,")?;
+    put_number(out, entries.len() as u64)?;
+    out.push(b'\n')?;
+    Ok(())
+}
