@@ -1,0 +1,10 @@
+pub mod Tags
+pub mod LineLemmas
+pub mod PageLemmas
+pub mod PlaceLemmas
+pub mod BookLemmas
+pub mod CallLemmas
+pub mod PlainLines
+pub mod StartLemmas
+pub mod CopyLemmas
+pub mod TableLemmas

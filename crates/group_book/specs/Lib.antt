@@ -1,0 +1,8 @@
+pub mod Places
+pub mod Pages
+pub mod Start
+pub mod Copies
+pub mod Books
+pub mod BookParts
+pub mod Replay
+pub mod Tables

@@ -1,0 +1,16 @@
+//! The book of a plan: what was sent and taken in every round, and the journal of it.
+#![tactic(auto)]
+
+mod answers;
+mod book;
+mod copies;
+mod lines;
+mod page;
+mod places;
+mod start;
+
+pub use answers::{Outcome, OutcomeState, SendAnswer, TakeError};
+pub use book::Book;
+
+#[cfg(test)]
+mod tests;

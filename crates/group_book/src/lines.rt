@@ -1,0 +1,75 @@
+//! Lines added to a journal that has room for them.
+
+ghost use Rattle.std.specs.Prelude.{◌≡◌, ◌<◌, ◌≤◌, ◌-◌, ◌+◌, ◌++◌, [], ◌∷◌, vec_len, vec_capacity};
+ghost use Rattle.transcript_log.specs.declared.Line.TheVariants.{Send as SendLine, Take as TakeLine, Close as CloseLine, End as EndLine};
+
+use group_plan::Tag;
+use meter_frames::Frame;
+use round_machine::{Closing, Ending, Verdict};
+use transcript_log::Line;
+
+fn add<T: Drop>(items: &mut Vec<T>, item: T)
+    requires { vec_len items.old < vec_capacity items.old }
+    ensures items { items.new.items ≡ items.old.items ++ item ∷ [] }
+    ensures spare { vec_capacity items.old - vec_len items.old ≤ vec_capacity items.new - vec_len items.new + 1 }
+{
+    items.push(item).unwrap();
+}
+
+// What lines are made of. A function that adds a line has to name these types.
+type Parts = (
+    Option<Frame>,
+    Option<Verdict>,
+    Option<Closing>,
+    Option<Ending>,
+);
+
+pub(crate) fn add_send(journal: &mut Vec<Line>, tag: Tag, frame: Option<Frame>)
+    requires { vec_len journal.old < vec_capacity journal.old }
+    ensures lines { journal.new.items ≡ journal.old.items ++ SendLine tag frame ∷ [] }
+    ensures spare { vec_capacity journal.old - vec_len journal.old ≤ vec_capacity journal.new - vec_len journal.new + 1 }
+{
+    let _parts: Parts = (None, None, None, None);
+    add(journal, Line::Send { tag, frame });
+}
+
+pub(crate) fn add_take(journal: &mut Vec<Line>, tag: Tag, verdict: Verdict)
+    requires { vec_len journal.old < vec_capacity journal.old }
+    ensures lines { journal.new.items ≡ journal.old.items ++ TakeLine tag verdict ∷ [] }
+    ensures spare { vec_capacity journal.old - vec_len journal.old ≤ vec_capacity journal.new - vec_len journal.new + 1 }
+{
+    let _parts: Parts = (None, None, None, None);
+    add(journal, Line::Take { tag, verdict });
+}
+
+pub(crate) fn add_close(journal: &mut Vec<Line>, group: u16, round: u32, closing: &Closing)
+    requires { vec_len journal.old < vec_capacity journal.old }
+    ensures lines { journal.new.items ≡ journal.old.items ++ CloseLine group round closing.now ∷ [] }
+    ensures spare { vec_capacity journal.old - vec_len journal.old ≤ vec_capacity journal.new - vec_len journal.new + 1 }
+{
+    let _parts: Parts = (None, None, None, None);
+    add(
+        journal,
+        Line::Close {
+            group,
+            round,
+            closing: *closing,
+        },
+    );
+}
+
+pub(crate) fn add_end(journal: &mut Vec<Line>, group: u16, round: u32, ending: &Ending)
+    requires { vec_len journal.old < vec_capacity journal.old }
+    ensures lines { journal.new.items ≡ journal.old.items ++ EndLine group round ending.now ∷ [] }
+    ensures spare { vec_capacity journal.old - vec_len journal.old ≤ vec_capacity journal.new - vec_len journal.new + 1 }
+{
+    let _parts: Parts = (None, None, None, None);
+    add(
+        journal,
+        Line::End {
+            group,
+            round,
+            ending: *ending,
+        },
+    );
+}

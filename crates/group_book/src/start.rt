@@ -1,0 +1,76 @@
+//! What a book begins with: every round with its members, and no frame.
+
+ghost use Rattle.std.specs.Prelude.{◌≡◌, ◌<◌, ◌≤◌, IsTrue, IfOk, OnOk, None, length, map, replicate};
+ghost use Rattle.std.specs.List.{range_with_len};
+ghost use Rattle.group_plan.specs.Plans.{IsWithinLimits, members, floor_of};
+ghost use Rattle.group_book.specs.Places.{is_round, all_rounds, all_tags};
+ghost use Rattle.group_book.specs.Start.{first_page, first_page_at};
+
+use crate::page::Page;
+use group_plan::Plan;
+use meter_frames::Frame;
+use missing_round::MeterSet;
+use std::alloc::{AllocError, Global};
+
+fn members_of(plan: &Plan, group: u16, round: u32) -> MeterSet
+    requires { IsTrue (is_round plan.now group round) }
+    ensures { result ≡ members plan.now.groups group round }
+{
+    let mut members = MeterSet::empty();
+    for meter in 0..plan.meters(group) {
+        if plan.is_member(group, round, meter as u8) {
+            members = members.with(meter as u8);
+        }
+    }
+    members
+}
+
+fn floor_of(plan: &Plan, group: u16) -> u16
+    requires { group < length plan.now.groups }
+    ensures floor { result ≡ floor_of plan.now.groups group }
+    ensures least { 2 ≤ result }
+    ensures most { result ≤ 256 }
+{
+    plan.groups()[group as usize].floor as u16
+}
+
+fn first_page(plan: &Plan, group: u16, round: u32) -> Page
+    requires { IsTrue (is_round plan.now group round) }
+    ensures { result ≡ first_page plan.now group round }
+{
+    let members = members_of(plan, group, round);
+    Page::new(members, floor_of(plan, group))
+}
+
+// The page of a round by its number.
+fn first_page_at(plan: &Plan, at: usize) -> Page
+    requires { at < all_rounds plan.now }
+    ensures { result ≡ first_page_at plan.now at }
+{
+    let rounds = plan.rounds() as usize;
+    first_page(plan, (at / rounds) as u16, (at % rounds) as u32)
+}
+
+pub(crate) fn first_pages(alloc: Global, plan: &Plan) -> Result<Vec<Page>, AllocError>
+    ensures limits { OnOk result (IsWithinLimits plan.now) }
+    ensures pages { IfOk result (λ pages. pages.items ≡ map (first_page_at plan.now) (range_with_len 0 (all_rounds plan.now))) }
+{
+    let all = plan.rounds() as usize * plan.groups().len();
+    let mut pages = Vec::with_capacity(alloc, all)?;
+    for at in 0..all {
+        pages.push(first_page_at(plan, at))?;
+    }
+    Ok(pages)
+}
+
+fn no_frames_of(alloc: Global, tags: usize) -> Result<Vec<Option<Frame>>, AllocError>
+    ensures { IfOk result (λ frames. frames.items ≡ replicate tags None) }
+{
+    vec![in alloc; None; tags]
+}
+
+pub(crate) fn no_frames(alloc: Global, plan: &Plan) -> Result<Vec<Option<Frame>>, AllocError>
+    ensures { IfOk result (λ frames. frames.items ≡ replicate (all_tags plan.now) None) }
+{
+    no_frames_of(alloc, plan.places() * 3)
+}
