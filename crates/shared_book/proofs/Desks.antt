@@ -1,0 +1,86 @@
+-- How a desk changes.
+use Rattle.std.proofs.Common.{◌≡◌, ◌≢◌, ◌<◌, ◌+◌, ◌==◌, ℕ, zero, suc, true, false, List, [], ◌∷◌, ◌++◌, length, get_or, set, Option, Some, None, is_some, sym, refl, ap, ◌∙◌, subst, arith, if◌then◌else◌, eq-eqb, ne_eqb, length-set, get_or-set_other, get_or-set_same}
+use mathlib.Core.Logic.{dite}
+use native.Mathlib.Decide.{ℕ_discrete}
+use Rattle.transcript_log.specs.declared.Line.{Line}
+use Rattle.shared_book.specs.declared.parcel.Reply.{Reply}
+use Rattle.shared_book.specs.declared.turn.Turn.{Turn}
+use Rattle.shared_book.specs.Parcels.{reply_of}
+use Rattle.shared_book.specs.Places.{open_places}
+use Rattle.shared_book.specs.Turns.{turn, turn_at, reply_in, number_in, number_at, Replied, Passed}
+
+module _ {X : Type 0} where
+  pub open_some : (xs : List (Option X)) (k : ℕ) → k < length xs → get_or xs k None ≡ None → 0 < open_places xs
+  open_some [] k h e = absurd (omega arith)
+  open_some (None ∷ xs) zero h e = omega arith
+  open_some (Some r ∷ xs) zero h e = cc
+  open_some (None ∷ xs) (suc k) h e = omega arith
+  open_some (Some r ∷ xs) (suc k) h e = open_some xs k (omega arith) e
+
+  pub open_set : (xs : List (Option X)) (k : ℕ) (r : X) → k < length xs → get_or xs k None ≡ None → open_places (set xs k (Some r)) + 1 ≡ open_places xs
+  open_set [] k r h e = absurd (omega arith)
+  open_set (None ∷ xs) zero r h e = omega arith
+  open_set (Some q ∷ xs) zero r h e = cc
+  open_set (None ∷ xs) (suc k) r h e = let i = open_set xs k r (omega arith) e in omega arith
+  open_set (Some q ∷ xs) (suc k) r h e = open_set xs k r (omega arith) e
+
+-- a turn at the end is the turn of its place, if that had none, and of no other place
+pub turn_at-same : (ts : List Turn) (t : Turn) → turn_at t.place ts ≡ None → turn_at t.place (ts ++ t ∷ []) ≡ Some t
+turn_at-same [] t h = let b : (t.place == t.place) ≡ true = eq-eqb t.place t.place refl in rw b refl
+turn_at-same (u ∷ ts) t h = dite (ℕ_discrete u.place t.place)
+    (λ e. let b : (u.place == t.place) ≡ true = eq-eqb u.place t.place e in let h' = rw b at h in cc)
+    (λ n. let b : (u.place == t.place) ≡ false = ne_eqb u.place t.place n in let h' = rw b at h in rw b (turn_at-same ts t h'))
+
+pub turn_at-other : (ts : List Turn) (t : Turn) (k : ℕ) → t.place ≢ k → turn_at k (ts ++ t ∷ []) ≡ turn_at k ts
+turn_at-other [] t k n = let b : (t.place == k) ≡ false = ne_eqb t.place k n in rw b refl
+turn_at-other (u ∷ ts) t k n = ap (λ (x : Option Turn). if u.place == k then Some u else x) (turn_at-other ts t k n)
+
+-- ---- where a place is done
+
+no_number : (found : Option Turn) → is_some (number_in found) ≡ false → found ≡ None
+no_number None h = refl
+no_number (Some t) h = cc
+
+module _ (f : Option Turn → Option Reply) where
+  -- what each place has, where a value is set for a new turn
+  pub each_set : (xs : List (Option Reply)) (ts : List Turn) (t : Turn) (x : Reply) → t.place < length xs → turn_at t.place ts ≡ None → f (Some t) ≡ Some x
+      → ((k : ℕ) → k < length xs → get_or xs k None ≡ f (turn_at k ts)) → (k : ℕ) → k < length (set xs t.place (Some x)) → get_or (set xs t.place (Some x)) k None ≡ f (turn_at k (ts ++ t ∷ []))
+  each_set xs ts t x h none is old k lt = dite (ℕ_discrete k t.place)
+      (λ e. subst (λ (j : ℕ). get_or (set xs t.place (Some x)) j None ≡ f (turn_at j (ts ++ t ∷ []))) (sym e)
+      (get_or-set_same xs t.place (Some x) None h ∙ sym (ap f (turn_at-same ts t none) ∙ is)))
+      (λ n. let l : k < length xs = omega (arith, length-set xs t.place (Some x)) in
+      get_or-set_other xs t.place k (Some x) None n ∙ (old k l ∙ sym (ap f (turn_at-other ts t k (λ e. n (sym e))))))
+
+-- the same for the numbers of passes
+each_number : (xs : List (Option ℕ)) (ts : List Turn) (t : Turn) → t.place < length xs → turn_at t.place ts ≡ None
+    → ((k : ℕ) → k < length xs → get_or xs k None ≡ number_in (turn_at k ts)) → (k : ℕ) → k < length (set xs t.place (Some t.number)) → get_or (set xs t.place (Some t.number)) k None ≡ number_in (turn_at k (ts ++ t ∷ []))
+each_number xs ts t h none old k lt = dite (ℕ_discrete k t.place)
+    (λ e. subst (λ (j : ℕ). get_or (set xs t.place (Some t.number)) j None ≡ number_in (turn_at j (ts ++ t ∷ []))) (sym e)
+    (get_or-set_same xs t.place (Some t.number) None h ∙ sym (ap number_in (turn_at-same ts t none))))
+    (λ n. let l : k < length xs = omega (arith, length-set xs t.place (Some t.number)) in
+    get_or-set_other xs t.place k (Some t.number) None n ∙ (old k l ∙ sym (ap number_in (turn_at-other ts t k (λ e. n (sym e))))))
+
+pub replied_set : (xs : List (Option Reply)) (ts : List Turn) (number place : ℕ) (line : Line) (reply : Reply) → place < length xs → turn_at place ts ≡ None → reply_of line ≡ Some reply → Replied xs ts
+    → Replied (set xs place (Some reply)) (ts ++ turn number place line ∷ [])
+replied_set xs ts number place line reply h none is old = each_set reply_in xs ts (turn number place line) reply h none is old
+
+pub passed_set : (xs : List (Option ℕ)) (ts : List Turn) (number place : ℕ) (line : Line) → place < length xs → turn_at place ts ≡ None → Passed xs ts
+    → Passed (set xs place (Some number)) (ts ++ turn number place line ∷ [])
+passed_set xs ts number place line h none old = each_number xs ts (turn number place line) h none old
+
+-- where a place has no reply, it has no turn
+pub undone : (replies : List (Option Reply)) (passes : List (Option ℕ)) (ts : List Turn) (k : ℕ) → k < length replies → length passes ≡ length replies
+    → ((j : ℕ) → j < length replies → is_some (get_or replies j None) ≡ is_some (get_or passes j None)) → Passed passes ts → get_or replies k None ≡ None → turn_at k ts ≡ None
+undone replies passes ts k lt same both passed none =
+    let a : is_some (get_or passes k None) ≡ false = sym (both k lt) ∙ ap is_some none in
+    let b : is_some (number_at k ts) ≡ false = ap is_some (sym (passed k (omega arith))) ∙ a in
+    no_number (turn_at k ts) b
+
+pub both_set : (replies : List (Option Reply)) (passes : List (Option ℕ)) (place : ℕ) (reply : Reply) (number : ℕ) → place < length replies → length passes ≡ length replies
+    → ((j : ℕ) → j < length replies → is_some (get_or replies j None) ≡ is_some (get_or passes j None))
+    → (k : ℕ) → k < length (set replies place (Some reply)) → is_some (get_or (set replies place (Some reply)) k None) ≡ is_some (get_or (set passes place (Some number)) k None)
+both_set replies passes place reply number h same both k lt = dite (ℕ_discrete k place)
+    (λ e. subst (λ (j : ℕ). is_some (get_or (set replies place (Some reply)) j None) ≡ is_some (get_or (set passes place (Some number)) j None)) (sym e)
+    (ap is_some (get_or-set_same replies place (Some reply) None h) ∙ sym (ap is_some (get_or-set_same passes place (Some number) None (omega arith)))))
+    (λ n. let l : k < length replies = omega (arith, length-set replies place (Some reply)) in
+    ap is_some (get_or-set_other replies place k (Some reply) None n) ∙ both k l ∙ sym (ap is_some (get_or-set_other passes place k (Some number) None n)))

@@ -1,0 +1,10 @@
+pub mod Desks
+pub mod Frames
+pub mod Histories
+pub mod Judging
+pub mod NoTurns
+pub mod Openings
+pub mod Shares
+pub mod Tickets
+pub mod Turning
+pub mod Views

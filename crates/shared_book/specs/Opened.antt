@@ -1,0 +1,57 @@
+-- The views of passes: what a book opens with, and how passes are cut in two and joined.
+use Rattle.std.specs.Prelude.{ℕ, ◌+◌, ◌-◌, true, false, List, [], ◌∷◌, ◌++◌}
+use Rattle.group_book.specs.Books.{BookView}
+use Rattle.shared_book.specs.declared.law.Key.{Key}
+use Rattle.shared_book.specs.declared.turn.Turn.{Turn}
+use Rattle.shared_book.specs.declared.turn.Opening.{Opening}
+use Rattle.shared_book.specs.declared.turn.View.{View}
+
+abbrev pub opening_of : Key → Opening
+opening_of key = record { book = key.book.value; parcels = key.parcels.value.items }
+
+-- a pass that has done nothing
+abbrev pub newcomer : Opening → ℕ → List Turn → View
+newcomer o number seen = record {
+  opening = o;
+  live = true;
+  number = number;
+  made = 0;
+  out = 0;
+  joined = [];
+  waits = false;
+  ticket = 0;
+  has = false;
+  seen = seen;
+  mine = [];
+  pending = false;
+  told = [];
+  told_by = 0;
+  told_mine = [];
+  told_out = 0;
+}
+
+abbrev no_book : BookView
+no_book = record { presence = record { plan = record { groups = []; rounds = 0; w1 = 0; w2 = 0 }; table = [] }; journal = []; spare = 0 }
+
+-- a pass that was joined
+abbrev pub spent : View
+spent = record (newcomer (record { book = no_book; parcels = [] }) 0 []) { live = false }
+
+-- a pass cut in two: the first counts the second, which has seen as much and done nothing
+abbrev pub parent : View → View
+parent v = record v { made = v.made + 1; out = v.out + 1 }
+
+abbrev pub child : View → View
+child v = newcomer v.opening (v.made + 1) v.seen
+
+-- the first pass, told of what another has seen and done
+abbrev pub met : View → View → View
+met v w = record v {
+  out = v.out - 1;
+  joined = v.joined ++ w.number ∷ [];
+  pending = true;
+  told = w.seen;
+  told_by = w.number;
+  told_mine = w.mine;
+  told_out = v.out;
+}

@@ -1,0 +1,77 @@
+ghost use Rattle.std.specs.Prelude.{◌≡◌};
+ghost use Rattle.shared_book.specs.Parcels.{request_of, decoded};
+
+use group_book::TakeError;
+use meter_frames::{Frame, FrameError, decode};
+use round_machine::{Closing, Ending, Verdict};
+
+/// What a collector brings to the book: the bytes of a frame to be taken, or a round to be closed or ended.
+#[derive(Clone, Copy, Debug, PartialEq, Eq)]
+pub enum Parcel {
+    Bytes([u8; 52]),
+    Close { group: u16, round: u32 },
+    End { group: u16, round: u32 },
+}
+
+/// What the book answered.
+#[derive(Clone, Copy, Debug, PartialEq, Eq)]
+pub enum Reply {
+    Took(Verdict),
+    Closed(Closing),
+    Ended(Ending),
+}
+
+/// What a parcel asks of the book.
+#[derive(Clone, Copy)]
+pub enum Request {
+    Take(Frame),
+    Close { group: u16, round: u32 },
+    End { group: u16, round: u32 },
+}
+
+/// Why a commit added no line.
+#[derive(Clone, Copy, Debug, PartialEq, Eq)]
+pub enum CommitError {
+    /// The bytes are no frame.
+    Frame(FrameError),
+    /// There are no more parcels than this place.
+    NoSuch,
+    /// The place has another parcel.
+    Other,
+    /// The place was committed before, with this reply.
+    Done(Reply),
+    /// The book refuses the frame.
+    Take(TakeError),
+    /// The round to be closed or ended is outside the plan.
+    Place,
+}
+
+impl Parcel {
+    /// What the parcel asks; an error where its bytes are no frame.
+    pub(crate) fn request(&self) -> Result<Request, FrameError>
+        ensures { result ≡ request_of self.now }
+    {
+        match self {
+            Parcel::Bytes(bytes) => match frame_in(bytes) {
+                Ok(frame) => Ok(Request::Take(frame)),
+                Err(e) => Err(e),
+            },
+            Parcel::Close { group, round } => Ok(Request::Close {
+                group: *group,
+                round: *round,
+            }),
+            Parcel::End { group, round } => Ok(Request::End {
+                group: *group,
+                round: *round,
+            }),
+        }
+    }
+}
+
+/// The frame that the bytes are the spelling of.
+#[tactic(auto, using(crate::proofs::Frames::decoded_is))]
+fn frame_in(bytes: &[u8]) -> Result<Frame, FrameError>
+    ensures { result ≡ decoded bytes.now }
+{
+    decode(bytes)
+}

@@ -1,0 +1,13 @@
+//! A shared book may be shared between threads, and a pass moved to one.
+
+use crate::parts::{Pass, SharedBook};
+
+fn may_be_shared<T: Sync>(_value: &T) {}
+
+fn may_be_moved<T: Send>(_value: &T) {}
+
+/// Proved only where both hold.
+pub fn crosses_threads(book: &SharedBook, pass: &Pass) {
+    may_be_shared(book);
+    may_be_moved(pass);
+}
