@@ -1,0 +1,5 @@
+pub mod Histories
+pub mod Marks
+pub mod Growth
+pub mod Counts
+pub mod Journals

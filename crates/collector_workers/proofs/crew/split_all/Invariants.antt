@@ -1,0 +1,13 @@
+use Rattle.std.proofs.Common.{◌≡◌, vec_len, vec_capacity, All}
+use Rattle.shared_book.specs.Ends.{IsPassOf, view}
+use Rattle.collector_workers.specs.Gathering.{SplitsAll}
+use Rattle.collector_workers.proofs.crew.split_all.Given as goal
+
+abbrev pub invariant-loop-worker : goal.invariant-loop-worker
+invariant-loop-worker l = record {
+  of : IsPassOf l.shared l.first;
+  splits : SplitsAll (view l.fn.first) l._worker (view l.first);
+  all : All (IsPassOf l.shared) l.passes.items;
+  long : vec_len l.passes ≡ l._worker;
+  room : vec_capacity l.passes ≡ vec_capacity l.fn.passes;
+}

@@ -1,0 +1,76 @@
+-- What a first pass gains by a batch.
+use Rattle.std.specs.Prelude.{◌≡◌, ℕ, ◌+◌, ◌==◌, List, Vec, [], ◌∷◌, length, filter, slice_get, Some, Result, Ok, Err}
+use Rattle.std.specs.declared.alloc.AllocError.{AllocError}
+use Rattle.std.specs.declared.alloc.Global.{Global}
+use Rattle.transcript_log.specs.Events.{event_of}
+use Rattle.shared_book.specs.declared.parcel.Parcel.{Parcel}
+use Rattle.shared_book.specs.declared.parcel.Reply.{Reply}
+use Rattle.shared_book.specs.declared.turn.Turn.{Turn}
+use Rattle.shared_book.specs.declared.turn.Opening.{Opening}
+use Rattle.shared_book.specs.Parcels.{Judged, Accepted, BadFrame, RefusedFrame, Outside, judged, reply_of}
+use Rattle.shared_book.specs.Turns.{StartsWith}
+use Rattle.shared_book.specs.Passes.{PassView}
+use Rattle.collector_workers.specs.declared.mark.Mark.{Mark}
+use Rattle.collector_workers.specs.declared.mark.Mark.TheVariants.{Made, Bad, Refused, OutOfPlan}
+
+-- the turns of a place
+abbrev pub turns_of : ℕ → List Turn → List Turn
+turns_of place turns = filter (λ t. t.place == place) turns
+
+-- an accepted place has one turn, of the parcel's event, and is marked with its reply; another place has none, and is marked with its own cause
+abbrev pub IsMarkOf : Judged → List Turn → Mark → Type 0
+IsMarkOf (Accepted event) turns mark = (t : Turn) × (reply : Reply) × (turns ≡ t ∷ []) × (event_of t.line ≡ event) × (reply_of t.line ≡ Some reply) × (mark ≡ Made reply)
+IsMarkOf (BadFrame e) turns mark = (turns ≡ []) × (mark ≡ Bad e)
+IsMarkOf (RefusedFrame e) turns mark = (turns ≡ []) × (mark ≡ Refused e)
+IsMarkOf Outside turns mark = (turns ≡ []) × (mark ≡ OutOfPlan)
+
+-- the marks, from the first place on, are those of their places
+abbrev pub AreMarksOf : Opening → List Turn → List Mark → Type 0
+AreMarksOf o turns marks =
+    (place : ℕ) (parcel : Parcel) (mark : Mark) → slice_get o.parcels place ≡ Some parcel → slice_get marks place ≡ Some mark →
+    IsMarkOf (judged o.book parcel) (turns_of place turns) mark
+
+-- ---- the parts of a gathering
+
+-- a first pass has seen more, perhaps by turns of its own
+pub record Grows (v w : PassView) : Type 0 where
+  pub seen : StartsWith w.seen v.seen
+  pub mine : StartsWith w.mine v.mine
+  pub number : w.number ≡ v.number
+  pub made : w.made ≡ v.made
+  pub out : w.out ≡ v.out
+
+-- the place with this parcel has its turn, where it is accepted, and its mark
+pub record Settles (o : Opening) (v : PassView) (place : ℕ) (parcel : Parcel) (mark : Mark) (w : PassView) : Type 0 where
+  pub at : slice_get o.parcels place ≡ Some parcel
+  pub grows : Grows v w
+  pub marked : IsMarkOf (judged o.book parcel) (turns_of place w.seen) mark
+
+-- so many passes were split off
+abbrev pub SplitsAll : PassView → ℕ → PassView → Type 0
+SplitsAll v count w = w ≡ record v { made = v.made + count; out = v.out + count }
+
+-- so many passes were joined
+pub record JoinsAll (v : PassView) (count : ℕ) (w : PassView) : Type 0 where
+  pub seen : StartsWith w.seen v.seen
+  pub mine : w.mine ≡ v.mine
+  pub number : w.number ≡ v.number
+  pub made : w.made ≡ v.made
+  pub out : w.out + count ≡ v.out
+
+-- ---- gather
+
+-- a batch was gathered by so many workers
+pub record Gathers (o : Opening) (v : PassView) (workers : ℕ) (marks : List Mark) (w : PassView) : Type 0 where
+  pub seen : StartsWith w.seen v.seen
+  pub mine : StartsWith w.mine v.mine
+  pub number : w.number ≡ v.number
+  pub made : w.made ≡ v.made + workers
+  pub out : w.out ≡ 0
+  pub long : length marks ≡ length o.parcels
+  pub marked : AreMarksOf o w.seen marks
+
+-- gather of the parcels of a book, by a first pass
+abbrev pub GatherEnds : Opening → PassView → ℕ → Result (Vec Mark Global) AllocError → PassView → Type 0
+GatherEnds o v workers (Ok marks) w = Gathers o v workers marks.items w
+GatherEnds o v workers (Err e) w = w ≡ v

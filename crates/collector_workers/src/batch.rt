@@ -1,0 +1,129 @@
+//! A batch by workers: gathered with a shared book's first pass, or collected into a book.
+
+ghost use Rattle.std.specs.Prelude.{◌≡◌, [], ◌+◌, ◌^◌, ◌<◌, ◌≤◌, Some, length, slice_get, vec_len, vec_capacity};
+ghost use Rattle.shared_book.specs.Ends.{opening, view, IsPassOf};
+ghost use Rattle.collector_workers.specs.Gathering.{AreMarksOf, Grows, Settles, GatherEnds};
+ghost use Rattle.collector_workers.specs.Batch.{CollectEnds};
+
+use crate::crew::{all_places, join_all, split_all, work_all};
+use crate::gate::Gate;
+use crate::mark::{CollectRefused, Collected, Mark};
+use group_book::Book;
+use shared_book::{BeginRefused, CommitError, Parcel, Pass, SharedBook, Shut};
+use std::alloc::{AllocError, Global};
+use std::sync::Wait;
+use std::thread::Threads;
+
+// Commits a place, or finds what became of it.
+fn mark_one<R: Wait>(
+    rt: &R,
+    shared: &SharedBook,
+    first: &mut Pass,
+    place: u32,
+    parcel: &Parcel,
+) -> Mark
+    requires pass { IsPassOf shared.now first.old }
+    requires place { slice_get (opening shared.now).parcels place ≡ Some parcel.now }
+    ensures pass { IsPassOf shared.now first.new }
+    ensures settled { Settles (opening shared.now) (view first.old) place parcel.now result (view first.new) }
+{
+    match shared.commit(rt, first, place, parcel) {
+        Ok(reply) => Mark::Made(reply),
+        Err(CommitError::Done(reply)) => Mark::Made(reply),
+        Err(CommitError::Frame(e)) => Mark::Bad(e),
+        Err(CommitError::Take(e)) => Mark::Refused(e),
+        Err(CommitError::Place) => Mark::OutOfPlan,
+        Err(CommitError::NoSuch | CommitError::Other) => unreachable!(),
+    }
+}
+
+// Commits each place, or finds what became of it.
+fn mark_all<R: Wait>(
+    rt: &R,
+    shared: &SharedBook,
+    first: &mut Pass,
+    batch: &[Parcel],
+    marks: &mut Vec<Mark>,
+)
+    requires pass { IsPassOf shared.now first.old }
+    requires batch { batch.now ≡ (opening shared.now).parcels }
+    requires few { length batch.now < 2 ^ 32 }
+    requires empty { (marks.old.items ≡ []) × (vec_len marks.old ≡ 0) }
+    requires room { length batch.now ≤ vec_capacity marks.old }
+    ensures pass { IsPassOf shared.now first.new }
+    ensures grows { Grows (view first.old) (view first.new) }
+    ensures long { length marks.new.items ≡ length batch.now }
+    ensures marked { AreMarksOf (opening shared.now) (view first.new).seen marks.new.items }
+{
+    for (place, parcel) in batch.iter().enumerate() {
+        let mark = mark_one(rt, shared, first, place as u32, parcel);
+        marks.push_reserved(mark);
+    }
+}
+
+/// Commits the parcels of a shared book by workers, each with a pass of its own, and what they leave by the first pass, and
+/// answers the mark of each parcel.
+pub fn gather<R: Threads + Wait + Sync, G: Gate>(
+    rt: &R,
+    alloc: Global,
+    shared: &SharedBook,
+    first: &mut Pass,
+    batch: &[Parcel],
+    workers: u32,
+    gate: &G,
+) -> Result<Vec<Mark>, AllocError>
+    requires pass { IsPassOf shared.now first.old }
+    requires first { ((view first.old).number ≡ 0) × ((view first.old).out ≡ 0) }
+    requires made { (view first.old).made + 16 < 2 ^ 32 }
+    requires batch { batch.now ≡ (opening shared.now).parcels }
+    requires few { length batch.now < 2 ^ 32 }
+    requires workers { (1 ≤ workers) × (workers ≤ 16) }
+    ensures pass { IsPassOf shared.now first.new }
+    ensures ends { GatherEnds (opening shared.now) (view first.old) workers result (view first.new) }
+{
+    let mut marks = Vec::with_capacity(alloc, batch.len())?;
+    let mut passes = Vec::with_capacity(alloc, workers as usize)?;
+    split_all(shared, first, &mut passes, workers);
+    if let Ok(places) = all_places(rt, alloc, batch.len()) {
+        work_all(rt, shared, passes.as_mut_slice(), batch, &places, gate);
+    }
+    join_all(shared, first, passes);
+    mark_all(rt, shared, first, batch, &mut marks);
+    Ok(marks)
+}
+
+/// Adds a batch to a book by workers. Each accepted parcel adds a line, in some order; every parcel has its mark. At `Err`
+/// there was no memory.
+pub fn collect<R: Threads + Wait + Sync, G: Gate>(
+    rt: &R,
+    alloc: Global,
+    mut book: Book,
+    batch: &[Parcel],
+    workers: u32,
+    gate: &G,
+) -> Result<Collected, CollectRefused>
+    requires workers { (1 ≤ workers) × (workers ≤ 16) }
+    requires batch { length batch.now < 2 ^ 32 }
+    ensures { CollectEnds book batch.now result }
+{
+    if book.reserve(batch.len() as u64).is_err() {
+        return Err(CollectRefused { book });
+    }
+    let Ok(parcels) = Vec::from_slice(alloc, batch) else {
+        return Err(CollectRefused { book });
+    };
+    let (shared, mut first) = match SharedBook::begin(alloc, book, parcels) {
+        Ok(begun) => begun,
+        Err(BeginRefused { book, parcels: _ }) => return Err(CollectRefused { book }),
+    };
+    match gather(rt, alloc, &shared, &mut first, batch, workers, gate) {
+        Ok(replies) => {
+            let Shut { book, .. } = shared.shut(first);
+            Ok(Collected { book, replies })
+        }
+        Err(_) => {
+            let Shut { book, .. } = shared.shut(first);
+            Err(CollectRefused { book })
+        }
+    }
+}

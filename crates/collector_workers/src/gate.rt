@@ -1,0 +1,12 @@
+/// What each worker calls before each of its commits. It has no effect on any answer.
+pub trait Gate: Sync {
+    /// Called by a worker; workers are numbered from 1.
+    fn at(&self, worker: u32);
+}
+
+/// A gate that lets each worker through.
+pub struct Free;
+
+impl Gate for Free {
+    fn at(&self, _worker: u32) {}
+}

@@ -1,0 +1,14 @@
+//! A batch of parcels that workers bring to one book.
+#![tactic(auto)]
+
+mod batch;
+mod crew;
+mod gate;
+mod mark;
+
+pub use batch::{collect, gather};
+pub use gate::{Free, Gate};
+pub use mark::{CollectRefused, Collected, Mark};
+
+#[cfg(test)]
+mod tests;
