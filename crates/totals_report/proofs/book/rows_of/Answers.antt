@@ -1,0 +1,34 @@
+use Rattle.std.proofs.Common.{rules, arith, ◌≡◌, ◌++◌, ◌∙◌, ap, length, subst, sym, List}
+use Rattle.std.proofs.lemmas.List.{length-map}
+use Rattle.group_plan.specs.Plans.{IsWithinLimits, PlanView}
+use Rattle.group_plan.specs.NewPlans.{stated}
+use Rattle.std.specs.List.{flat_map, range_with_len}
+use Rattle.totals_report.specs.declared.row.ReportRow.{ReportRow}
+use Rattle.totals_report.specs.Rows.{AreRows}
+use Rattle.totals_report.specs.Books.{row_in}
+use Rattle.totals_report.specs.Reports.{group_rows, report_rows}
+use Rattle.totals_report.proofs.BookLemmas.{group_more}
+use Rattle.totals_report.proofs.FormLemmas.{rows_are}
+use Rattle.totals_report.proofs.book.rows_of.Goals as goal
+
+pub loop-group-preserved : goal.loop-group-preserved
+loop-group-preserved c =
+    let b = c.args.book.now in
+    let pushed : c.push_group.new.rows.items ≡ c.loop-group.rows.items ++ group_rows b.presence.plan (row_in b) c.loop-group.group = search rules in
+    group_more (group_rows b.presence.plan (row_in b)) c.loop-group.group c.loop-group.rows.items _ c.loop-group.invariant pushed
+
+pub returns-clause-rows : goal.returns-clause-rows
+unfolding report_rows
+returns-clause-rows c =
+    let b = c.args.book.now in
+    let long = ap length c.groups-group-end.ensures.groups ∙ length-map c.plan.result.now.groups stated ∙ ap (λ (p : PlanView). length p.groups) c.plan.ensures in
+    let all : c.loop-group.group ≡ length b.presence.plan.groups = omega (arith, long) in
+    c.new.ensures ∙ c.loop-group.invariant ∙ ap (λ n. flat_map (group_rows b.presence.plan (row_in b)) (range_with_len 0 n)) all
+
+pub returns-clause-form : goal.returns-clause-form
+returns-clause-form c =
+    let b = c.args.book.now in
+    let P : PlanView → Type 0 = IsWithinLimits in
+    let Q : List ReportRow → Type 0 = AreRows in
+    let rows : c.new.result ≡ report_rows b.presence.plan (row_in b) = returns-clause-rows c in
+    subst Q (sym rows) (rows_are b (subst P c.plan.ensures c.groups-group-end.ensures.limits))

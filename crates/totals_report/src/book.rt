@@ -1,0 +1,92 @@
+//! The rows, the report and the summary of a book.
+ghost use Rattle.std.specs.Prelude.{◌≡◌, ◌<◌, ◌++◌, length, IfOk, IsTrue, OnOk};
+ghost use Rattle.group_book.specs.Books.{has_round};
+ghost use Rattle.totals_report.specs.Reading.{rows_of_text};
+ghost use Rattle.totals_report.specs.Rows.{AreRows};
+ghost use Rattle.totals_report.specs.Books.{outcome_of_state, row_in, summary_in};
+ghost use Rattle.totals_report.specs.Reports.{group_rows, report_row, report_rows, report_text, summary_text};
+
+use crate::counts::{Counts, count_lines, count_outcomes};
+use crate::row::{Report, ReportRow, RowOutcome};
+use crate::writing::{rows_text, summary_line};
+use group_book::{Book, OutcomeState};
+use std::alloc::{AllocError, Global};
+use transcript_text::members;
+
+fn row_outcome(state: OutcomeState) -> RowOutcome
+    ensures { result ≡ outcome_of_state state }
+{
+    match state {
+        OutcomeState::Running => RowOutcome::Running,
+        OutcomeState::Thin => RowOutcome::Thin,
+        OutcomeState::Total(total) => RowOutcome::Total(total),
+        OutcomeState::Lacking(_) => RowOutcome::Lacking,
+    }
+}
+
+/// The row of a round.
+fn row(book: &Book, group: u16, round: u32) -> ReportRow
+    requires { IsTrue (has_round book.now group round) }
+    ensures { result ≡ report_row book.now.presence.plan group round (row_in book.now group round) }
+{
+    let plan = book.plan();
+    let outcome = book.outcome(group, round);
+    ReportRow {
+        name: plan.groups()[group as usize].name,
+        round,
+        survivors: outcome.survivors.len(),
+        missing: members(plan, group, round).minus(outcome.survivors),
+        outcome: row_outcome(outcome.state),
+    }
+}
+
+/// Adds the rows of a group, by round.
+fn push_group(rows: &mut Vec<ReportRow>, book: &Book, group: u16) -> Result<(), AllocError>
+    requires { group < length book.now.presence.plan.groups }
+    ensures { OnOk result (rows.new.items ≡ rows.old.items ++ group_rows book.now.presence.plan (row_in book.now) group) }
+{
+    for round in 0..book.plan().rounds() {
+        rows.push(row(book, group, round))?;
+    }
+    Ok(())
+}
+
+/// The rows of the book's rounds, by group and then by round.
+pub fn rows_of(alloc: Global, book: &Book) -> Result<Report, AllocError>
+    ensures rows { IfOk result (λ rows. rows ≡ report_rows book.now.presence.plan (row_in book.now)) }
+    ensures form { IfOk result (λ rows. AreRows rows) }
+{
+    let mut rows = Vec::new(alloc);
+    for group in 0..book.plan().groups().len() {
+        push_group(&mut rows, book, group as u16)?;
+    }
+    Ok(Report::new(rows))
+}
+
+/// The text of the book's report.
+pub fn report(alloc: Global, book: &Book) -> Result<Vec<u8>, AllocError>
+    ensures text { IfOk result (λ text. text.items ≡ report_text book.now.presence.plan (row_in book.now)) }
+    ensures read_again { IfOk result (λ text. rows_of_text text.items ≡ Ok (report_rows book.now.presence.plan (row_in book.now))) }
+{
+    let report = rows_of(alloc, book)?;
+    rows_text(alloc, report.rows())
+}
+
+/// The line of the book's summary, with its newline.
+pub fn summary(alloc: Global, book: &Book) -> Result<Vec<u8>, AllocError>
+    ensures { IfOk result (λ text. text.items ≡ summary_text (summary_in book.now)) }
+{
+    let report = rows_of(alloc, book)?;
+    let outcomes = count_outcomes(report.rows());
+    let (sends, takes) = count_lines(book.journal());
+    let plan = book.plan();
+    let counts = Counts {
+        rounds: plan.groups().len() as u64 * u64::from(plan.rounds()),
+        totals: outcomes.totals,
+        nones: outcomes.nones,
+        thins: outcomes.thins,
+        sends,
+        takes,
+    };
+    summary_line(alloc, &counts)
+}

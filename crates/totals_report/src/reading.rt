@@ -1,0 +1,173 @@
+//! Rows read from the text of a report.
+ghost use Rattle.std.specs.Prelude.{◌≡◌, ◌≤◌, List, IfSome};
+ghost use Rattle.link_lanes.specs.Texts.{number, parts};
+ghost use Rattle.totals_report.specs.declared.row.ReportRow.{ReportRow};
+ghost use Rattle.totals_report.specs.Rows.{AreRows};
+ghost use Rattle.totals_report.specs.Texts.{rows_text};
+ghost use Rattle.totals_report.specs.Reading.{set_of, outcome_of, without_total, row_of, rows_from, rows_of_text, Gives};
+ghost use Rattle.totals_report.specs.Faults.{ReadEnds};
+
+use crate::cut::{cut, split_row};
+use crate::row::{Report, ReportError, ReportRow, RowOutcome};
+use group_plan::Name;
+use missing_round::MeterSet;
+use std::alloc::Global;
+
+/// The first line of a report.
+const HEADING: &[u8] = b"group,round,survivors,missing,outcome,total";
+
+/// The number from `low` to `high` that the text spells.
+#[tactic(auto, using(crate::proofs::NumberLemmas::number_empty, crate::proofs::NumberLemmas::number_zero, crate::proofs::NumberLemmas::number_start, crate::proofs::NumberLemmas::number_step, crate::proofs::NumberLemmas::number_stop, crate::proofs::NumberLemmas::number_large, crate::proofs::NumberLemmas::number_small, crate::proofs::NumberLemmas::number_end))]
+fn number(text: &[u8], low: u64, high: u64) -> Option<u64>
+    ensures value { result ≡ number low high text.now }
+    ensures range { IfSome result (λ n. (low ≤ n) × (n ≤ high)) }
+{
+    if text.is_empty() {
+        return None;
+    }
+    if text.len() > 1 && text[0] == b'0' {
+        return None;
+    }
+    let mut value = 0u64;
+    for digit in text {
+        if !digit.is_ascii_digit() {
+            return None;
+        }
+        value = value
+            .checked_mul(10)?
+            .checked_add(u64::from(*digit - b'0'))?;
+        if value > high {
+            return None;
+        }
+    }
+    if value < low {
+        return None;
+    }
+    Some(value)
+}
+
+/// The set of meters that the text spells.
+#[tactic(auto, using(crate::proofs::SetLemmas::none_ahead, crate::proofs::SetLemmas::set_bad, crate::proofs::SetLemmas::set_last), unfolding(crate::specs::Reading::set_of))]
+fn set(text: &[u8]) -> Option<MeterSet>
+    ensures { result ≡ set_of text.now }
+{
+    let mut set = MeterSet::empty();
+    if text == b"-".as_slice() {
+        return Some(set);
+    }
+    let mut low = 0u64;
+    let mut rest = text;
+    while let Some((part, after)) = cut(b'+', rest) {
+        let Some(meter) = number(part, low, 255) else {
+            return None;
+        };
+        set = set.with(meter as u8);
+        low = meter + 1;
+        rest = after;
+    }
+    let Some(meter) = number(rest, low, 255) else {
+        return None;
+    };
+    Some(set.with(meter as u8))
+}
+
+/// The outcome of this word, with this text beside it.
+#[tactic(auto, unfolding(crate::specs::Reading::outcome_of))]
+fn outcome(word: &[u8], total: &[u8]) -> Option<RowOutcome>
+    ensures { result ≡ outcome_of word.now total.now }
+{
+    if word == b"total".as_slice() {
+        let total = number(total, 0, u64::MAX)?;
+        return Some(RowOutcome::Total(total));
+    }
+    if word == b"none".as_slice() {
+        return without_total(RowOutcome::Lacking, total);
+    }
+    if word == b"thin".as_slice() {
+        return without_total(RowOutcome::Thin, total);
+    }
+    if word == b"open".as_slice() {
+        return without_total(RowOutcome::Running, total);
+    }
+    None
+}
+
+/// The outcome, where nothing stands beside its word.
+fn without_total(outcome: RowOutcome, total: &[u8]) -> Option<RowOutcome>
+    ensures { result ≡ without_total outcome total.now }
+{
+    if total.is_empty() {
+        Some(outcome)
+    } else {
+        None
+    }
+}
+
+/// The row that a line spells.
+#[tactic(auto, using(crate::proofs::RowLemmas::not_six), unfolding(crate::specs::Reading::row_of))]
+fn row(line: &[u8]) -> Option<ReportRow>
+    ensures { result ≡ row_of (parts 44 line.now) }
+{
+    let fields = split_row(line)?;
+    let name = Name::new(fields.name)?;
+    let round = number(fields.round, 0, 4095)?;
+    let survivors = number(fields.survivors, 0, 256)?;
+    let missing = set(fields.missing)?;
+    let outcome = outcome(fields.outcome, fields.total)?;
+    Some(ReportRow {
+        name,
+        round: round as u32,
+        survivors: survivors as u16,
+        missing,
+        outcome,
+    })
+}
+
+/// The report with the rows of these lines, which are those below the heading.
+#[tactic(auto, using(crate::proofs::LineLemmas::none_onto))]
+fn rows(alloc: Global, text: &[u8]) -> Result<Report, ReportError>
+    ensures { Gives (rows_from 2 (parts 10 text.now)) result }
+{
+    let mut rows = Vec::new(alloc);
+    let mut rest = text;
+    let mut number = 2u64;
+    while let Some((line, after)) = cut(b'\n', rest) {
+        let Some(row) = row(line) else {
+            return Err(ReportError::Line(number));
+        };
+        rows.push(row)?;
+        number += 1;
+        rest = after;
+    }
+    if !rest.is_empty() {
+        return Err(ReportError::Line(number));
+    }
+    Ok(Report::new(rows))
+}
+
+/// The report that the bytes spell.
+#[tactic(auto, using(crate::proofs::LineLemmas::no_line, crate::proofs::LineLemmas::heading_wrong, crate::proofs::LineLemmas::heading_read))]
+fn read(alloc: Global, bytes: &[u8]) -> Result<Report, ReportError>
+    ensures { Gives (rows_of_text bytes.now) result }
+{
+    let Some((heading, rest)) = cut(b'\n', bytes) else {
+        return Err(ReportError::Line(1));
+    };
+    if heading == HEADING {
+        rows(alloc, rest)
+    } else {
+        Err(ReportError::Line(1))
+    }
+}
+
+/// The report whose text the bytes are.
+///
+/// Line `n` is refused where it is the first that is not of the form: line 1 is the heading, and each other line is a
+/// row's, with its newline.
+pub fn read_report(alloc: Global, bytes: &[u8]) -> Result<Report, ReportError>
+    ensures exact { Gives (rows_of_text bytes.now) result }
+    ensures ends { ReadEnds bytes.now result }
+    ensures only { (rows : List ReportRow) → AreRows rows → bytes.now ≡ rows_text rows → Gives (Ok rows) result }
+{
+    read(alloc, bytes)
+}
