@@ -1,0 +1,301 @@
+-- How a run goes on, stage by stage.
+use Rattle.std.proofs.Common.{◌≡◌, ℕ, zero, suc, ◌+◌, ◌-◌, ◌*◌, ◌<◌, ◌≤◌, Bool, true, false, cond, not, ◌&&◌, ◌||◌, List, [], ◌∷◌, ◌++◌, length, map, refl, sym, ap, ◌∙◌, subst, append-nil, arith, ⊎_elim}
+use Rattle.std.specs.Prelude.{◌==◌, nat_lt, nat_le, if◌then◌else◌, Option, Some, None, is_some}
+use mathlib.Core.List.{reverse}
+use mathlib.Core.Path.{fun_ext}
+use Rattle.std.specs.List.{sum_by, count_by, filter, flat_map, range_with_len, list_any, All, AllZip}
+use Rattle.std.proofs.lemmas.Bool.{false≢true, cases_lt, cases_eq, lt-ltb, eqb-true, ltb-true, not-true}
+use Rattle.std.proofs.lemmas.Bool.Decides.{nat_tests}
+use Rattle.std.proofs.lemmas.List.{map-append}
+use Rattle.std.proofs.lemmas.List.Elements.{All-head, All-tail, All-weaker, All-nil, All-cons, All-map, All-append}
+use Rattle.std.proofs.lemmas.List.Sums.{sum_by-cons, sum_by-append, sum_by_push}
+use Rattle.missing_round.specs.Masks.{Masks}
+use Rattle.group_plan.specs.Tables.{ReadingsView, reading, presence_of}
+use Rattle.group_plan.specs.declared.Kind.TheVariants.{Announcement}
+use Rattle.group_plan.specs.declared.Tag.{Tag}
+use Rattle.lossy_link.specs.Arrivals.{Arrival, posted, due_at, due_elsewhere}
+use Rattle.meter_frames.specs.declared.Frame.{Frame}
+use Rattle.transcript_log.specs.declared.Event.{Event}
+use Rattle.transcript_log.specs.declared.Event.TheVariants.{Send, Take, Close, End}
+use Rattle.transcript_log.specs.declared.Line.{Line}
+use Rattle.transcript_log.specs.declared.Line.TheVariants.{Send as SendLine}
+use Rattle.transcript_log.specs.declared.Entry.{Entry}
+use Rattle.transcript_log.specs.Events.{is_take, is_send, is_close, is_end, event_of, lines_of}
+use Rattle.transcript_log.specs.Schedule.{Shape, may_send, is_announcement_taken}
+use Rattle.transcript_log.specs.Transcript.{Contents, frame}
+use Rattle.transcript_log.specs.Journal.{past_of, HasFramesOf}
+use Rattle.transcript_log.proofs.ListLemmas.{sum_by-map}
+use Rattle.run_rows.specs.Ticks.{Clock, clock_of, phase, tag_of, takes_at, copies, sent_at, due_of}
+use Rattle.transcript_text.specs.Transcripts.{TranscriptView, no_entries}
+use Rattle.group_book.specs.Books.{BookView}
+use Rattle.tick_run.specs.OnTheWay.{same_tag, is_copy, AreOnTheWay}
+use Rattle.tick_run.specs.Progress.{IsDelay, IsTimely, RunsTo, IsBatch, past_of_entries, sending}
+use Rattle.tick_run.specs.TickFrames.{was_taken, due_after, AreHeard, IsDue}
+use Rattle.tick_run.specs.Running.{Stage, starting, emptied, taken, closed, sending_at, run_shape, run_contents, IsRunning, quiet, AreCopiesDue, KeepCopies, HaveEvents, is_due, calls_of, calls_due}
+use Rattle.tick_run.proofs.LinkLemmas.{count-posted, count-due, count-elsewhere}
+use Rattle.tick_run.proofs.BatchLemmas.{AreSilent, silent-batch, copies-silent}
+use Rattle.tick_run.proofs.StepLemmas.{takes_step, closes_step}
+use Rattle.tick_run.proofs.SendLemmas.{at_start, run_later, send_step, sent_step, due_step, tick_over}
+use Rattle.tick_run.proofs.EndLemmas.{announcement_round, announcement_later}
+use Rattle.tick_run.proofs.FrameSteps.{may_of_frame, has_frames-append, has_frames-silent, past_of-lines}
+use Rattle.tick_run.proofs.DueLemmas.{due-taken}
+use Rattle.tick_run.proofs.CallLemmas.{closes-due, ends-due}
+
+-- ---- the first tick
+
+-- nothing is sent yet
+pub starts : (readings : ReadingsView) (m : Masks) (book : BookView) → book.presence ≡ presence_of readings → book.journal ≡ []
+    → IsRunning readings m (starting 0) book (no_entries readings.plan) []
+starts readings m book presence journal = record {
+  run = at_start (run_shape readings) (clock_of readings.plan);
+  presence = presence;
+  plan = refl;
+  journal = journal;
+  frames = tt;
+  link = λ z u from. refl;
+}
+
+-- ---- the copies of a tick
+
+pub empties : (readings : ReadingsView) (m : Masks) (t : ℕ) (book : BookView) (script : TranscriptView) (waiting : List Arrival)
+    → IsRunning readings m (starting t) book script waiting → IsRunning readings m (emptied t) book script (due_elsewhere t waiting)
+empties readings m t book script waiting is = record {
+  run = is.run;
+  presence = is.presence;
+  plan = is.plan;
+  journal = is.journal;
+  frames = is.frames;
+  link = λ z u from. count-elsewhere z t u waiting (λ e. omega arith) ∙ is.link z u (omega arith);
+}
+
+pub copies-due : (readings : ReadingsView) (m : Masks) (t : ℕ) (book : BookView) (script : TranscriptView) (waiting : List Arrival)
+    → IsRunning readings m (starting t) book script waiting → AreCopiesDue t script.entries (due_at t waiting)
+copies-due readings m t book script waiting is z = count-due z t waiting ∙ is.link z t (omega arith)
+
+-- ---- a batch
+
+-- what no event of a list is, no added line is
+pub none_added : (events : List Event) (added : List Line) → HaveEvents events added → (test : Event → Bool) → All (λ e. test e ≡ false) events → All (λ l. test (event_of l) ≡ false) added
+none_added events added have test none = uncounted (λ l. test (event_of l)) added (have test ∙ counted_none test events none)
+  where
+    counted_none : {X : Type 0} (p : X → Bool) (xs : List X) → All (λ x. p x ≡ false) xs → count_by p xs ≡ 0
+    counted_none p [] all = refl
+    counted_none {X} p (x ∷ xs) all =
+        omega (arith, sum_by-cons (λ (y : X). cond {A = ℕ} (p y) 1 0) x xs, ap (λ b. cond {A = ℕ} b 1 0) (All-head (λ y. p y ≡ false) x xs all), counted_none p xs (All-tail (λ y. p y ≡ false) x xs all))
+
+    uncounted : {X : Type 0} (p : X → Bool) (xs : List X) → count_by p xs ≡ 0 → All (λ x. p x ≡ false) xs
+    uncounted p [] none = All-nil (λ x. p x ≡ false)
+    uncounted {X} p (x ∷ xs) none =
+        All-cons (λ y. p y ≡ false) x xs (off (p x) (omega (arith, none, sum_by-cons (λ (y : X). cond {A = ℕ} (p y) 1 0) x xs)))
+        (uncounted p xs (omega (arith, none, sum_by-cons (λ (y : X). cond {A = ℕ} (p y) 1 0) x xs)))
+      where
+        off : (b : Bool) → cond {A = ℕ} b 1 0 ≡ 0 → b ≡ false
+        off true h = absurd (omega arith)
+        off false h = refl
+
+-- the events of one phase give lines of that phase
+pub phases_added : (k : ℕ) (events : List Event) (added : List Line) → HaveEvents events added → All (λ e. phase e ≡ k) events → All (λ l. phase (event_of l) ≡ k) added
+phases_added k events added have all =
+    All-weaker (λ l. not (phase (event_of l) == k) ≡ false) (λ l. phase (event_of l) ≡ k) (λ l h. same (phase (event_of l)) h) added
+    (none_added events added have (λ e. not (phase e == k)) (All-weaker (λ e. phase e ≡ k) (λ e. not (phase e == k) ≡ false) (λ e is. off (phase e) is) events all))
+  where
+    same : (a : ℕ) → not (a == k) ≡ false → a ≡ k
+    same a h = grind (arith, nat_tests)
+
+    off : (a : ℕ) → a ≡ k → not (a == k) ≡ false
+    off a h = grind (arith, nat_tests)
+
+pub batch_of : (t k : ℕ) (added : List Line) → All (λ l. phase (event_of l) ≡ k) added → IsBatch t k (map (quiet t) added)
+batch_of t k added phases = record {
+  ticks = All-map (λ e. e.tick ≡ t) (quiet t) added (each added);
+  phases = All-map (λ e. phase (event_of e.line) ≡ k) (quiet t) added phases;
+  fates = All-map (λ e. e.fate ≡ []) (quiet t) added (none added);
+}
+  where
+    each : (ls : List Line) → All (λ l. t ≡ t) ls
+    each [] = All-nil (λ (l : Line). t ≡ t)
+    each (l ∷ ls) = All-cons (λ (z : Line). t ≡ t) l ls refl (each ls)
+
+    none : (ls : List Line) → All (λ l. ◌≡◌ {A = List ℕ} [] []) ls
+    none [] = All-nil (λ (l : Line). ◌≡◌ {A = List ℕ} [] [])
+    none (l ∷ ls) = All-cons (λ (z : Line). ◌≡◌ {A = List ℕ} [] []) l ls refl (none ls)
+
+lines_quiet : (t : ℕ) (added : List Line) → lines_of (map (quiet t) added) ≡ added
+lines_quiet t [] = refl
+lines_quiet t (l ∷ added) = ap (λ ls. l ∷ ls) (lines_quiet t added)
+
+lines_append : (xs : List Entry) (t : ℕ) (added : List Line) → lines_of (xs ++ map (quiet t) added) ≡ lines_of xs ++ added
+lines_append xs t added = map-append (λ e. e.line) xs (map (quiet t) added) ∙ ap (λ l. lines_of xs ++ l) (lines_quiet t added)
+
+count_quiet : (test : Event → Bool) (t : ℕ) (added : List Line) → count_by (λ e. test (event_of e.line)) (map (quiet t) added) ≡ count_by (λ l. test (event_of l)) added
+count_quiet test t added = sum_by-map (λ (e : Entry). cond {A = ℕ} (test (event_of e.line)) 1 0) (quiet t) added
+
+-- a batch adds lines and entries, and nothing to the link
+batch_adds : (readings : ReadingsView) (m : Masks) (from to : Stage) (t k : ℕ) (book after : BookView) (script done : TranscriptView) (waiting : List Arrival) (added : List Line)
+    → k < 2 → IsRunning readings m from book script waiting → All (λ l. phase (event_of l) ≡ k) added → to.onward ≡ from.onward
+    → after.presence ≡ book.presence → after.journal ≡ book.journal ++ added → done ≡ record script { entries = script.entries ++ map (quiet t) added }
+    → RunsTo (run_shape readings) (clock_of readings.plan) to.moment to.takes to.closes to.sends (script.entries ++ map (quiet t) added)
+    → IsRunning readings m to after done waiting
+batch_adds readings m from to t k book after script done waiting added small is phases onward presence journal pushed run =
+    subst (λ d. IsRunning readings m to after d waiting) (sym pushed) (record {
+      run = run;
+      presence = presence ∙ is.presence;
+      plan = is.plan;
+      journal = journal ∙ ap (λ j. j ++ added) is.journal ∙ sym (lines_append script.entries t added);
+      frames = subst (HasFramesOf (run_shape readings) (run_contents readings m) []) (sym (lines_append script.entries t added))
+          (has_frames-append (run_shape readings) (run_contents readings m) [] (lines_of script.entries) added is.frames
+          (has_frames-silent (run_shape readings) (run_contents readings m) (lines_of script.entries) added (All-weaker (λ l. phase (event_of l) ≡ k) (λ l. phase (event_of l) < 2) (λ l h. omega arith) added phases)));
+      link = λ z u le. is.link z u (omega arith)
+          ∙ omega (arith, sum_by-append (copies z u) script.entries (map (quiet t) added), copies-silent (map (quiet t) added) z u (silent-batch t k (map (quiet t) added) small (batch_of t k added phases)));
+    })
+
+-- ---- the Takes
+
+pub all_takes : (tags : List Tag) → All (λ e. phase e ≡ 0) (map Take tags)
+all_takes [] = All-nil (λ e. phase e ≡ 0)
+all_takes (z ∷ tags) = All-cons (λ e. phase e ≡ 0) (Take z) (map Take tags) refl (all_takes tags)
+
+pub takes : (readings : ReadingsView) (m : Masks) (t : ℕ) (book after : BookView) (script done : TranscriptView) (waiting : List Arrival) (tags : List Tag) (added : List Line)
+    → IsRunning readings m (emptied t) book script waiting → AreCopiesDue t script.entries tags → HaveEvents (map Take tags) added
+    → after.presence ≡ book.presence → after.journal ≡ book.journal ++ added → done ≡ record script { entries = script.entries ++ map (quiet t) added }
+    → IsRunning readings m (taken t) after done waiting
+takes readings m t book after script done waiting tags added is due have presence journal pushed =
+    let phases = phases_added 0 (map Take tags) added have (all_takes tags) in
+    batch_adds readings m (emptied t) (taken t) t 0 book after script done waiting added (omega arith) is phases refl presence journal pushed
+    (takes_step (run_shape readings) (clock_of readings.plan) t script.entries (map (quiet t) added) is.run (batch_of t 0 added phases)
+    (λ z. count_quiet (is_take z.group z.round z.meter z.kind) t added ∙ have (is_take z.group z.round z.meter z.kind)
+    ∙ sum_by-map (λ (e : Event). cond {A = ℕ} (is_take z.group z.round z.meter z.kind e) 1 0) Take tags ∙ due z))
+
+-- a batch sends no copies
+pub keeps-copies : (t k u : ℕ) (xs : List Entry) (added : List Line) → k < 2 → All (λ l. phase (event_of l) ≡ k) added → KeepCopies u xs (xs ++ map (quiet t) added)
+keeps-copies t k u xs added small phases z =
+    omega (arith, sum_by-append (copies z u) xs (map (quiet t) added), copies-silent (map (quiet t) added) z u (silent-batch t k (map (quiet t) added) small (batch_of t k added phases)))
+
+pub takes-keep : (t : ℕ) (script done : TranscriptView) (tags : List Tag) (added : List Line) → HaveEvents (map Take tags) added → done ≡ record script { entries = script.entries ++ map (quiet t) added }
+    → KeepCopies t script.entries done.entries
+takes-keep t script done tags added have pushed =
+    subst (λ d. KeepCopies t script.entries d.entries) (sym pushed) (keeps-copies t 0 t script.entries added (omega arith) (phases_added 0 (map Take tags) added have (all_takes tags)))
+
+some_counted : (p : Tag → Bool) (zs : List Tag) → nat_lt 0 (count_by p zs) ≡ list_any p zs
+some_counted p [] = refl
+some_counted p (y ∷ zs) = ap (nat_lt 0) (sum_by-cons (λ (w : Tag). cond {A = ℕ} (p w) 1 0) y zs) ∙ step (p y) (some_counted p zs)
+  where
+    positive : (n : ℕ) → nat_lt 0 (1 + n) ≡ true
+    positive n = grind (arith, nat_tests)
+
+    plain : (n : ℕ) → nat_lt 0 (0 + n) ≡ nat_lt 0 n
+    plain n = grind (arith, nat_tests)
+
+    step : (b : Bool) → nat_lt 0 (count_by p zs) ≡ list_any p zs → nat_lt 0 (cond {A = ℕ} b 1 0 + count_by p zs) ≡ (b || list_any p zs)
+    step true later = positive (count_by p zs)
+    step false later = plain (count_by p zs) ∙ later
+
+-- the Takes of the tick are the copies that were due
+pub takes-are : (s : Shape) (c : Clock) (m b d t : ℕ) (xs : List Entry) (tags : List Tag) → RunsTo s c m (t + 1) b d xs → AreCopiesDue t xs tags → (z : Tag) → nat_lt 0 (takes_at xs z t) ≡ was_taken tags z
+takes-are s c m b d t xs tags run due z = ap (nat_lt 0) (run.taken z t (omega arith) ∙ sym (due z)) ∙ some_counted (same_tag z) tags
+
+-- ---- the Closes and Ends
+
+pub all_calls : (c : Clock) (t a n : ℕ) → All (λ e. phase e ≡ 1) (flat_map (calls_of c t) (range_with_len a n))
+all_calls c t a zero = All-nil (λ e. phase e ≡ 1)
+all_calls c t a (suc n) =
+    All-append (λ e. phase e ≡ 1) (calls_of c t a) (flat_map (calls_of c t) (range_with_len (a + 1) n))
+    (All-append (λ e. phase e ≡ 1) (if is_due c.rounds c.w1 t then Close a (t - c.w1) ∷ [] else []) (if is_due c.rounds (c.w1 + c.w2) t then End a (t - (c.w1 + c.w2)) ∷ [] else [])
+    (one (is_due c.rounds c.w1 t) (Close a (t - c.w1)) refl) (one (is_due c.rounds (c.w1 + c.w2) t) (End a (t - (c.w1 + c.w2))) refl))
+    (all_calls c t (a + 1) n)
+  where
+    one : (b : Bool) (e : Event) → phase e ≡ 1 → All (λ e. phase e ≡ 1) (if b then e ∷ [] else [])
+    one true e is = All-cons (λ e. phase e ≡ 1) e [] is (All-nil (λ e. phase e ≡ 1))
+    one false e is = All-nil (λ e. phase e ≡ 1)
+
+pub closes : (readings : ReadingsView) (m : Masks) (t : ℕ) (book after : BookView) (script done : TranscriptView) (waiting : List Arrival) (added : List Line)
+    → IsRunning readings m (taken t) book script waiting → HaveEvents (calls_due (clock_of readings.plan) (length readings.plan.groups) t) added
+    → after.presence ≡ book.presence → after.journal ≡ book.journal ++ added → done ≡ record script { entries = script.entries ++ map (quiet t) added }
+    → IsRunning readings m (closed t) after done waiting
+closes readings m t book after script done waiting added is have presence journal pushed =
+    let c : Clock = clock_of readings.plan in
+    let n : ℕ = length readings.plan.groups in
+    let phases = phases_added 1 (calls_due c n t) added have (all_calls c t 0 n) in
+    batch_adds readings m (taken t) (closed t) t 1 book after script done waiting added (omega arith) is phases refl presence journal pushed
+    (closes_step (run_shape readings) c t script.entries (map (quiet t) added) is.run (batch_of t 1 added phases)
+    (λ g r. count_quiet (is_close g r) t added ∙ have (is_close g r) ∙ closes-due c n t g r)
+    (λ g r. count_quiet (is_end g r) t added ∙ have (is_end g r) ∙ ends-due c n t g r))
+
+pub closes-keep : (readings : ReadingsView) (t : ℕ) (script done : TranscriptView) (added : List Line) → HaveEvents (calls_due (clock_of readings.plan) (length readings.plan.groups) t) added
+    → done ≡ record script { entries = script.entries ++ map (quiet t) added } → KeepCopies t script.entries done.entries
+closes-keep readings t script done added have pushed =
+    let c : Clock = clock_of readings.plan in
+    let n : ℕ = length readings.plan.groups in
+    subst (λ d. KeepCopies t script.entries d.entries) (sym pushed) (keeps-copies t 1 t script.entries added (omega arith) (phases_added 1 (calls_due c n t) added have (all_calls c t 0 n)))
+
+-- ---- the Sends
+
+-- the announcements taken in this tick are heard
+pub hears : (readings : ReadingsView) (m : Masks) (t : ℕ) (book : BookView) (script : TranscriptView) (waiting : List Arrival) (tags : List Tag)
+    → IsRunning readings m (closed t) book script waiting → AreCopiesDue t script.entries tags → AreHeard (run_shape readings) (clock_of readings.plan) (past_of_entries script.entries) t tags
+hears readings m t book script waiting tags is due =
+    let s : Shape = run_shape readings in
+    let c : Clock = clock_of readings.plan in
+    let some : (g r i : ℕ) → was_taken tags (tag_of Announcement g r i) ≡ true → 0 < takes_at script.entries (tag_of Announcement g r i) t
+    = λ g r i told. ltb-true 0 (takes_at script.entries (tag_of Announcement g r i) t) (takes-are s c (3 * t + 2) (t + 1) t t script.entries tags is.run due (tag_of Announcement g r i) ∙ told) in
+    record {
+      effect = λ g r i told. is.run.heard g r i t (some g r i told);
+      round = λ g r i told. (announcement_round s c (3 * t + 2) (t + 1) (t + 1) t script.entries is.run g r i t (omega arith) (some g r i told)).0;
+      early = λ g r i told. announcement_later s c (3 * t + 2) (t + 1) (t + 1) t script.entries is.run g r i t (omega arith) (some g r i told);
+      late = λ g r i told. (announcement_round s c (3 * t + 2) (t + 1) (t + 1) t script.entries is.run g r i t (omega arith) (some g r i told)).1;
+    }
+
+-- what is due by the entries is what is due after the copies that were taken
+pub due-now : (readings : ReadingsView) (m : Masks) (t : ℕ) (book : BookView) (script : TranscriptView) (waiting : List Arrival) (tags : List Tag)
+    → IsRunning readings m (closed t) book script waiting → AreCopiesDue t script.entries tags
+    → (g : ℕ) → due_of (run_shape readings) (clock_of readings.plan) script.entries t g ≡ due_after (run_shape readings) (clock_of readings.plan) (past_of_entries script.entries) tags t g
+due-now readings m t book script waiting tags is due g =
+    due-taken (run_shape readings) (clock_of readings.plan) script.entries tags t g (takes-are (run_shape readings) (clock_of readings.plan) (3 * t + 2) (t + 1) t t script.entries tags is.run due)
+
+pub sends-begin : (readings : ReadingsView) (m : Masks) (t : ℕ) (book : BookView) (script : TranscriptView) (waiting : List Arrival)
+    → IsRunning readings m (closed t) book script waiting → IsRunning readings m (sending_at t) book script waiting
+sends-begin readings m t book script waiting is = record {
+  run = run_later (run_shape readings) (clock_of readings.plan) (3 * t + 2) (3 * t + 3) (t + 1) (t + 1) t script.entries (omega arith) is.run;
+  presence = is.presence;
+  plan = is.plan;
+  journal = is.journal;
+  frames = is.frames;
+  link = is.link;
+}
+
+-- one more frame is sent
+pub sends : (readings : ReadingsView) (m : Masks) (t : ℕ) (book after : BookView) (script done : TranscriptView) (waiting left : List Arrival) (f : Frame) (fate : List ℕ)
+    → IsRunning readings m (sending_at t) book script waiting → IsDue (run_shape readings) (clock_of readings.plan) (run_contents readings m) (past_of_entries script.entries) t f
+    → All IsDelay fate → after.presence ≡ book.presence → after.journal ≡ book.journal ++ SendLine f.tag (Some f) ∷ []
+    → done ≡ record script { entries = script.entries ++ sending t f.tag (Some f) fate ∷ [] } → left ≡ posted t f.tag fate waiting
+    → IsRunning readings m (sending_at t) after done left
+sends readings m t book after script done waiting left f fate is due delays presence journal pushed post =
+    let s : Shape = run_shape readings in
+    let c : Clock = clock_of readings.plan in
+    let w : Contents = run_contents readings m in
+    let x : Entry = sending t f.tag (Some f) fate in
+    let lines : lines_of (script.entries ++ x ∷ []) ≡ lines_of script.entries ++ SendLine f.tag (Some f) ∷ [] = map-append (λ e. e.line) script.entries (x ∷ []) in
+    subst (λ d. IsRunning readings m (sending_at t) after d left) (sym pushed) (record {
+      run = send_step s c t script.entries f.tag (Some f) fate is.run delays due.in_time (may_of_frame s w f.tag f (past_of_entries script.entries) due.is);
+      presence = presence ∙ is.presence;
+      plan = is.plan;
+      journal = journal ∙ ap (λ j. j ++ SendLine f.tag (Some f) ∷ []) is.journal ∙ sym lines;
+      frames = subst (HasFramesOf s w []) (sym lines)
+          (has_frames-append s w [] (lines_of script.entries) (SendLine f.tag (Some f) ∷ []) is.frames (sym (ap (frame s w f.tag) (past_of-lines script.entries) ∙ due.is), tt));
+      link = λ z u from. ap (count_by (is_copy z u)) post ∙ count-posted z u t f.tag fate waiting
+          ∙ ap (λ n. n + (if same_tag z f.tag then count_by (λ d. t + d == u) fate else 0)) (is.link z u from) ∙ sym (sum_by_push (copies z u) script.entries x);
+    })
+
+-- the tick is over
+pub tick-over : (readings : ReadingsView) (m : Masks) (t : ℕ) (book : BookView) (script : TranscriptView) (waiting : List Arrival)
+    → IsRunning readings m (sending_at t) book script waiting
+    → sent_at script.entries t ≡ flat_map (due_of (run_shape readings) (clock_of readings.plan) script.entries t) (range_with_len 0 (length readings.plan.groups))
+    → IsRunning readings m (starting (t + 1)) book script waiting
+tick-over readings m t book script waiting is all = record {
+  run = tick_over (run_shape readings) (clock_of readings.plan) t script.entries is.run all;
+  presence = is.presence;
+  plan = is.plan;
+  journal = is.journal;
+  frames = is.frames;
+  link = is.link;
+}

@@ -1,0 +1,11 @@
+use Rattle.std.proofs.Common.{◌≡◌, ◌++◌, IsTrue, map, filter}
+use Rattle.missing_round.specs.Sets.{is_member}
+use Rattle.mask_stream.specs.ChaMaskTables.{plan_of, words_of}
+use Rattle.blind_core.specs.Blind.{are_places}
+use Rattle.tick_run.specs.TickFrames.{answer_frame}
+use Rattle.tick_run.proofs.frames.add_answers.Given as goal
+
+abbrev pub invariant-loop-meter : goal.invariant-loop-meter
+invariant-loop-meter l =
+    l.frames.items ++ map (answer_frame (words_of l.masks) l.group l.round l.missing) (filter (λ i. is_member i l.heard) l.meter-iterator)
+    ≡ l.fn.frames.items ++ map (answer_frame (words_of l.masks) l.group l.round l.missing) (filter (λ i. is_member i l.heard) l.members)

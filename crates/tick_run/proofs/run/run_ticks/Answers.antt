@@ -1,0 +1,29 @@
+use Rattle.std.proofs.Common.{◌≡◌, ◌≤◌, ◌+◌, ap, subst, ◌∙◌, ℕ, arith}
+use Rattle.group_plan.specs.Plans.{last_tick}
+use Rattle.mask_stream.specs.ChaMaskTables.{words_of}
+use Rattle.tick_run.specs.Running.{IsRunning, starting}
+use Rattle.tick_run.proofs.FinishLemmas.{kept-at}
+use Rattle.tick_run.proofs.run.run_ticks.Goals as goal
+
+pub loop-tick-preserved : goal.loop-tick-preserved
+loop-tick-preserved g c = record {
+  room = c.run_tick.ensures.room;
+  running = c.in_ok-run.ensures.running;
+  fates = λ hung kept. c.in_ok-run.ensures.fates hung (c.loop-tick.invariant.fates hung kept);
+}
+
+pub returns-clause-running : goal.returns-clause-running
+returns-clause-running g c =
+    let end : c.last_tick-tick-end.result ≡ last_tick c.args.readings.now.plan = c.last_tick-tick-end.ensures ∙ ap last_tick c.plan.ensures.plan in
+    let over = c.loop-tick-test.false in
+    let within = c.loop-tick.auto.tick-end in
+    let at : c.loop-tick.tick ≡ last_tick c.args.readings.now.plan + 1 = omega arith in
+    subst (λ (n : ℕ). IsRunning c.args.readings.now (words_of c.args.masks.now) (starting n) c.loop-tick.run.book c.loop-tick.run.transcript c.loop-tick.run.link) at c.loop-tick.invariant.running
+
+pub returns-clause-fates : goal.returns-clause-fates
+returns-clause-fates g c = λ hung kept.
+    let end : c.last_tick-tick-end.result ≡ last_tick c.args.readings.now.plan = c.last_tick-tick-end.ensures ∙ ap last_tick c.plan.ensures.plan in
+    let over = c.loop-tick-test.false in
+    let within = c.loop-tick.auto.tick-end in
+    let at : c.loop-tick.tick ≡ last_tick c.args.readings.now.plan + 1 = omega arith in
+    kept-at hung c.loop-tick.tick (last_tick c.args.readings.now.plan + 1) c.loop-tick.run.transcript.entries _ _ at (c.loop-tick.invariant.fates hung kept)

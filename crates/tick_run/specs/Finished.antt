@@ -1,0 +1,24 @@
+-- A run that is over.
+use Rattle.std.specs.Prelude.{◌≡◌, List}
+use Rattle.group_plan.specs.Plans.{IsWithinLimits}
+use Rattle.group_plan.specs.Tables.{ReadingsView, IsReadingTable, reading, presence_of}
+use Rattle.pair_keys.specs.Keys.{Keys}
+use Rattle.mask_stream.specs.KeyStreams.{streams}
+use Rattle.link_lanes.specs.Lanes.{Slot}
+use Rattle.transcript_log.specs.Events.{events_of, lines_of}
+use Rattle.transcript_log.specs.Schedule.{shape_of_presence}
+use Rattle.transcript_log.specs.Transcript.{transcript}
+use Rattle.run_rows.specs.Ticks.{clock_of, HaveDelays, IsTickRun}
+use Rattle.transcript_text.specs.Transcripts.{TranscriptView}
+use Rattle.group_book.specs.Books.{BookView}
+
+-- the entries are a tick run whose lines are the transcript of its events under the stream words of the keys; the book has these lines
+pub record IsFinished (readings : ReadingsView) (keys : Keys) (slots : List Slot) (book : BookView) (t : TranscriptView) : Type 0 where
+  pub limits : IsWithinLimits readings.plan
+  pub table : IsReadingTable readings.plan readings.table
+  pub ticks : IsTickRun (shape_of_presence (presence_of readings)) (clock_of readings.plan) slots t.entries
+  pub delays : HaveDelays t.entries
+  pub lines : lines_of t.entries ≡ transcript readings.plan.groups (reading readings.table) (streams keys) (events_of t.entries)
+  pub plan : t.plan ≡ readings.plan
+  pub presence : book.presence ≡ presence_of readings
+  pub journal : book.journal ≡ lines_of t.entries

@@ -1,0 +1,111 @@
+-- A run that goes on: its book, its transcript and its link, stage by stage of a tick.
+use Rattle.std.specs.Prelude.{◌≡◌, ℕ, ◌+◌, ◌-◌, ◌*◌, nat_le, nat_lt, Bool, ◌&&◌, List, [], ◌∷◌, ◌++◌, length, count_by, sum_by, if◌then◌else◌}
+use Rattle.std.specs.List.{AllZip, flat_map, range_with_len}
+use Rattle.missing_round.specs.Masks.{Masks}
+use Rattle.group_plan.specs.Tables.{ReadingsView, reading, presence_of}
+use Rattle.group_plan.specs.declared.Tag.{Tag}
+use Rattle.lossy_link.specs.Arrivals.{Arrival}
+use Rattle.transcript_log.specs.declared.Event.{Event}
+use Rattle.transcript_log.specs.declared.Event.TheVariants.{Take, Close, End}
+use Rattle.transcript_log.specs.declared.Line.{Line}
+use Rattle.transcript_log.specs.declared.Entry.{Entry}
+use Rattle.transcript_log.specs.Events.{event_of, lines_of}
+use Rattle.transcript_log.specs.Schedule.{Shape, shape_of_presence}
+use Rattle.transcript_log.specs.Transcript.{Contents, contents_of_tables}
+use Rattle.transcript_log.specs.Journal.{HasFramesOf}
+use Rattle.run_rows.specs.Ticks.{Clock, clock_of, copies}
+use Rattle.transcript_text.specs.Transcripts.{TranscriptView}
+use Rattle.group_book.specs.Books.{BookView}
+use Rattle.shared_book.specs.declared.parcel.Parcel.{Parcel}
+use Rattle.shared_book.specs.declared.parcel.Parcel.TheVariants.{Close as CloseParcel, End as EndParcel}
+use Rattle.shared_book.specs.Parcels.{Accepted, judged}
+use Rattle.tick_run.specs.OnTheWay.{same_tag, AreOnTheWay}
+use Rattle.tick_run.specs.Progress.{RunsTo}
+
+-- all entries stand before this moment; the ticks below `takes`, `closes` and `sends` have theirs; from tick `onward` on copies are on their way
+pub record Stage : Type 0 where
+  pub moment : ℕ
+  pub takes : ℕ
+  pub closes : ℕ
+  pub sends : ℕ
+  pub onward : ℕ
+
+-- tick t begins
+abbrev pub starting : ℕ → Stage
+starting t = record { moment = 3 * t; takes = t; closes = t; sends = t; onward = t }
+
+-- its copies are off the link
+abbrev pub emptied : ℕ → Stage
+emptied t = record { moment = 3 * t; takes = t; closes = t; sends = t; onward = t + 1 }
+
+-- its copies are taken
+abbrev pub taken : ℕ → Stage
+taken t = record { moment = 3 * t + 1; takes = t + 1; closes = t; sends = t; onward = t + 1 }
+
+-- its rounds are closed and ended
+abbrev pub closed : ℕ → Stage
+closed t = record { moment = 3 * t + 2; takes = t + 1; closes = t + 1; sends = t; onward = t + 1 }
+
+-- its frames are being sent
+abbrev pub sending_at : ℕ → Stage
+sending_at t = record { moment = 3 * t + 3; takes = t + 1; closes = t + 1; sends = t; onward = t + 1 }
+
+-- the shape of these readings, and what their lines say under these masks
+abbrev pub run_shape : ReadingsView → Shape
+run_shape readings = shape_of_presence (presence_of readings)
+
+abbrev pub run_contents : ReadingsView → Masks → Contents
+run_contents readings m = contents_of_tables readings.plan.groups (reading readings.table) m
+
+-- the entries are those of a tick run up to this stage; the book has their lines, with the words of these readings and masks; the link has what is on its way
+pub record IsRunning (readings : ReadingsView) (m : Masks) (at : Stage) (book : BookView) (t : TranscriptView) (waiting : List Arrival) : Type 0 where
+  pub run : RunsTo (run_shape readings) (clock_of readings.plan) at.moment at.takes at.closes at.sends t.entries
+  pub presence : book.presence ≡ presence_of readings
+  pub plan : t.plan ≡ readings.plan
+  pub journal : book.journal ≡ lines_of t.entries
+  pub frames : HasFramesOf (run_shape readings) (run_contents readings m) [] (lines_of t.entries)
+  pub link : AreOnTheWay at.onward t.entries waiting
+
+-- ---- batches
+
+-- the entry of a line that is no Send
+abbrev pub quiet : ℕ → Line → Entry
+quiet t line = record { tick = t; fate = []; line = line }
+
+-- these are the copies that are due at tick t
+abbrev pub AreCopiesDue : ℕ → List Entry → List Tag → Type 0
+AreCopiesDue t entries tags = (z : Tag) → count_by (same_tag z) tags ≡ sum_by (copies z t) entries
+
+-- no copies were sent for tick t since
+abbrev pub KeepCopies : ℕ → List Entry → List Entry → Type 0
+KeepCopies t before after = (z : Tag) → sum_by (copies z t) after ≡ sum_by (copies z t) before
+
+-- each parcel is accepted as its event
+abbrev pub Ask : BookView → List Event → List Parcel → Type 0
+Ask b events batch = AllZip (λ e p. judged b p ≡ Accepted e) events batch
+
+-- the added lines have these events, in some order
+abbrev pub HaveEvents : List Event → List Line → Type 0
+HaveEvents events added = (these : Event → Bool) → count_by (λ line. these (event_of line)) added ≡ count_by these events
+
+-- whether a round is due at tick t, so many ticks after it began
+abbrev pub is_due : ℕ → ℕ → ℕ → Bool
+is_due rounds window t = nat_le window t && nat_lt (t - window) rounds
+
+-- the Closes and Ends due at tick t in a group, and in all n groups
+abbrev pub calls_of : Clock → ℕ → ℕ → List Event
+calls_of c t g =
+    (if is_due c.rounds c.w1 t then Close g (t - c.w1) ∷ [] else [])
+    ++ (if is_due c.rounds (c.w1 + c.w2) t then End g (t - (c.w1 + c.w2)) ∷ [] else [])
+
+abbrev pub calls_due : Clock → ℕ → ℕ → List Event
+calls_due c n t = flat_map (calls_of c t) (range_with_len 0 n)
+
+-- the same as parcels
+abbrev pub parcels_of : Clock → ℕ → ℕ → List Parcel
+parcels_of c t g =
+    (if is_due c.rounds c.w1 t then CloseParcel g (t - c.w1) ∷ [] else [])
+    ++ (if is_due c.rounds (c.w1 + c.w2) t then EndParcel g (t - (c.w1 + c.w2)) ∷ [] else [])
+
+abbrev pub parcels_due : Clock → ℕ → ℕ → List Parcel
+parcels_due c n t = flat_map (parcels_of c t) (range_with_len 0 n)

@@ -1,0 +1,206 @@
+//! The two batches of a tick: its Takes, and its Closes and Ends.
+
+ghost use Rattle.std.specs.Prelude.{◌≡◌, ◌++◌, ◌-◌, ◌≤◌, ◌<◌, List, [], ◌∷◌, length, map, All, IfOk, OnOk, if◌then◌else◌};
+ghost use Rattle.transcript_log.specs.declared.Event.{Event};
+ghost use Rattle.transcript_log.specs.declared.Event.TheVariants.{Take};
+ghost use Rattle.transcript_text.specs.Transcripts.{last_tick_from, FitsLine};
+ghost use Rattle.shared_book.specs.Parcels.{Accepted, judged};
+ghost use Rattle.tick_run.specs.Batches.{CanTake, Batched};
+ghost use Rattle.tick_run.specs.Running.{Ask, quiet, is_due, calls_due, parcels_of, parcels_due};
+ghost use Rattle.run_rows.specs.Ticks.{clock_of};
+ghost use Rattle.shared_book.specs.declared.parcel.Parcel.TheVariants.{Close as CloseParcel, End as EndParcel};
+
+use crate::RunError;
+use crate::running::Running;
+use collector_workers::{Collected, Gate, collect};
+use group_book::Book;
+use group_plan::{Plan, Tag};
+use link_lanes::Fate;
+use meter_frames::encode;
+use shared_book::Parcel;
+use std::alloc::{AllocError, Global};
+use std::sync::Wait;
+use std::thread::Threads;
+use transcript_log::{Entry, Line};
+use transcript_text::Transcript;
+
+/// The frame that is posted under the tag, as it comes from the link.
+fn parcel_of(book: &Book, tag: Tag) -> Parcel
+    requires { CanTake book.now tag }
+    ensures { judged book.now result ≡ Accepted (Take tag) }
+{
+    match book.posted(tag) {
+        Some(frame) => Parcel::Bytes(encode(&frame)),
+        None => unreachable!(),
+    }
+}
+
+/// The frames that are posted under the tags, in order.
+fn copies_of(alloc: Global, book: &Book, tags: &[Tag]) -> Result<Vec<Parcel>, AllocError>
+    requires { All (CanTake book.now) tags.now }
+    ensures { IfOk result (λ batch. Ask book.now (map Take tags.now) batch.items) }
+{
+    let mut batch = Vec::new(alloc);
+    for tag in tags {
+        batch.push(parcel_of(book, *tag))?;
+    }
+    Ok(batch)
+}
+
+/// The fate of a line that is no Send.
+fn no_copies() -> Fate
+    ensures { result ≡ [] }
+{
+    match Fate::new(&[]) {
+        Ok(fate) => fate,
+        Err(_) => unreachable!(),
+    }
+}
+
+/// Adds lines at a tick to the transcript.
+fn push_lines(transcript: &mut Transcript, lines: &[Line], tick: u32) -> Result<(), AllocError>
+    requires later { last_tick_from 0 transcript.old.entries ≤ tick }
+    requires lines { All (FitsLine transcript.old.plan []) lines.now }
+    ensures { OnOk result (transcript.new ≡ record transcript.old { entries = transcript.old.entries ++ map (quiet tick) lines.now }) }
+{
+    for line in lines {
+        transcript.push(Entry {
+            tick,
+            fate: no_copies(),
+            line: *line,
+        })?;
+    }
+    Ok(())
+}
+
+/// Commits a batch by workers, and adds the lines that the book gained to the transcript at the tick.
+fn commit_batch<R: Threads + Wait + Sync, G: Gate>(
+    rt: &R,
+    alloc: Global,
+    run: Running,
+    batch: &[Parcel],
+    tick: u32,
+    workers: u32,
+    gate: &G,
+) -> Result<Running, RunError>
+    requires workers { (1 ≤ workers) × (workers ≤ 16) }
+    requires later { last_tick_from 0 run.transcript.entries ≤ tick }
+    requires plan { run.transcript.plan ≡ run.book.presence.plan }
+    ensures { (events : List Event) → Ask run.book events batch.now → IfOk result (λ after. Batched tick events run.book after.book run.transcript after.transcript run.link after.link) }
+{
+    if batch.len() > u32::MAX as usize {
+        return Err(RunError::Memory);
+    }
+    let Running {
+        book,
+        mut transcript,
+        link,
+    } = run;
+    let before = book.journal().len();
+    match collect(rt, alloc, book, batch, workers, gate) {
+        Err(_) => Err(RunError::Memory),
+        Ok(collected) => {
+            let Collected { book, replies: _ } = collected;
+            push_lines(&mut transcript, &book.journal()[before..], tick)?;
+            Ok(Running {
+                book,
+                transcript,
+                link,
+            })
+        }
+    }
+}
+
+/// Takes the copies that came in at the tick, by workers, in any order.
+pub(crate) fn take_copies<R: Threads + Wait + Sync, G: Gate>(
+    rt: &R,
+    alloc: Global,
+    run: Running,
+    tags: &[Tag],
+    tick: u32,
+    workers: u32,
+    gate: &G,
+) -> Result<Running, RunError>
+    requires workers { (1 ≤ workers) × (workers ≤ 16) }
+    requires later { last_tick_from 0 run.transcript.entries ≤ tick }
+    requires plan { run.transcript.plan ≡ run.book.presence.plan }
+    requires tags { All (CanTake run.book) tags.now }
+    ensures { IfOk result (λ after. Batched tick (map Take tags.now) run.book after.book run.transcript after.transcript run.link after.link) }
+{
+    let batch = copies_of(alloc, &run.book, tags)?;
+    commit_batch(rt, alloc, run, &batch, tick, workers, gate)
+}
+
+/// Adds the Close of the round that is due so many ticks after it began.
+fn add_close(
+    group: u16,
+    tick: u32,
+    window: u32,
+    rounds: u32,
+    batch: &mut Vec<Parcel>,
+) -> Result<(), AllocError>
+    ensures { OnOk result (batch.new.items ≡ batch.old.items ++ (if is_due rounds window tick then CloseParcel group (tick - window) ∷ [] else [])) }
+{
+    if window <= tick && tick - window < rounds {
+        let round = tick - window;
+        batch.push(Parcel::Close { group, round })?;
+    }
+    Ok(())
+}
+
+/// Adds the End of the round that is due so many ticks after it began.
+fn add_end(
+    group: u16,
+    tick: u32,
+    window: u32,
+    rounds: u32,
+    batch: &mut Vec<Parcel>,
+) -> Result<(), AllocError>
+    ensures { OnOk result (batch.new.items ≡ batch.old.items ++ (if is_due rounds window tick then EndParcel group (tick - window) ∷ [] else [])) }
+{
+    if window <= tick && tick - window < rounds {
+        let round = tick - window;
+        batch.push(Parcel::End { group, round })?;
+    }
+    Ok(())
+}
+
+/// Adds what is due at the tick in a group.
+fn add_calls(plan: &Plan, group: u16, tick: u32, batch: &mut Vec<Parcel>) -> Result<(), AllocError>
+    ensures { OnOk result (batch.new.items ≡ batch.old.items ++ parcels_of (clock_of plan.now) tick group) }
+{
+    let rounds = plan.rounds();
+    let closes = plan.w1();
+    let ends = closes + plan.w2();
+    add_close(group, tick, closes, rounds, batch)?;
+    add_end(group, tick, ends, rounds, batch)
+}
+
+/// The Closes and Ends that are due at the tick.
+fn calls_at(alloc: Global, plan: &Plan, tick: u32) -> Result<Vec<Parcel>, AllocError>
+    ensures { IfOk result (λ batch. batch.items ≡ parcels_due (clock_of plan.now) (length plan.now.groups) tick) }
+{
+    let mut batch = Vec::new(alloc);
+    for group in 0..plan.groups().len() {
+        add_calls(plan, group as u16, tick, &mut batch)?;
+    }
+    Ok(batch)
+}
+
+/// Closes and ends the rounds that are due at the tick, by workers, in any order.
+pub(crate) fn close_rounds<R: Threads + Wait + Sync, G: Gate>(
+    rt: &R,
+    alloc: Global,
+    run: Running,
+    tick: u32,
+    workers: u32,
+    gate: &G,
+) -> Result<Running, RunError>
+    requires workers { (1 ≤ workers) × (workers ≤ 16) }
+    requires later { last_tick_from 0 run.transcript.entries ≤ tick }
+    requires plan { run.transcript.plan ≡ run.book.presence.plan }
+    ensures { IfOk result (λ after. Batched tick (calls_due (clock_of run.book.presence.plan) (length run.book.presence.plan.groups) tick) run.book after.book run.transcript after.transcript run.link after.link) }
+{
+    let batch = calls_at(alloc, run.book.plan(), tick)?;
+    commit_batch(rt, alloc, run, &batch, tick, workers, gate)
+}

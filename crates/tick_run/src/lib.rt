@@ -1,0 +1,30 @@
+//! The run over ticks.
+#![tactic(auto)]
+
+mod batches;
+mod frames;
+mod group;
+mod run;
+mod running;
+mod sends;
+mod tick;
+mod words;
+
+pub use run::{Finished, run_plan};
+use std::alloc::AllocError;
+
+/// Why there is no run.
+#[derive(Clone, Copy, Debug, PartialEq, Eq)]
+pub enum RunError {
+    /// There was no memory.
+    Memory,
+}
+
+impl From<AllocError> for RunError {
+    fn from(_error: AllocError) -> RunError {
+        RunError::Memory
+    }
+}
+
+#[cfg(test)]
+mod tests;

@@ -1,0 +1,116 @@
+//! The whole run.
+
+ghost use Rattle.std.specs.Prelude.{◌≡◌, ◌+◌, ◌≤◌, List, [], IfOk};
+ghost use Rattle.group_plan.specs.Plans.{last_tick, IsWithinLimits};
+ghost use Rattle.group_plan.specs.Tables.{IsReadingTable};
+ghost use Rattle.link_lanes.specs.Lanes.{Slot};
+ghost use Rattle.link_lanes.specs.Racks.{slots, posts_of, HasRoom};
+ghost use Rattle.mask_stream.specs.ChaMaskTables.{plan_of, words_of};
+ghost use Rattle.pair_keys.specs.Keys.{table_of};
+ghost use Rattle.run_rows.specs.Ticks.{posts_of as posts_of_entries};
+ghost use Rattle.transcript_log.specs.Journal.{IsJournalAfter};
+ghost use Rattle.group_book.specs.Books.{shape_of};
+ghost use Rattle.tick_run.specs.Running.{IsRunning, starting};
+ghost use Rattle.tick_run.specs.Sending.{KeptFates};
+ghost use Rattle.tick_run.specs.Finished.{IsFinished};
+
+use crate::RunError;
+use crate::running::Running;
+use crate::tick::run_tick;
+use collector_workers::Gate;
+use group_book::Book;
+use group_plan::{Plan, Presence, Readings};
+use link_lanes::{Lane, Rack};
+use lossy_link::Link;
+use mask_stream::ChaMasks;
+use pair_keys::KeyTable;
+use std::alloc::Global;
+use std::sync::Wait;
+use std::thread::Threads;
+use transcript_text::Transcript;
+
+/// What a run that is over has made: its book, and its transcript.
+#[derive(Drop)]
+pub struct Finished {
+    pub book: Book,
+    pub transcript: Transcript,
+}
+
+/// Makes all ticks, from 0 to the last.
+fn run_ticks<R: Threads + Wait + Sync, G: Gate>(
+    rt: &R,
+    alloc: Global,
+    run: Running,
+    rack: &mut Rack,
+    readings: &Readings,
+    masks: &ChaMasks,
+    workers: u32,
+    gate: &G,
+) -> Result<Running, RunError>
+    requires running { IsRunning readings.now (words_of masks.now) (starting 0) run.book run.transcript run.link }
+    requires masks { plan_of masks.now ≡ readings.now.plan }
+    requires workers { (1 ≤ workers) × (workers ≤ 16) }
+    requires room { HasRoom (λ b. meaning (b.vtable, b.value)) rack.old }
+    ensures running { IfOk result (λ after. IsRunning readings.now (words_of masks.now) (starting (last_tick readings.now.plan + 1)) after.book after.transcript after.link) }
+    ensures fates { (hung : List Slot) → KeptFates hung 0 run.transcript.entries (slots (λ b. meaning (b.vtable, b.value)) rack.old) (posts_of rack.old) →
+        IfOk result (λ after. KeptFates hung (last_tick readings.now.plan + 1) after.transcript.entries (slots (λ b. meaning (b.vtable, b.value)) rack.new) (posts_of rack.new)) }
+{
+    let mut run = run;
+    for tick in 0..readings.plan().last_tick() + 1 {
+        run = run_tick(rt, alloc, run, rack, readings, masks, tick, workers, gate)?;
+    }
+    Ok(run)
+}
+
+/// Learns that the lines of a book are the core's.
+fn lines_are_legal(book: &Book)
+    ensures { IsJournalAfter (shape_of book.now) [] book.now.journal }
+{
+    let _journal = book.journal();
+}
+
+/// Learns the limits of the plan and of its readings.
+fn readings_are_limited(readings: &Readings)
+    ensures limits { IsWithinLimits readings.now.plan }
+    ensures table { IsReadingTable readings.now.plan readings.now.table }
+{
+    let _rounds = readings.plan().rounds();
+}
+
+/// Runs a plan by ticks, from the first to the last: its readings are sent and taken, its rounds are closed, answered and
+/// ended. Frames are hidden under the stream words of the keys, and go through the lanes of the rack.
+pub fn run_plan<R: Threads + Wait + Sync, G: Gate>(
+    rt: &R,
+    alloc: Global,
+    plan: &Plan,
+    readings: &Readings,
+    keys: &KeyTable,
+    rack: &mut Rack,
+    workers: u32,
+    gate: &G,
+) -> Result<Finished, RunError>
+    requires readings { readings.now.plan ≡ plan.now }
+    requires keys { (table_of keys.now).plan ≡ plan.now }
+    requires posts { posts_of rack.old ≡ [] }
+    requires room { HasRoom (λ b. meaning (b.vtable, b.value)) rack.old }
+    requires least { 1 ≤ workers }
+    requires most { workers ≤ 16 }
+    ensures finished { IfOk result (λ f. IsFinished readings.now (table_of keys.now) (slots (λ b. meaning (b.vtable, b.value)) rack.old) f.book f.transcript) }
+    ensures posts { IfOk result (λ f. posts_of rack.new ≡ posts_of_entries f.transcript.entries) }
+{
+    readings_are_limited(readings);
+    let masks = ChaMasks::new(keys);
+    let presence = Presence::of(alloc, readings)?;
+    let run = Running {
+        book: Book::new(alloc, plan, &presence)?,
+        transcript: Transcript::empty(alloc, plan)?,
+        link: Link::new(alloc),
+    };
+    let Running {
+        book,
+        transcript,
+        link: _,
+    } = run_ticks(rt, alloc, run, rack, readings, &masks, workers, gate)?;
+    lines_are_legal(&book);
+    Ok(Finished { book, transcript })
+}
