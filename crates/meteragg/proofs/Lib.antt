@@ -1,1 +1,3 @@
-pub mod RoundLemmas
+pub mod AcceptedLemmas
+pub mod RunEnding
+pub mod RunLemmas

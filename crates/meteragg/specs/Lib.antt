@@ -1,7 +1,9 @@
 pub mod Words
-pub mod Round
 pub mod Calls
-pub mod Report
+pub mod Causes
 pub mod Outcomes
-pub mod Reporting
+pub mod Runs
+pub mod RunTexts
 pub mod Ends
+pub mod Fetches
+pub mod Accepted

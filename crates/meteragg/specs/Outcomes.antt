@@ -1,8 +1,11 @@
--- How a run ends: its status and its complaint.
+-- How a command ends: its status and its complaint.
 use Rattle.std.specs.Prelude.{◌≡◌, ◌⊎◌, ℕ, false, true, List, [], ◌++◌, codes, ⊤}
+use Rattle.std.specs.Fmt.{decimal}
 use Rattle.desk_outside.specs.Desk.{View, Complained, IsPrefixOf, after_step}
+use Rattle.plan_files.specs.declared.fault.FileError.{FileError}
 use Rattle.meteragg.specs.declared.outcome.Outcome.{Outcome}
-use Rattle.meteragg.specs.declared.outcome.Outcome.TheVariants.{Done, NoMemory, BadWords, CannotRead, TooLong, CannotWrite, BadPlan, BadReadings}
+use Rattle.meteragg.specs.declared.outcome.Outcome.TheVariants.{Done, NoMemory, BadWords, CannotRead, TooLong, CannotWrite, CannotPrint, BadPlan, BadReadings, BadLane}
+use Rattle.meteragg.specs.Causes.{cause_text, rack_cause_name}
 
 abbrev pub status_of : Outcome → ℕ
 status_of Done = 0
@@ -11,8 +14,15 @@ status_of BadWords = 2
 status_of (CannotRead name) = 3
 status_of (TooLong name) = 3
 status_of (CannotWrite name) = 4
-status_of (BadPlan name) = 5
-status_of (BadReadings name) = 6
+status_of CannotPrint = 4
+status_of (BadPlan name fault) = 5
+status_of (BadReadings name fault) = 6
+status_of (BadLane fault) = 10
+
+-- the complaint of a file: its name, the row, and the cause
+unfoldable pub file_complaint : List ℕ → FileError → List ℕ
+file_complaint name fault =
+    codes "meteragg: " ++ (name ++ (codes " row " ++ (decimal fault.row ++ (codes ": " ++ (cause_text fault.cause ++ codes "\n")))))
 
 -- the text of the complaint, none where the command was done
 unfoldable pub complaint_of : Outcome → List ℕ
@@ -22,8 +32,10 @@ complaint_of BadWords = codes "meteragg: bad words\n"
 complaint_of (CannotRead name) = codes "meteragg: cannot read " ++ name.now ++ codes "\n"
 complaint_of (TooLong name) = codes "meteragg: " ++ name.now ++ codes " is longer than 268435456 bytes\n"
 complaint_of (CannotWrite name) = codes "meteragg: cannot write " ++ name.now ++ codes "\n"
-complaint_of (BadPlan name) = codes "meteragg: " ++ name.now ++ codes " row 0: Form\n"
-complaint_of (BadReadings name) = codes "meteragg: " ++ name.now ++ codes " row 0: Form\n"
+complaint_of CannotPrint = codes "meteragg: cannot print\n"
+complaint_of (BadPlan name fault) = file_complaint name.now fault
+complaint_of (BadReadings name fault) = file_complaint name.now fault
+complaint_of (BadLane fault) = codes "meteragg: lane row " ++ (decimal fault.row ++ (codes ": " ++ (rack_cause_name fault.cause ++ codes "\n")))
 
 -- the text was complained, or a prefix of it where that call failed, or nothing where no memory was found
 abbrev pub Complains : List ℕ → View → View → Type 0
@@ -39,8 +51,10 @@ Tells BadWords v w = Complains (complaint_of BadWords) v w
 Tells (CannotRead name) v w = Complains (complaint_of (CannotRead name)) v w
 Tells (TooLong name) v w = Complains (complaint_of (TooLong name)) v w
 Tells (CannotWrite name) v w = Complains (complaint_of (CannotWrite name)) v w
-Tells (BadPlan name) v w = Complains (complaint_of (BadPlan name)) v w
-Tells (BadReadings name) v w = Complains (complaint_of (BadReadings name)) v w
+Tells CannotPrint v w = Complains (complaint_of CannotPrint) v w
+Tells (BadPlan name fault) v w = Complains (complaint_of (BadPlan name fault)) v w
+Tells (BadReadings name fault) v w = Complains (complaint_of (BadReadings name fault)) v w
+Tells (BadLane fault) v w = Complains (complaint_of (BadLane fault)) v w
 
 -- the ends that come only of a fault of the desk
 abbrev pub IsFault : Outcome → Type 0
@@ -50,5 +64,7 @@ IsFault BadWords = ⊥
 IsFault (CannotRead name) = ⊤
 IsFault (TooLong name) = ⊥
 IsFault (CannotWrite name) = ⊤
-IsFault (BadPlan name) = ⊥
-IsFault (BadReadings name) = ⊥
+IsFault CannotPrint = ⊤
+IsFault (BadPlan name fault) = ⊥
+IsFault (BadReadings name fault) = ⊥
+IsFault (BadLane fault) = ⊥

@@ -1,5 +1,9 @@
 pub mod AllRecords
 pub mod FieldLemmas
-pub mod FirstReadingLemmas
+pub mod FormLemmas
+pub mod GatherLemmas
+pub mod MissingLemmas
+pub mod PlainRowLemmas
+pub mod PlanLemmas
 pub mod ReadingLemmas
 pub mod RowLemmas

@@ -1,5 +1,5 @@
 -- Readings, field by field and row by row.
-use Rattle.std.proofs.Common.{◌≡◌, ◌∙◌, ◌<◌, ◌≤◌, ◌≢◌, ◌+◌, ◌*◌, ◌/◌, ◌%◌, ℕ, zero, suc, Bool, true, false, ◌&&◌, ◌==◌, nat_lt, if◌then◌else◌, List, [], ◌∷◌, length, get_or, drop, map, Option, Some, None, Result, Ok, Err, refl, sym, ap, subst, inl, inr, arith, add-one}
+use Rattle.std.proofs.Common.{◌≡◌, ◌∙◌, ◌<◌, ◌≤◌, ◌+◌, ◌*◌, ◌/◌, ◌%◌, ℕ, zero, suc, Bool, true, false, ◌&&◌, ◌==◌, nat_lt, if◌then◌else◌, List, [], ◌∷◌, length, get_or, drop, Option, Some, None, Ok, Err, refl, sym, ap, subst, inl, inr, arith, add-one}
 use Rattle.std.specs.Option.{option_map, option_or}
 use Rattle.std.specs.Result.{result_err}
 use Rattle.std.proofs.lemmas.Bool.{and_parts, cases_Bool, cases_eq, eq-eqb, eqb-true, lt-ltb}
@@ -12,10 +12,9 @@ use Rattle.group_plan.proofs.TableLemmas.{entry-table_of, in_place, is_table-tab
 use Rattle.group_plan.proofs.MeterNumbers.{group-lt}
 use Rattle.plan_files.specs.Faults.{in_row}
 use Rattle.plan_files.specs.Filling.{FillsRow}
-use Rattle.plan_files.specs.Readings.{fields_fault, reading_at, reading_in, reading_of, reading_or_none, readings_by, row_fault, rows_due, rows_fault}
+use Rattle.plan_files.specs.Readings.{fields_fault, reading_at, reading_in, reading_of, readings_by, row_fault, rows_due, rows_fault}
 use Rattle.plan_files.specs.declared.fault.FileCause.{FileCause}
 use Rattle.plan_files.specs.declared.fault.FileCause.TheVariants as cause
-use Rattle.plan_files.specs.declared.fault.FileError.{FileError}
 
 -- ---- fields
 

@@ -1,5 +1,7 @@
 -- How the reading of a file ends: with its value, or with its first fault.
-use Rattle.std.specs.Prelude.{ℕ, Option, Some, None, Result, Ok, Err}
+use Rattle.std.specs.Prelude.{◌≡◌, ℕ, Option, Some, None, Result, Ok, Err}
+use Rattle.group_plan.specs.declared.plan.PlanError.{PlanError}
+use Rattle.group_plan.specs.declared.plan.PlanError.TheVariants as of_plan
 use Rattle.plan_files.specs.declared.fault.FileCause.{FileCause}
 use Rattle.plan_files.specs.declared.fault.FileCause.TheVariants as cause
 use Rattle.plan_files.specs.declared.fault.FileError.{FileError}
@@ -28,3 +30,13 @@ Err fault >>= next = Err fault
 abbrev pub at_row : {A : Type 0} → ℕ → Result A FileCause → Result A FileError
 at_row row (Ok value) = Ok value
 at_row row (Err what) = Err (in_row row what)
+
+-- the answer is this value or this cause; want of memory is free
+abbrev pub Answers : {A : Type 0} → Result A FileCause → Result A FileCause → Type 0
+Answers expected (Ok value) = expected ≡ Ok value
+Answers expected (Err what) = ButMemory what (expected ≡ Err what)
+
+-- the cause that a refusal of a plan is
+abbrev pub plan_cause : PlanError → FileCause
+plan_cause of_plan.Memory = cause.Memory
+plan_cause other = cause.Plan other

@@ -1,7 +1,11 @@
 pub mod Faults
 pub mod Fields
 pub mod Filling
-pub mod FirstPlans
-pub mod FirstReadings
+pub mod Gathering
+pub mod MissingKeys
+pub mod PlanFiles
+pub mod PlainRows
+pub mod PlanForms
+pub mod PlanRows
 pub mod Readings
 pub mod Rows

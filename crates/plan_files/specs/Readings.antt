@@ -6,7 +6,7 @@ use Rattle.group_plan.specs.Plans.{PlanView, size, name_of, is_member}
 use Rattle.group_plan.specs.Tables.{ReadingsView, table_of}
 use Rattle.plan_files.specs.Faults.{ButMemory, in_row, unless}
 use Rattle.plan_files.specs.Fields.{number_below}
-use Rattle.plan_files.specs.Rows.{file_rows, text_at}
+use Rattle.plan_files.specs.Rows.{file_rows}
 use Rattle.plan_files.specs.declared.fault.FileCause.{FileCause}
 use Rattle.plan_files.specs.declared.fault.FileCause.TheVariants as cause
 use Rattle.plan_files.specs.declared.fault.FileError.{FileError}

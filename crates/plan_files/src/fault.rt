@@ -1,5 +1,7 @@
 //! Why a file is refused.
+
 use group_plan::{PlanError, SpanError};
+use pair_keys::KeyError;
 
 /// The first fault of a file.
 #[derive(Clone, Copy, Debug, PartialEq, Eq)]
@@ -24,6 +26,8 @@ pub enum FileCause {
     Hex,
     /// The plan's numbers have this fault.
     Plan(PlanError),
+    /// The key is refused so, or the plan has this key and the file has no row for it.
+    Key(KeyError),
     /// The lane's span doesn't end, or ends after the last tick.
     LaneSpan,
     /// The first faulty field is a reading of 2^40 or more.
@@ -45,3 +49,17 @@ pub(crate) const NO_MEMORY: FileError = FileError {
     row: 0,
     cause: FileCause::Memory,
 };
+
+impl From<PlanError> for FileCause {
+    ghost use Rattle.std.specs.Prelude.{◌≡◌};
+    ghost use Rattle.plan_files.specs.Faults.{plan_cause};
+
+    ghost from_gives = { λ error cause. cause ≡ plan_cause error };
+
+    fn from(error: PlanError) -> FileCause {
+        match error {
+            PlanError::Memory => FileCause::Memory,
+            other => FileCause::Plan(other),
+        }
+    }
+}

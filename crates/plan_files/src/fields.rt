@@ -1,7 +1,6 @@
-//! Numbers, names and keys: what a field may hold.
+//! Numbers and keys: what a field may hold.
 ghost use Rattle.std.specs.Prelude.{◌≡◌, ◌≤◌, ◌+◌, IfSome};
-ghost use Rattle.std.specs.List.{list_all};
-ghost use Rattle.plan_files.specs.Fields.{has_no_leading_zero, is_name, is_name_byte, key_of, number_below};
+ghost use Rattle.plan_files.specs.Fields.{has_no_leading_zero, key_of, number_below};
 
 use hex::FromHex;
 
@@ -38,21 +37,6 @@ pub fn number(text: &[u8], most: u64) -> Option<u64>
         }
     }
     Some(value)
-}
-
-/// Whether each byte is an ASCII letter, a digit, `_` or `-`.
-fn has_name_bytes(text: &[u8]) -> bool
-    ensures { result ≡ list_all is_name_byte text.now }
-{
-    text.iter().all(|byte| byte.is_ascii_alphanumeric() || *byte == b'_' || *byte == b'-')
-}
-
-/// Whether the text is a group's name: 1 to 16 letters, digits, `_` or `-`.
-#[tactic(auto, unfolding(crate::specs::Fields::is_name))]
-pub fn is_name(text: &[u8]) -> bool
-    ensures { result ≡ is_name text.now }
-{
-    !text.is_empty() && text.len() <= 16 && has_name_bytes(text)
 }
 
 /// The key of 64 hexadecimal digits of either case.

@@ -1,8 +1,8 @@
 //! The rows of a file and their fields.
-ghost use Rattle.std.specs.Prelude.{◌≡◌, ◌≤◌, ◌+◌, IfOk, [], length, map, bytes_eq, slice_index_or};
+ghost use Rattle.std.specs.Prelude.{◌≡◌, ◌<◌, ◌≤◌, ◌+◌, IfOk, [], drop, length, map, bytes_eq, slice_index_or};
 ghost use Rattle.std.specs.Cmp.Lexicographic.{pointwise};
 ghost use Rattle.csv.specs.Records.{fields_of};
-ghost use Rattle.plan_files.specs.Rows.{file_rows, same_rows, text_at};
+ghost use Rattle.plan_files.specs.Rows.{file_rows};
 
 use csv::{ByteRecord, ReaderBuilder};
 use std::alloc::{AllocError, Global};
@@ -38,15 +38,21 @@ pub fn field<'r>(row: &'r ByteRecord, place: usize) -> &'r [u8]
     }
 }
 
-/// The field at a place of the row at a place, both counted from 0; empty where there is none.
-pub fn text_at<'r>(rows: &'r [ByteRecord], row: usize, place: usize) -> &'r [u8]
-    ensures { result.now ≡ text_at (map fields_of rows.now) row place }
+/// The row at a place, counted from 0.
+pub fn row_at<'r>(rows: &'r [ByteRecord], place: usize) -> &'r ByteRecord
+    requires { place < length rows.now }
+    ensures { fields_of result.now ≡ slice_index_or (map fields_of rows.now) place [] }
 {
-    if row < rows.len() {
-        field(&rows[row], place)
-    } else {
-        &[]
-    }
+    &rows[place]
+}
+
+/// The rows from a place on, counted from 0.
+pub fn rows_from<'r>(rows: &'r [ByteRecord], place: usize) -> &'r [ByteRecord]
+    requires { place ≤ length rows.now }
+    ensures rest { map fields_of result.now ≡ drop place (map fields_of rows.now) }
+    ensures long { length result.now + place ≡ length rows.now }
+{
+    &rows[place..]
 }
 
 /// Whether these are the fields of the row, no more and no less.
@@ -58,21 +64,6 @@ pub fn is_row(row: &ByteRecord, texts: &[&[u8]]) -> bool
     }
     for place in 0..texts.len() {
         if field(row, place) != texts[place] {
-            return false;
-        }
-    }
-    true
-}
-
-/// Whether these are the rows, no more and no less.
-pub fn are_rows(rows: &[ByteRecord], texts: &[&[&[u8]]]) -> bool
-    ensures { result ≡ same_rows (map fields_of rows.now) (map (λ row. map (λ f. f.now) row.now) texts.now) }
-{
-    if rows.len() != texts.len() {
-        return false;
-    }
-    for row in 0..texts.len() {
-        if !is_row(&rows[row], texts[row]) {
             return false;
         }
     }

@@ -1,9 +1,8 @@
-use Rattle.std.proofs.Common.{◌≡◌, ◌∙◌, ◌+◌, List, ℕ, [], Option, Some, Result, Ok, Err, ap, sym, arith, rules, get_or}
+use Rattle.std.proofs.Common.{◌≡◌, ◌∙◌, ◌+◌, [], Some, Ok, Err, ap, sym, arith, rules, get_or}
 use Rattle.std.specs.Result.{result_err}
 use Rattle.csv.specs.Records.{fields_of}
 use Rattle.group_plan.specs.Plans.{is_member, size}
 use Rattle.plan_files.specs.Readings.{reading_of}
-use Rattle.plan_files.specs.declared.fault.FileCause.{FileCause}
 use Rattle.plan_files.proofs.ReadingLemmas.{fault_found, fault_more, fault_none, fills_more}
 use Rattle.plan_files.proofs.readings.put_fields.Goals as goal
 

@@ -1,4 +1,4 @@
-use Rattle.std.proofs.Common.{◌≡◌, ◌∙◌, ◌+◌, ◌<◌, ◌≤◌, ◌/◌, ◌%◌, List, ℕ, [], None, Some, ap, sym, refl, arith, subst, get_or, map, length}
+use Rattle.std.proofs.Common.{◌≡◌, ◌∙◌, ◌/◌, ◌%◌, List, ℕ, [], None, Some, ap, sym, refl, arith, subst, get_or, map, length}
 use Rattle.std.proofs.lemmas.List.{get_or-map, length-map}
 use Rattle.csv.specs.Records.{fields_of}
 use Rattle.group_plan.specs.Plans.{PlanView, size}

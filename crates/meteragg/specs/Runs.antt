@@ -1,0 +1,100 @@
+-- What `run` makes of the bytes of its two files: the values of the files, a run by ticks, and three texts.
+use Rattle.std.specs.Prelude.{◌≡◌, ℕ, ◌<◌, List, length, reverse, Ok}
+use Rattle.group_plan.specs.Plans.{PlanView}
+use Rattle.group_plan.specs.Tables.{ReadingsView, reading}
+use Rattle.link_lanes.specs.Lanes.{Meaning, Slot}
+use Rattle.link_lanes.specs.Fits.{hung_by}
+use Rattle.mask_stream.specs.KeyStreams.{streams}
+use Rattle.plan_files.specs.Readings.{readings_of}
+use Rattle.transcript_log.specs.declared.Entry.{Entry}
+use Rattle.transcript_log.specs.Events.{events_of, lines_of}
+use Rattle.transcript_log.specs.Schedule.{Shape}
+use Rattle.transcript_log.specs.Tables.{Readings, plain_sum}
+use Rattle.transcript_log.specs.Transcript.{shape_of_readings, transcript}
+use Rattle.run_rows.specs.Ticks.{Clock, clock_of, HaveDelays, IsTickRun, posts_of}
+use Rattle.run_rows.specs.Report.{Row, row, fate_at, outcome_row}
+use Rattle.run_rows.specs.Summary.{summary_of_posts}
+use Rattle.run_rows.specs.Posts.{posts_by_lanes}
+use Rattle.ideal_masks.specs.Isolation.{Isolated}
+use Rattle.plan_files.specs.PlanFiles.{PlanFileView, plan_of}
+use Rattle.transcript_text.specs.Transcripts.{TranscriptView}
+use Rattle.transcript_text.specs.Spelling.{transcript_text}
+use Rattle.totals_report.specs.Reports.{report_text, summary_text}
+
+-- ---- the values of the files
+
+-- a plan file, the lanes that its rows take from the cupboard, and the readings
+pub record Values : Type 0 where
+  pub file : PlanFileView
+  pub slots : List Slot
+  pub readings : ReadingsView
+
+-- the plan
+abbrev pub plan_in : Values → PlanView
+plan_in v = v.file.plan
+
+-- x, the readings
+abbrev pub readings_in : Values → Readings
+readings_in v = reading v.readings.table
+
+-- who has a reading
+abbrev pub shape_in : Values → Shape
+shape_in v = shape_of_readings (plan_in v).groups (readings_in v)
+
+-- the rounds and the windows
+abbrev pub clock_in : Values → Clock
+clock_in v = clock_of (plan_in v)
+
+-- they are those of these bytes and this cupboard
+pub record AreValues (cupboard : List Meaning) (plan_bytes readings_bytes : List ℕ) (v : Values) : Type 0 where
+  pub plan : plan_of plan_bytes ≡ Ok v.file
+  pub lanes : hung_by cupboard v.file.lanes ≡ Ok v.slots
+  pub readings : readings_of v.file.plan readings_bytes ≡ Ok v.readings
+
+-- ---- the run
+
+-- the row of a round by the fates of the entries
+abbrev pub row_in : Values → List Entry → ℕ → ℕ → Row
+row_in v entries g r = row (shape_in v) (clock_in v) (fate_at (posts_of entries)) (plain_sum (readings_in v)) g r
+
+-- the entries are those of a run of these values
+pub record IsRunOf (v : Values) (entries : List Entry) : Type 0 where
+  -- a run by ticks of the plan, the presence of the readings and the lanes, in which each copy takes a tick or more
+  pub ticks : IsTickRun (shape_in v) (clock_in v) v.slots entries
+  pub delays : HaveDelays entries
+  -- whose lines are the transcript of the readings under the stream words of the keys
+  pub lines : lines_of entries ≡ transcript (plan_in v).groups (readings_in v) (streams v.file.keys) (events_of entries)
+  -- whose posts and fates are those that the lanes alone give, whatever the workers did
+  pub fates : posts_of entries ≡ posts_by_lanes (shape_in v) (clock_in v) v.slots
+  -- whose outcomes are the rows by the fates
+  pub rows : (g r : ℕ) → g < length (plan_in v).groups → r < (plan_in v).rounds →
+      outcome_row (shape_in v) (plain_sum (readings_in v)) g r (reverse (events_of entries)) ≡ row_in v entries g r
+  -- and of which each table of readings that agrees has the same transcript, under an explicit shift of every mask table
+  pub isolated : Isolated (plan_in v) v.readings.table (events_of entries)
+
+-- ---- the texts
+
+-- the transcript, the report and the summary
+pub record Texts : Type 0 where
+  pub transcript : List ℕ
+  pub report : List ℕ
+  pub summary : List ℕ
+
+abbrev pub transcript_in : Values → List Entry → TranscriptView
+transcript_in v entries = record { plan = plan_in v; entries = entries }
+
+-- the transcript of the plan and the entries, the report by fates, and its summary
+pub record AreTexts (v : Values) (entries : List Entry) (texts : Texts) : Type 0 where
+  pub transcript : texts.transcript ≡ transcript_text (transcript_in v entries)
+  pub report : texts.report ≡ report_text (plan_in v) (row_in v entries)
+  pub summary : texts.summary ≡ summary_text (summary_of_posts (shape_in v) (clock_in v) (plain_sum (readings_in v)) (posts_of entries))
+
+-- ---- what the bytes come to
+
+-- these are the texts of a run of the values of the bytes
+pub record Makes (cupboard : List Meaning) (plan_bytes readings_bytes : List ℕ) (texts : Texts) : Type 0 where
+  pub values : Values
+  pub entries : List Entry
+  pub of_bytes : AreValues cupboard plan_bytes readings_bytes values
+  pub run : IsRunOf values entries
+  pub told : AreTexts values entries texts

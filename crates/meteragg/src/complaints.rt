@@ -1,0 +1,141 @@
+// The texts of complaints.
+ghost use Rattle.std.specs.Prelude.{◌≡◌, IfOk, string_bytes};
+ghost use Rattle.meteragg.specs.Causes.{key_text, plan_error_name, span_error_name, key_error_text, cause_text, rack_cause_name};
+ghost use Rattle.meteragg.specs.Outcomes.{file_complaint, complaint_of};
+
+use crate::outcome::Outcome;
+use group_plan::{PlanError, SpanError};
+use link_lanes::RackCause;
+use pair_keys::{KeyError, KeyId};
+use plan_files::{FileCause, FileError};
+use std::alloc::{AllocError, Global};
+
+#[tactic(auto, unfolding(crate::specs::Causes::key_text))]
+fn key_text(alloc: Global, key: KeyId) -> Result<String, AllocError>
+    ensures { IfOk result (λ text. string_bytes text ≡ key_text key) }
+{
+    match key {
+        KeyId::Own { group, meter } => format!(in alloc; "own {group} {meter}"),
+        KeyId::Pair { group, low, high } => format!(in alloc; "pair {group} {low} {high}"),
+    }
+}
+
+fn plan_error_name(error: PlanError) -> &'static str
+    ensures { result.now ≡ plan_error_name error }
+{
+    match error {
+        PlanError::NoGroup => "NoGroup",
+        PlanError::TooManyGroups(_) => "TooManyGroups",
+        PlanError::SameName(_, _) => "SameName",
+        PlanError::Meters(_) => "Meters",
+        PlanError::Floor(_) => "Floor",
+        PlanError::Rounds => "Rounds",
+        PlanError::Window => "Window",
+        PlanError::TooManyReadings(_) => "TooManyReadings",
+        PlanError::Memory => "Memory",
+        PlanError::TooManyPairs(_) => "TooManyPairs",
+    }
+}
+
+fn span_error_name(error: SpanError) -> &'static str
+    ensures { result.now ≡ span_error_name error }
+{
+    match error {
+        SpanError::Range(_) => "Range",
+        SpanError::Twice(_) => "Twice",
+        SpanError::Memory => "Memory",
+    }
+}
+
+#[tactic(auto, unfolding(crate::specs::Causes::key_error_text))]
+fn key_error_text(alloc: Global, error: KeyError) -> Result<String, AllocError>
+    ensures { IfOk result (λ text. string_bytes text ≡ key_error_text error) }
+{
+    match error {
+        KeyError::Range => String::from_str(alloc, "Range"),
+        KeyError::Twice(key) => {
+            let key = key_text(alloc, key)?;
+            format!(in alloc; "Twice {key}")
+        }
+        KeyError::Missing(key) => {
+            let key = key_text(alloc, key)?;
+            format!(in alloc; "Missing {key}")
+        }
+    }
+}
+
+#[tactic(auto, unfolding(crate::specs::Causes::cause_text))]
+fn cause_text(alloc: Global, cause: FileCause) -> Result<String, AllocError>
+    ensures { IfOk result (λ text. string_bytes text ≡ cause_text cause) }
+{
+    match cause {
+        FileCause::Row => String::from_str(alloc, "Row"),
+        FileCause::Fields => String::from_str(alloc, "Fields"),
+        FileCause::Number => String::from_str(alloc, "Number"),
+        FileCause::Name => String::from_str(alloc, "Name"),
+        FileCause::Hex => String::from_str(alloc, "Hex"),
+        FileCause::Plan(error) => {
+            let name = plan_error_name(error);
+            format!(in alloc; "Plan {name}")
+        }
+        FileCause::Key(error) => {
+            let text = key_error_text(alloc, error)?;
+            format!(in alloc; "Key {text}")
+        }
+        FileCause::LaneSpan => String::from_str(alloc, "LaneSpan"),
+        FileCause::Range => String::from_str(alloc, "Range"),
+        FileCause::Short => String::from_str(alloc, "Short"),
+        FileCause::Extra => String::from_str(alloc, "Extra"),
+        FileCause::Memory => String::from_str(alloc, "Memory"),
+        FileCause::Member(error) => {
+            let name = span_error_name(error);
+            format!(in alloc; "Member {name}")
+        }
+        FileCause::NotMember => String::from_str(alloc, "NotMember"),
+    }
+}
+
+fn rack_cause_name(cause: RackCause) -> &'static str
+    ensures { result.now ≡ rack_cause_name cause }
+{
+    match cause {
+        RackCause::NoSuchLane => "NoSuchLane",
+        RackCause::BadArgument => "BadArgument",
+        RackCause::Memory => "Memory",
+    }
+}
+
+#[tactic(auto, unfolding(crate::specs::Outcomes::file_complaint))]
+fn file_complaint(alloc: Global, name: &str, fault: FileError) -> Result<String, AllocError>
+    ensures { IfOk result (λ text. string_bytes text ≡ file_complaint name.now fault) }
+{
+    let row = fault.row;
+    let cause = cause_text(alloc, fault.cause)?;
+    format!(in alloc; "meteragg: {name} row {row}: {cause}\n")
+}
+
+/// The text of the complaint, none where the command was done.
+#[tactic(auto, unfolding(crate::specs::Outcomes::complaint_of))]
+pub fn complaint(alloc: Global, outcome: Outcome<'_>) -> Result<String, AllocError>
+    ensures { IfOk result (λ text. string_bytes text ≡ complaint_of outcome.entry) }
+{
+    match outcome {
+        Outcome::Done => Ok(String::new(alloc)),
+        Outcome::NoMemory => String::from_str(alloc, "meteragg: no memory\n"),
+        Outcome::BadWords => String::from_str(alloc, "meteragg: bad words\n"),
+        Outcome::CannotRead(name) => format!(in alloc; "meteragg: cannot read {name}\n"),
+        Outcome::TooLong(name) => format!(in alloc;
+            "meteragg: {name} is longer than 268435456 bytes\n"
+        ),
+        Outcome::CannotWrite(name) => format!(in alloc; "meteragg: cannot write {name}\n"),
+        Outcome::CannotPrint => String::from_str(alloc, "meteragg: cannot print\n"),
+        Outcome::BadPlan(name, fault) | Outcome::BadReadings(name, fault) => {
+            file_complaint(alloc, name, fault)
+        }
+        Outcome::BadLane(fault) => {
+            let row = fault.row;
+            let cause = rack_cause_name(fault.cause);
+            format!(in alloc; "meteragg: lane row {row}: {cause}\n")
+        }
+    }
+}

@@ -1,0 +1,340 @@
+use crate::fixtures::{HEAD, NORTH, READINGS, RUN, desk_of, status_of};
+use collector_workers::{Free, Gate};
+use desk_outside::{DeskKind, MemoryDesk};
+use std::alloc::Global;
+use std::process::Abort;
+use std::sync::Wait;
+use std::sync::atomic::{AtomicU64, Ordering};
+use std::test::Fail;
+use std::thread::Threads;
+
+const HEADING: &str = "group,round,survivors,missing,outcome,total\n";
+
+// The lines of the transcript of three meters, in whose ticks the Takes may stand in any order.
+const LINES: &str = "meteragg transcript 2
+rounds,1
+windows,1,2
+group,north,3,2
+begin
+0,s,0,0,r,0,1,4d02010000000000000000000000000000000000000000000000000000000000000000000000000000000000b0b9d4e209a2296c
+0,s,0,0,r,1,1,4d02010100000000000000000000000000000000000000000000000000000000000000000000000000000000903df1a0ade0b88a
+0,s,0,0,r,2,1,4d020102000000000000000000000000000000000000000000000000000000000000000000000000000000006fc20e5f521f47a8
+1,t,0,0,r,0,fresh
+1,t,0,0,r,1,fresh
+1,t,0,0,r,2,fresh
+1,c,0,0,announced,-
+1,s,0,0,m,0,1,4d020200000000000000000000000000000000000000000000000000000000000000000000000000000000000000000000000000
+1,s,0,0,m,1,1,4d020201000000000000000000000000000000000000000000000000000000000000000000000000000000000000000000000000
+1,s,0,0,m,2,1,4d020202000000000000000000000000000000000000000000000000000000000000000000000000000000000000000000000000
+2,t,0,0,m,0,fresh
+2,t,0,0,m,1,fresh
+2,t,0,0,m,2,fresh
+2,s,0,0,a,0,1,4d02030000000000000000000000000000000000000000000000000000000000000000000000000000000000903df1a0ade0b876
+2,s,0,0,a,1,1,4d02030100000000000000000000000000000000000000000000000000000000000000000000000000000000903df1a0ade0b876
+2,s,0,0,a,2,1,4d02030200000000000000000000000000000000000000000000000000000000000000000000000000000000903df1a0ade0b876
+3,t,0,0,a,0,fresh
+3,t,0,0,a,1,fresh
+3,t,0,0,a,2,fresh
+3,e,0,0,total,60
+end,20
+";
+
+// What a desk holds under a name, as text.
+fn held<'d>(desk: &'d MemoryDesk, name: &str) -> &'d str {
+    match desk.held(name) {
+        Some(bytes) => str::from_utf8(bytes).unwrap_or("not text"),
+        None => "nothing",
+    }
+}
+
+#[test]
+fn three_meters_total_60(rt: HostRuntime) -> Result<(), Fail> {
+    let alloc = rt.alloc();
+    let rows = format!(in alloc; "{HEAD}{NORTH}")?;
+    let mut desk = desk_of(alloc, &rows, READINGS, Vec::new(alloc))?;
+    assert_eq!(rt; status_of(&rt, alloc, RUN, &mut desk, &Free)?, 0);
+    let text = held(&desk, "t.txt");
+    assert_eq!(rt; text.len(), LINES.len());
+    for line in LINES.split('\n') {
+        assert!(rt; text.contains(line), "no line {line}");
+    }
+    assert_eq!(rt; desk.complained(), b"".as_slice());
+    let mut calls = Vec::new(alloc);
+    for call in desk.calls() {
+        assert_eq!(rt; call.failed, false);
+        calls.push(call.kind)?;
+    }
+    let wanted = [
+        DeskKind::Fetch,
+        DeskKind::Fetch,
+        DeskKind::Put,
+        DeskKind::Put,
+        DeskKind::Say,
+    ];
+    assert_eq!(rt; calls.as_slice(), wanted.as_slice());
+    Ok(())
+}
+
+// Each row: its name, the rows before the group, those after the keys, the readings, the report, the said counts, and a
+// line of the transcript.
+static RUNS: [(&str, &str, &str, &str, &str, &str, &str); 15] = [
+    (
+        "three_meters_total_60",
+        HEAD,
+        "",
+        READINGS,
+        "north,0,3,-,total,60\n",
+        "rounds=1 totals=1 none=0 thin=0 sends=9 takes=9",
+        "3,e,0,0,total,60",
+    ),
+    (
+        "three_zero_readings",
+        HEAD,
+        "",
+        "north,0,0,0,0\n",
+        "north,0,3,-,total,0\n",
+        "rounds=1 totals=1 none=0 thin=0 sends=9 takes=9",
+        "3,e,0,0,total,0",
+    ),
+    (
+        "absent_reading_recovered",
+        HEAD,
+        "",
+        "north,0,10,20,\n",
+        "north,0,2,2,total,30\n",
+        "rounds=1 totals=1 none=0 thin=0 sends=6 takes=6",
+        "1,c,0,0,announced,2",
+    ),
+    (
+        "one_reading_is_thin",
+        HEAD,
+        "",
+        "north,0,10,,\n",
+        "north,0,1,1+2,thin,\n",
+        "rounds=1 totals=0 none=0 thin=1 sends=1 takes=1",
+        "1,c,0,0,thin,1+2",
+    ),
+    (
+        "late_reading_left_out",
+        HEAD,
+        "lane,rules,0.0.r.2=2,0,0\n",
+        READINGS,
+        "north,0,2,2,total,30\n",
+        "rounds=1 totals=1 none=0 thin=0 sends=7 takes=7",
+        "2,t,0,0,r,2,late",
+    ),
+    (
+        "lost_answer_gives_none",
+        HEAD,
+        "lane,rules,0.0.a.1=-,0,35\n",
+        READINGS,
+        "north,0,3,-,none,\n",
+        "rounds=1 totals=0 none=1 thin=0 sends=9 takes=8",
+        "3,e,0,0,none,1",
+    ),
+    (
+        "lost_announcement_gives_none",
+        HEAD,
+        "lane,rules,0.0.m.1=-,0,35\n",
+        READINGS,
+        "north,0,3,-,none,\n",
+        "rounds=1 totals=0 none=1 thin=0 sends=8 takes=7",
+        "3,e,0,0,none,1",
+    ),
+    (
+        "repeated_reading_counts_once",
+        HEAD,
+        "lane,rules,0.0.r.0=1+3,0,0\n",
+        READINGS,
+        "north,0,3,-,total,60\n",
+        "rounds=1 totals=1 none=0 thin=0 sends=9 takes=10",
+        "3,t,0,0,r,0,again",
+    ),
+    (
+        "second_answer_too_late",
+        HEAD,
+        "lane,rules,0.0.m.1=1+2,1,1\nlane,rules,0.0.a.1=-,2,2\n",
+        READINGS,
+        "north,0,3,-,none,\n",
+        "rounds=1 totals=0 none=1 thin=0 sends=10 takes=10",
+        "4,t,0,0,a,1,late",
+    ),
+    (
+        "second_answer_in_time",
+        "rounds,1\nwindows,1,3\n",
+        "lane,rules,0.0.m.1=1+2,1,1\nlane,rules,0.0.a.1=-,2,2\n",
+        READINGS,
+        "north,0,3,-,total,60\n",
+        "rounds=1 totals=1 none=0 thin=0 sends=10 takes=10",
+        "4,t,0,0,a,1,fresh",
+    ),
+    (
+        "three_rounds_in_progress",
+        "rounds,3\nwindows,2,2\n",
+        "lane,rules,0.0.r.1=2,0,0\n",
+        "north,0,10,20,30\nnorth,1,1,2,3\nnorth,2,100,200,300\n",
+        "north,0,3,-,total,60\nnorth,1,3,-,total,6\nnorth,2,3,-,total,600\n",
+        "rounds=3 totals=3 none=0 thin=0 sends=27 takes=27",
+        "4,e,0,0,total,60",
+    ),
+    (
+        "burst_over_the_run",
+        HEAD,
+        "lane,burst,2:1,0,35\n",
+        READINGS,
+        "north,0,2,2,none,\n",
+        "rounds=1 totals=0 none=1 thin=0 sends=7 takes=5",
+        "1,c,0,0,announced,2",
+    ),
+    (
+        "burst_over_tick_0",
+        HEAD,
+        "lane,burst,2:1,0,0\n",
+        READINGS,
+        "north,0,2,2,total,30\n",
+        "rounds=1 totals=1 none=0 thin=0 sends=7 takes=6",
+        "3,e,0,0,total,30",
+    ),
+    (
+        "meter_joins_in_round_1",
+        "rounds,2\nwindows,1,2\n",
+        "member,0,2,1,2\n",
+        "north,0,10,20,\nnorth,1,1,2,3\n",
+        "north,0,2,-,total,30\nnorth,1,3,-,total,6\n",
+        "rounds=2 totals=2 none=0 thin=0 sends=15 takes=15",
+        "member,0,2,1,2",
+    ),
+    (
+        "one_member_is_thin",
+        "rounds,2\nwindows,1,2\n",
+        "member,0,2,1,2\nmember,0,1,1,2\n",
+        "north,0,10,,\nnorth,1,1,2,3\n",
+        "north,0,1,-,thin,\nnorth,1,3,-,total,6\n",
+        "rounds=2 totals=1 none=0 thin=1 sends=10 takes=10",
+        "1,c,0,0,thin,-",
+    ),
+];
+
+// Runs the program on these files with so many workers, and looks for the report, what was said, and a line of the transcript.
+fn check_run(
+    rt: &(impl Threads + Wait + Abort + Sync),
+    alloc: Global,
+    name: &str,
+    rows: &str,
+    readings: &str,
+    workers: &str,
+    report: &str,
+    said: &str,
+    line: &str,
+) -> Result<(), Fail> {
+    let words = format!(in alloc; "{RUN} {workers}")?;
+    let mut desk = desk_of(alloc, rows, readings, Vec::new(alloc))?;
+    let status = status_of(rt, alloc, &words, &mut desk, &Free)?;
+    assert_eq!(rt; status, 0, "at {name}");
+    assert_eq!(rt; held(&desk, "report.csv"), report, "at {name}");
+    assert_eq!(rt; desk.said(), said.as_bytes(), "at {name}");
+    assert!(rt; held(&desk, "t.txt").contains(line), "at {name}");
+    assert_eq!(rt; desk.complained(), b"".as_slice(), "at {name}");
+    Ok(())
+}
+
+#[test]
+fn runs_by_their_lanes(rt: HostRuntime) -> Result<(), Fail> {
+    let alloc = rt.alloc();
+    for case in RUNS.iter() {
+        let (name, head, tail, readings, report, said, line) = *case;
+        let rows = format!(in alloc; "{head}{NORTH}{tail}")?;
+        let report = format!(in alloc; "{HEADING}{report}")?;
+        let said = format!(in alloc; "{said}\n")?;
+        let line = format!(in alloc; "\n{line}\n")?;
+        check_run(
+            &rt, alloc, name, &rows, readings, "1", &report, &said, &line,
+        )?;
+        check_run(
+            &rt, alloc, name, &rows, readings, "2", &report, &said, &line,
+        )?;
+        check_run(
+            &rt, alloc, name, &rows, readings, "16", &report, &said, &line,
+        )?;
+    }
+    Ok(())
+}
+
+// The rows of a group of so many meters with all their keys.
+fn group_rows(alloc: Global, meters: u32) -> Result<String, Fail> {
+    let mut rows = format!(in alloc; "{HEAD}group,north,{meters},2\n")?;
+    for meter in 0..meters {
+        rows.push_str(&format!(in alloc; "own,0,{meter},Z\n")?)?;
+        for higher in meter + 1..meters {
+            rows.push_str(&format!(in alloc; "pair,0,{meter},{higher},Z\n")?)?;
+        }
+    }
+    Ok(rows)
+}
+
+// Rows `sixty_four_greatest_readings` and `two_hundred_fifty_six_greatest_readings`.
+#[test]
+fn greatest_readings(rt: HostRuntime) -> Result<(), Fail> {
+    let alloc = rt.alloc();
+    for (meters, row) in [
+        (64, "north,0,64,-,total,70368744177600\n"),
+        (256, "north,0,256,-,total,281474976710400\n"),
+    ] {
+        let rows = group_rows(alloc, meters)?;
+        let mut readings = String::from_str(alloc, "north,0")?;
+        for _ in 0..meters {
+            readings.push_str(",1099511627775")?;
+        }
+        let mut desk = desk_of(alloc, &rows, &readings, Vec::new(alloc))?;
+        assert_eq!(rt; status_of(&rt, alloc, RUN, &mut desk, &Free)?, 0);
+        let wanted = format!(in alloc; "{HEADING}{row}")?;
+        assert_eq!(rt; held(&desk, "report.csv"), wanted.as_str());
+    }
+    Ok(())
+}
+
+// Holds workers 1 and 2 at their first calls until both have come, for a bounded number of turns.
+#[derive(Drop)]
+struct Meeting {
+    came: [AtomicU64; 2],
+    late: AtomicU64,
+}
+
+impl Gate for Meeting {
+    fn at(&self, worker: u32) {
+        if worker != 1 && worker != 2 {
+            return;
+        }
+        let (mine, other) = if worker == 1 {
+            (&self.came[0], &self.came[1])
+        } else {
+            (&self.came[1], &self.came[0])
+        };
+        if mine.fetch_add(1, Ordering::SeqCst) > 0 {
+            return;
+        }
+        for _ in 0..1_000_000_000u32 {
+            if other.load(Ordering::SeqCst) > 0 {
+                return;
+            }
+        }
+        self.late.fetch_add(1, Ordering::SeqCst);
+    }
+}
+
+#[test]
+fn run_commits_cross(rt: HostRuntime) -> Result<(), Fail> {
+    let alloc = rt.alloc();
+    let gate = Meeting {
+        came: [AtomicU64::new(0), AtomicU64::new(0)],
+        late: AtomicU64::new(0),
+    };
+    let rows = format!(in alloc; "{HEAD}{NORTH}")?;
+    let words = format!(in alloc; "{RUN} 2")?;
+    let mut desk = desk_of(alloc, &rows, READINGS, Vec::new(alloc))?;
+    assert_eq!(rt; status_of(&rt, alloc, &words, &mut desk, &gate)?, 0);
+    assert!(rt; gate.came[0].load(Ordering::SeqCst) > 0);
+    assert!(rt; gate.came[1].load(Ordering::SeqCst) > 0);
+    assert_eq!(rt; gate.late.load(Ordering::SeqCst), 0);
+    Ok(())
+}

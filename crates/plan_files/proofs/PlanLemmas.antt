@@ -1,0 +1,113 @@
+-- The steps of the reading of a plan file.
+use Rattle.std.proofs.Common.{◌≡◌, ℕ, List, Option, None, Result, Ok, Err, refl, sym, ap, subst, ◌∙◌, ◌+◌, length, drop}
+use Rattle.group_plan.specs.NewPlans.{MakesPlan}
+use Rattle.group_plan.specs.Plans.{PlanView, last_tick}
+use Rattle.group_plan.specs.Spans.{span_fault}
+use Rattle.group_plan.specs.declared.plan.GroupPlan.{GroupPlan}
+use Rattle.group_plan.specs.declared.plan.PlanError.{PlanError}
+use Rattle.group_plan.specs.declared.plan.PlanError.TheVariants as of_plan
+use Rattle.group_plan.specs.declared.plan.members.Span.{Span}
+use Rattle.group_plan.specs.declared.plan.members.SpanError.{SpanError}
+use Rattle.pair_keys.specs.Keys.{Keys}
+use Rattle.plan_files.specs.Faults.{◌>>=◌, ButMemory, in_row, plan_cause}
+use Rattle.plan_files.proofs.FormLemmas.{but_memory}
+use Rattle.plan_files.specs.Gathering.{Gathered, Settles, gather, nothing, settled, spans_of}
+use Rattle.plan_files.specs.MissingKeys.{first_missing}
+use Rattle.plan_files.specs.PlanFiles.{PlanEnds, PlanFileView, completed, filled_in, plan_from, stated_plan, with_entries}
+use Rattle.plan_files.specs.PlanForms.{entries_from, groups_from, head_of}
+use Rattle.plan_files.specs.declared.entry.Entry.{Entry}
+use Rattle.plan_files.specs.declared.fault.FileError.{FileError}
+use Rattle.plan_files.specs.declared.head.Head.{Head}
+
+pub stated : (head : Head) (groups : List GroupPlan) (plan : PlanView) → MakesPlan groups head.rounds head.windows.reading head.windows.recovery (Ok plan)
+    → stated_plan head groups ≡ Ok plan
+unfolding stated_plan
+stated head groups plan made = rw made.0 (ap Ok (sym made.1))
+
+pub not_stated : (head : Head) (groups : List GroupPlan) (error : PlanError) → MakesPlan groups head.rounds head.windows.reading head.windows.recovery (Err error)
+    → ButMemory (plan_cause error) (stated_plan head groups ≡ Err (in_row 0 (plan_cause error)))
+unfolding stated_plan
+not_stated head groups of_plan.NoGroup wrong = rw wrong refl
+not_stated head groups (of_plan.TooManyGroups n) wrong = rw wrong refl
+not_stated head groups (of_plan.SameName g h) wrong = rw wrong refl
+not_stated head groups (of_plan.Meters g) wrong = rw wrong refl
+not_stated head groups (of_plan.Floor g) wrong = rw wrong refl
+not_stated head groups of_plan.Rounds wrong = rw wrong refl
+not_stated head groups of_plan.Window wrong = rw wrong refl
+not_stated head groups (of_plan.TooManyReadings n) wrong = rw wrong refl
+not_stated head groups of_plan.Memory wrong = tt
+not_stated head groups (of_plan.TooManyPairs n) wrong = rw wrong refl
+
+-- all keys are there
+pub whole_file : (gathered : Gathered) (plan : PlanView) (keys : Keys) → first_missing gathered.keys ≡ None → gathered.keys.plan ≡ plan → keys ≡ gathered.keys
+    → completed gathered ≡ Ok (record { plan = plan; keys = keys; lanes = gathered.lanes })
+whole_file gathered plan keys none same table =
+    let file : PlanView → Keys → PlanFileView = λ p k. record { plan = p; keys = k; lanes = gathered.lanes } in
+    rw none (ap (λ p. Ok (file p gathered.keys)) same ∙ ap (λ k. Ok (file plan k)) (sym table))
+
+-- ---- the steps in turn
+
+-- the fault of a step is that of all
+pub fails : {A B : Type 0} (x : Result A FileError) (f : A → Result B FileError) (error : FileError) → ButMemory error.cause (x ≡ Err error) → ButMemory error.cause ((x >>= f) ≡ Err error)
+fails x f error wrong = but_memory error.cause (λ (w : x ≡ Err error). rw w refl) wrong
+
+-- the same behind steps that went well
+behind : (u v : Result PlanFileView FileError) (error : FileError) → u ≡ v → ButMemory error.cause (v ≡ Err error) → ButMemory error.cause (u ≡ Err error)
+behind u v error same wrong = subst (λ (r : Result PlanFileView FileError). ButMemory error.cause (r ≡ Err error)) (sym same) wrong
+
+pub filled : (plan new : PlanView) (fault : Option SpanError) (n : ℕ) (entries : List Entry) (spans : List Span) → spans ≡ spans_of entries → Settles plan spans new fault
+    → with_entries plan n entries ≡ filled_in new fault n entries
+unfolding with_entries
+filled plan new fault n entries spans is settles =
+    ap (λ (s : List Span). filled_in (settled plan s) (span_fault plan s) n entries) (sym is)
+    ∙ (ap (λ (p : PlanView). filled_in p (span_fault plan spans) n entries) (sym settles.plan) ∙ ap (λ (f : Option SpanError). filled_in new f n entries) (sym settles.faulty))
+
+pub bad_entries : (plan new : PlanView) (fault : Option SpanError) (n : ℕ) (entries : List Entry) (spans : List Span) (error : FileError) → spans ≡ spans_of entries → Settles plan spans new fault
+    → ButMemory error.cause (gather (last_tick new) fault n (nothing new) entries ≡ Err error) → PlanEnds (with_entries plan n entries) (Err error)
+bad_entries plan new fault n entries spans error is settles wrong =
+    behind (with_entries plan n entries) (filled_in new fault n entries) error (filled plan new fault n entries spans is settles) (fails (gather (last_tick new) fault n (nothing new) entries) completed error wrong)
+
+pub good_entries : (plan new : PlanView) (fault : Option SpanError) (n : ℕ) (entries : List Entry) (spans : List Span) (gathered : Gathered) → spans ≡ spans_of entries → Settles plan spans new fault
+    → gather (last_tick new) fault n (nothing new) entries ≡ Ok gathered → with_entries plan n entries ≡ completed gathered
+good_entries plan new fault n entries spans gathered is settles right = filled plan new fault n entries spans is settles ∙ rw right refl
+
+-- ---- the rows of a file
+
+pub bad_head : (rows : List (List (List ℕ))) (error : FileError) → head_of rows ≡ Err error → plan_from rows ≡ Err error
+unfolding plan_from
+bad_head rows error wrong = rw wrong refl
+
+-- the first steps went well
+pub record IsBegun (rows : List (List (List ℕ))) (first : Head) (named : List GroupPlan) : Type 0 where
+  pub head : head_of rows ≡ Ok first
+  pub groups : groups_from 4 (drop 3 rows) ≡ Ok named
+
+-- all rows have their form
+pub record IsFormed (rows : List (List (List ℕ))) (first : Head) (named : List GroupPlan) (others : List Entry) : Type 0 where
+  pub begun : IsBegun rows first named
+  pub entries : entries_from (4 + length named) (drop (3 + length named) rows) ≡ Ok others
+
+pub bad_groups : (rows rest : List (List (List ℕ))) (head : Head) (error : FileError) → head_of rows ≡ Ok head → rest ≡ drop 3 rows
+    → ButMemory error.cause (groups_from 4 rest ≡ Err error) → ButMemory error.cause (plan_from rows ≡ Err error)
+unfolding plan_from
+bad_groups rows rest head error first is wrong =
+    but_memory error.cause (λ (w : groups_from 4 rest ≡ Err error). let found = ap (groups_from 4) (sym is) ∙ w in rw (first, found) refl) wrong
+
+pub bad_rows : (rows rest : List (List (List ℕ))) (n : ℕ) (head : Head) (groups : List GroupPlan) (error : FileError) → IsBegun rows head groups → n ≡ 4 + length groups → rest ≡ drop (3 + length groups) rows
+    → ButMemory error.cause (entries_from n rest ≡ Err error) → ButMemory error.cause (plan_from rows ≡ Err error)
+unfolding plan_from
+bad_rows rows rest n head groups error begun number is wrong =
+    but_memory error.cause (λ (w : entries_from n rest ≡ Err error).
+    let found = ap (entries_from (4 + length groups)) (sym is) ∙ (ap (λ m. entries_from m rest) (sym number) ∙ w) in rw (begun.head, begun.groups, found) refl) wrong
+
+pub bad_plan : (rows : List (List (List ℕ))) (head : Head) (groups : List GroupPlan) (entries : List Entry) (error : FileError) → IsFormed rows head groups entries
+    → ButMemory error.cause (stated_plan head groups ≡ Err error) → ButMemory error.cause (plan_from rows ≡ Err error)
+unfolding plan_from
+bad_plan rows head groups entries error formed wrong =
+    but_memory error.cause (λ (w : stated_plan head groups ≡ Err error). rw (formed.begun.head, formed.begun.groups, formed.entries, w) refl) wrong
+
+pub good_plan : (rows : List (List (List ℕ))) (n : ℕ) (head : Head) (groups : List GroupPlan) (entries : List Entry) (plan : PlanView) → IsFormed rows head groups entries → n ≡ 4 + length groups
+    → stated_plan head groups ≡ Ok plan → plan_from rows ≡ with_entries plan n entries
+unfolding plan_from
+good_plan rows n head groups entries plan formed number made =
+    rw (formed.begun.head, formed.begun.groups, formed.entries, made) (ap (λ m. with_entries plan m entries) (sym number))

@@ -1,0 +1,41 @@
+-- The form of a plan file: its first rows, its group rows, and the rows after them, up to the first fault.
+use Rattle.std.specs.Prelude.{ℕ, ◌+◌, nat_lt, if◌then◌else◌, List, [], ◌∷◌, codes, length, slice_index_or, Result, Ok, Err}
+use Rattle.group_plan.specs.declared.plan.GroupPlan.{GroupPlan}
+use Rattle.plan_files.specs.Faults.{◌>>=◌, at_row, in_row}
+use Rattle.plan_files.specs.PlanRows.{entry_of, group_row, plan_row, rounds_row, starts_with, windows_row}
+use Rattle.plan_files.specs.declared.entry.Entry.{Entry}
+use Rattle.plan_files.specs.declared.fault.FileCause.{FileCause}
+use Rattle.plan_files.specs.declared.fault.FileCause.TheVariants as cause
+use Rattle.plan_files.specs.declared.fault.FileError.{FileError}
+use Rattle.plan_files.specs.declared.head.Head.{Head}
+
+-- what the row at a place, counted from 0, says by its form; a file without it is short
+unfoldable pub row_due : {A : Type 0} → (List (List ℕ) → Result A FileCause) → List (List (List ℕ)) → ℕ → Result A FileError
+row_due form rows place =
+    if nat_lt place (length rows) then at_row (place + 1) (form (slice_index_or rows place [])) else Err (in_row (place + 1) cause.Short)
+
+-- what the first three rows say
+unfoldable pub head_of : List (List (List ℕ)) → Result Head FileError
+head_of rows = do
+  _ ← row_due plan_row rows 0
+  rounds ← row_due rounds_row rows 1
+  windows ← row_due windows_row rows 2
+  Ok (record { rounds = rounds; windows = windows })
+
+-- the group rows with which these rows start, of which the first is row n of the file
+unfoldable pub groups_from : ℕ → List (List (List ℕ)) → Result (List GroupPlan) FileError
+groups_from n [] = Ok []
+groups_from n (row ∷ rows) =
+    if starts_with (codes "group") row then (do
+      group ← at_row n (group_row row)
+      groups ← groups_from (n + 1) rows
+      Ok (group ∷ groups))
+    else Ok []
+
+-- the rows after the groups, of which the first is row n of the file
+unfoldable pub entries_from : ℕ → List (List (List ℕ)) → Result (List Entry) FileError
+entries_from n [] = Ok []
+entries_from n (row ∷ rows) = do
+  entry ← at_row n (entry_of n row)
+  entries ← entries_from (n + 1) rows
+  Ok (entry ∷ entries)

@@ -1,0 +1,128 @@
+//! The rows of a plan file after the groups: keys, lanes and members.
+ghost use Rattle.std.specs.Prelude.{◌≡◌};
+ghost use Rattle.csv.specs.Records.{fields_of};
+ghost use Rattle.plan_files.specs.Faults.{Answers};
+ghost use Rattle.plan_files.specs.PlanRows.{arg_in, entry_of, lane_row, member_row, own_row, pair_row};
+
+use crate::fault::FileCause;
+use crate::row::{check_fields, key_field, name_field, number_field, starts_with};
+use crate::table::field;
+use csv::ByteRecord;
+use group_plan::Span;
+use link_lanes::{Arg, ArgError, LaneRow};
+use std::alloc::Global;
+
+/// What a row after the groups says.
+#[derive(Drop)]
+pub enum Entry {
+    /// A meter's own key.
+    Own {
+        group: u32,
+        meter: u32,
+        key: [u8; 32],
+    },
+    /// The key of two meters.
+    Pair {
+        group: u32,
+        low: u32,
+        high: u32,
+        key: [u8; 32],
+    },
+    /// A lane, and the ticks for which it hangs.
+    Lane(LaneRow),
+    /// The rounds in which a meter is a member.
+    Member(Span),
+}
+
+#[tactic(auto, unfolding(crate::specs::PlanRows::own_row))]
+fn own_row(row: &ByteRecord) -> Result<Entry, FileCause>
+    ensures { result ≡ own_row (fields_of row.now) }
+{
+    check_fields(row, 4)?;
+    let group = number_field(row, 1)?;
+    let meter = number_field(row, 2)?;
+    let key = key_field(row, 3)?;
+    Ok(Entry::Own { group, meter, key })
+}
+
+#[tactic(auto, unfolding(crate::specs::PlanRows::pair_row))]
+fn pair_row(row: &ByteRecord) -> Result<Entry, FileCause>
+    ensures { result ≡ pair_row (fields_of row.now) }
+{
+    check_fields(row, 5)?;
+    let group = number_field(row, 1)?;
+    let low = number_field(row, 2)?;
+    let high = number_field(row, 3)?;
+    let key = key_field(row, 4)?;
+    Ok(Entry::Pair {
+        group,
+        low,
+        high,
+        key,
+    })
+}
+
+#[tactic(auto, unfolding(crate::specs::PlanRows::member_row))]
+fn member_row(row: &ByteRecord) -> Result<Entry, FileCause>
+    ensures { result ≡ member_row (fields_of row.now) }
+{
+    check_fields(row, 5)?;
+    let group = number_field(row, 1)?;
+    let meter = number_field(row, 2)?;
+    let from = number_field(row, 3)?;
+    let until = number_field(row, 4)?;
+    Ok(Entry::Member(Span {
+        group,
+        meter,
+        from,
+        until,
+    }))
+}
+
+/// The argument in the field at a place.
+#[tactic(auto, unfolding(crate::specs::PlanRows::arg_in))]
+fn arg_field(alloc: Global, row: &ByteRecord, place: usize) -> Result<Arg, FileCause>
+    ensures { Answers (arg_in (fields_of row.now) place) result }
+{
+    match Arg::new(alloc, field(row, place)) {
+        Ok(arg) => Ok(arg),
+        Err(ArgError::Byte(_)) => Err(FileCause::Name),
+        Err(ArgError::Memory) => Err(FileCause::Memory),
+    }
+}
+
+#[tactic(auto, unfolding(crate::specs::PlanRows::lane_row))]
+fn lane_row(alloc: Global, number: u32, row: &ByteRecord) -> Result<Entry, FileCause>
+    ensures { Answers (lane_row number (fields_of row.now)) result }
+{
+    check_fields(row, 5)?;
+    let name = name_field(row, 1)?;
+    let arg = arg_field(alloc, row, 2)?;
+    let from = number_field(row, 3)?;
+    let to = number_field(row, 4)?;
+    Ok(Entry::Lane(LaneRow {
+        row: number,
+        name,
+        arg,
+        from,
+        to,
+    }))
+}
+
+/// What a row after the groups says. The number is the row's in the file.
+#[tactic(auto, unfolding(crate::specs::PlanRows::entry_of))]
+pub fn read_entry(alloc: Global, number: u32, row: &ByteRecord) -> Result<Entry, FileCause>
+    ensures { Answers (entry_of number (fields_of row.now)) result }
+{
+    if starts_with(row, b"own") {
+        own_row(row)
+    } else if starts_with(row, b"pair") {
+        pair_row(row)
+    } else if starts_with(row, b"lane") {
+        lane_row(alloc, number, row)
+    } else if starts_with(row, b"member") {
+        member_row(row)
+    } else {
+        Err(FileCause::Row)
+    }
+}

@@ -1,0 +1,131 @@
+//! The plan file: a plan, its keys and its lanes.
+ghost use Rattle.std.specs.Prelude.{◌≡◌, ◌≤◌, ◌+◌, ◌^◌, IfErr, IfOk, Ok, Err, length, map, OnOk, Some, None, MatchResult};
+ghost use Rattle.csv.specs.Records.{fields_of};
+ghost use Rattle.pair_keys.specs.Keys.{keys_of, table_of};
+ghost use Rattle.plan_files.specs.Faults.{ButMemory};
+ghost use Rattle.plan_files.specs.Gathering.{gathered_by};
+ghost use Rattle.plan_files.specs.MissingKeys.{first_missing};
+ghost use Rattle.plan_files.specs.PlanFiles.{PlanEnds, completed, plan_from, plan_of, stated_plan, with_entries};
+
+use crate::entry::Entry;
+use crate::fault::{FileCause, FileError, NO_MEMORY};
+use crate::gathering::{Gathering, gather, member_spans, read_entries, settle};
+use crate::head::{Head, read_groups, read_head};
+use crate::table::{rows, rows_from};
+use csv::ByteRecord;
+use group_plan::{GroupPlan, Plan};
+use link_lanes::LaneRow;
+use pair_keys::{KeyError, KeyId, KeyPile, KeyTable};
+use std::alloc::Global;
+
+/// What a plan file says.
+#[derive(Drop)]
+pub struct PlanFile {
+    /// The plan, with the spans of the member rows.
+    pub plan: Plan,
+    /// The keys of the plan.
+    pub keys: KeyTable,
+    /// The lane rows, in the order of the file.
+    pub lanes: Vec<LaneRow>,
+}
+
+/// The plan that the first rows and the groups state.
+#[tactic(auto, using(crate::proofs::PlanLemmas::stated, crate::proofs::PlanLemmas::not_stated))]
+fn stated_plan(alloc: Global, head: Head, groups: &[GroupPlan]) -> Result<Plan, FileError>
+    ensures made { IfOk result (λ plan. stated_plan head groups.now ≡ Ok plan) }
+    ensures refused { IfErr result (λ error. ButMemory error.cause (stated_plan head groups.now ≡ Err error)) }
+{
+    let windows = head.windows;
+    match Plan::new(
+        alloc,
+        groups,
+        head.rounds,
+        windows.reading,
+        windows.recovery,
+    ) {
+        Ok(plan) => Ok(plan),
+        Err(error) => Err(FileError {
+            row: 0,
+            cause: FileCause::from(error),
+        }),
+    }
+}
+
+/// The table of the keys, or the first that is missing.
+fn finish(keys: KeyPile) -> Result<KeyTable, KeyId>
+    ensures whole { IfOk result (λ table. (table_of table ≡ keys_of keys) × (first_missing (keys_of keys) ≡ None)) }
+    ensures missing { IfErr result (λ which. first_missing (keys_of keys) ≡ Some which) }
+{
+    match keys.finish() {
+        Ok(table) => Ok(table),
+        Err(unfinished) => Err(unfinished.missing),
+    }
+}
+
+/// The file of what is gathered for a plan, unless a key is missing.
+fn complete(plan: Plan, gathering: Gathering) -> Result<PlanFile, FileError>
+    requires { (keys_of gathering.keys).plan ≡ plan }
+    ensures file { PlanEnds (completed (gathered_by gathering)) result }
+    ensures same { IfOk result (λ file. (table_of file.keys).plan ≡ file.plan) }
+{
+    let Gathering {
+        keys,
+        lanes,
+        members: _,
+    } = gathering;
+    match finish(keys) {
+        Ok(keys) => Ok(PlanFile { plan, keys, lanes }),
+        Err(missing) => Err(FileError {
+            row: 0,
+            cause: FileCause::Key(KeyError::Missing(missing)),
+        }),
+    }
+}
+
+/// What the rows after the groups say to a plan. The first of them is row `first` of the file.
+fn with_entries(
+    alloc: Global,
+    plan: Plan,
+    first: u32,
+    entries: Vec<Entry>,
+) -> Result<PlanFile, FileError>
+    requires { first + length entries.items ≤ 2 ^ 28 + 2 }
+    ensures file { PlanEnds (with_entries plan first entries.items) result }
+    ensures same { IfOk result (λ file. (table_of file.keys).plan ≡ file.plan) }
+{
+    let Ok(spans) = member_spans(alloc, &entries) else {
+        return Err(NO_MEMORY);
+    };
+    let Ok((plan, fault)) = settle(plan, &spans) else {
+        return Err(NO_MEMORY);
+    };
+    let gathering = gather(alloc, &plan, fault, first, entries)?;
+    complete(plan, gathering)
+}
+
+/// What the rows of a file say.
+fn plan_from(alloc: Global, rows: &[ByteRecord]) -> Result<PlanFile, FileError>
+    requires { length rows.now ≤ 2 ^ 28 + 1 }
+    ensures file { PlanEnds (plan_from (map fields_of rows.now)) result }
+    ensures same { IfOk result (λ file. (table_of file.keys).plan ≡ file.plan) }
+{
+    let head = read_head(rows)?;
+    let groups = read_groups(alloc, rows_from(rows, 3))?;
+    let first = 4 + groups.len() as u32;
+    let entries = read_entries(alloc, first, rows_from(rows, 3 + groups.len()))?;
+    let plan = stated_plan(alloc, head, &groups)?;
+    with_entries(alloc, plan, first, entries)
+}
+
+/// What the bytes of a plan file say, or their first fault.
+#[tactic(auto, unfolding(crate::specs::PlanFiles::plan_of))]
+pub fn read_plan(alloc: Global, bytes: &[u8]) -> Result<PlanFile, FileError>
+    requires { length bytes.now ≤ 2 ^ 28 }
+    ensures file { PlanEnds (plan_of bytes.now) result }
+    ensures same { IfOk result (λ file. (table_of file.keys).plan ≡ file.plan) }
+{
+    let Ok(rows) = rows(alloc, bytes) else {
+        return Err(NO_MEMORY);
+    };
+    plan_from(alloc, rows.as_slice())
+}
