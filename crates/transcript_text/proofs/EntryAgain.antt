@@ -95,7 +95,7 @@ void_send_again version plan last tick tag s p a b =
     let v = void_again version (size plan.groups tag.group) tag in
     rw (t, g.group, g.round, g.kind, g.meter, f, v) refl
 
-closing_again : (n : ℕ) (c : Closing) (g r : ℕ) → n ≤ 256 → FitsClosing n c → IsLine (Close g r c) → (word text : List ℕ) → word ∷ text ∷ [] ≡ closing_fields c → closing_of n word text ≡ Ok c
+pub closing_again : (n : ℕ) (c : Closing) (g r : ℕ) → n ≤ 256 → FitsClosing n c → IsLine (Close g r c) → (word text : List ℕ) → word ∷ text ∷ [] ≡ closing_fields c → closing_of n word text ≡ Ok c
 unfolding closing_of
 closing_again n (closing.Announced set) g r few fits is word text e =
     let s = set_again n set few (set_rising n set is fits) in

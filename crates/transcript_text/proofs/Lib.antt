@@ -25,3 +25,7 @@ mod SpanWalk
 mod HeadText
 mod ReadLemmas
 mod EntryAgain
+mod FrameBytes
+mod LineAgain
+mod CleanFields
+mod EntriesAgain

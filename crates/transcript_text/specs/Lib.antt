@@ -5,3 +5,4 @@ pub mod Parts
 pub mod Numbers
 pub mod Reading
 pub mod Heads
+pub mod ReadBack
