@@ -25,3 +25,4 @@ mod SpanWalk
 mod HeadText
 mod ReadLemmas
 mod EntryAgain
+mod SpanAgain
