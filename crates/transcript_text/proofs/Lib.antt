@@ -26,3 +26,4 @@ mod HeadText
 mod ReadLemmas
 mod EntryAgain
 mod SpanAgain
+mod HeadAgain
