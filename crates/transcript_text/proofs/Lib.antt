@@ -29,3 +29,6 @@ mod FrameBytes
 mod LineAgain
 mod CleanFields
 mod EntriesAgain
+mod SpanAgain
+mod HeadAgain
+mod ReadAgain
