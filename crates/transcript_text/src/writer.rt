@@ -1,6 +1,8 @@
-ghost use Rattle.std.specs.Prelude.{◌≡◌, IfOk};
+ghost use Rattle.std.specs.Prelude.{◌≡◌, IfOk, Ok};
+ghost use Rattle.transcript_text.specs.declared.version.Version.TheVariants.{Two};
 ghost use Rattle.transcript_text.specs.Transcripts.{IsTranscript};
 ghost use Rattle.transcript_text.specs.Spelling.{transcript_text};
+ghost use Rattle.transcript_text.specs.Heads.{read_of};
 
 use crate::Transcript;
 use crate::head_writing::put_head;
@@ -8,11 +10,13 @@ use crate::writing::put_entries;
 use std::alloc::{AllocError, Global};
 
 /// The text of the transcript.
-#[tactic(auto, using(crate::proofs::Pushing::writable), unfolding(crate::specs::Spelling::text_of))]
+#[tactic(auto, using(crate::proofs::Pushing::writable, crate::proofs::ReadAgain::read_back), unfolding(crate::specs::Spelling::text_of))]
 pub fn write(alloc: Global, transcript: &Transcript) -> Result<Vec<u8>, AllocError>
     ensures text { IfOk result (λ text. text.items ≡ transcript_text transcript.now) }
-    // What holds of every transcript, so that `read` gives it back.
+    // What holds of every transcript.
     ensures sound { IsTranscript transcript.now }
+    // So `read` gives the transcript back.
+    ensures read_back { IfOk result (λ text. read_of Two text.items ≡ Ok transcript.now) }
 {
     let mut out = Vec::new(alloc);
     let entries = transcript.entries();
