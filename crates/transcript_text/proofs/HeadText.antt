@@ -1,8 +1,9 @@
 -- The head: what is read is its text.
-use Rattle.std.proofs.Common.{◌≡◌, ◌∙◌, ◌+◌, ◌==◌, ◌&&◌, ℕ, suc, true, List, [], ◌∷◌, ◌++◌, length, map, refl, sym, ap, arith, decimal, Option, Some, None, Result, Ok, Err, append_assoc, append-nil, subst, inl, inr}
+use Rattle.std.proofs.Common.{◌≡◌, ◌∙◌, ◌+◌, ◌≤◌, ◌==◌, ◌&&◌, nat_le, ℕ, zero, suc, true, false, List, [], ◌∷◌, ◌++◌, length, map, refl, sym, ap, arith, decimal, Option, Some, None, Result, Ok, Err, append_assoc, append-nil, subst, inl, inr}
 use Rattle.std.specs.Prelude.{codes, IsTrue, slice_get}
 use Rattle.std.specs.Str.{bytes_eq}
 use Rattle.std.specs.List.{join_with_byte, range_with_len}
+use Rattle.std.proofs.lemmas.Bool.Decides.{nat_tests}
 use Rattle.std.proofs.lemmas.List.FromFn.{length-map-range_with_len}
 use Rattle.group_plan.specs.declared.plan.GroupPlan.{GroupPlan}
 use Rattle.group_plan.specs.declared.plan.PlanError.{PlanError}
@@ -12,6 +13,7 @@ use Rattle.group_plan.specs.NewPlans.{first_fault, plan_of, stated}
 use Rattle.group_plan.specs.Spans.{group_with, rounds_given, with_spans}
 use Rattle.group_plan.proofs.Groups.{stated-group_of}
 use Rattle.transcript_text.specs.declared.version.Version.{Version}
+use Rattle.transcript_text.specs.declared.version.Version.TheVariants.{One, Two}
 use Rattle.transcript_text.specs.declared.head.Start.{Start}
 use Rattle.transcript_text.specs.declared.head.HeadRow.{HeadRow}
 use Rattle.transcript_text.specs.declared.head.HeadRow.TheVariants as row
@@ -19,7 +21,8 @@ use Rattle.transcript_text.specs.declared.fault.ReadError.{ReadError}
 use Rattle.transcript_text.specs.declared.fault.ReadError.TheVariants as fault
 use Rattle.transcript_text.specs.Parts.{at, parts}
 use Rattle.transcript_text.specs.Spelling.{ended, group_fields, groups_text, head_text, joined, member_fields, members_text, rounds_fields, start_text, stated_spans, title, windows_fields}
-use Rattle.transcript_text.specs.Heads.{AreStated, HeadRead, after_head_row, at_begin, has_version, head_from, head_number, head_of, head_row, next_line, plan_at, rounds_of, span_fits, start_of, title_of, two_numbers, unless_fault, windows_of, with_rest}
+use Rattle.transcript_text.specs.Heads.{AreStated, HeadRead, after_head_row, at_begin, has_version, head_from, head_number, head_of, head_row, is_two, next_line, plan_at, rounds_of, span_fits, start_of, title_of, two_numbers, unless_fault, windows_of, with_rest}
+use Rattle.transcript_text.specs.ReadBack.{HasHead}
 use Rattle.transcript_text.proofs.Choices.{bind_ok, is_word, long_of, pick, spell_one, spell_three, spell_two, test_of}
 use Rattle.transcript_text.proofs.TextLaws.{joined_parts}
 use Rattle.transcript_text.proofs.HeadBack.{begin_back, group_back, member_back, number_back}
@@ -109,6 +112,7 @@ record HeadRest (version : Version) (start : Start) (last : Option Span) (groups
   plan : plan_at version at_line start (groups ++ more_groups) (spans ++ more_spans) ≡ Ok h.plan
   no_group : (s : Span) → last ≡ Some s → more_groups ≡ []
   stated : AreStated start.rounds (groups ++ more_groups) last more_spans
+  none_before : is_two version ≡ false → more_spans ≡ []
 
 begin_is : (n : ℕ) (rest : List (List ℕ)) (r : Result PlanView ReadError) (h : HeadRead) → at_begin n rest r ≡ Ok h → (r ≡ Ok h.plan) × (rest ≡ h.rest)
 begin_is n rest (Ok plan) h e = let same : record { plan = plan; line = n + 1; rest = rest } ≡ h = cc in (ap (λ (x : HeadRead). Ok x.plan) same, ap (λ (x : HeadRead). x.rest) same)
@@ -141,6 +145,7 @@ head_back version start n last groups spans (line ∷ next ∷ more) h is =
           plan = subst (λ gs. plan_at version rest.at_line start gs (spans ++ rest.more_spans) ≡ Ok h.plan) all rest.plan;
           no_group = λ s e. absurd (let none = b.first in let o : None ≡ Some s = sym none ∙ e in cc);
           stated = subst (λ gs. AreStated start.rounds gs last rest.more_spans) all rest.stated;
+          none_before = rest.none_before;
         }
     by_row (Ok (row.Member s)) r is ih =
         let b = member_back version n start.rounds groups last (parts 44 line) s r in
@@ -159,6 +164,7 @@ head_back version start n last groups spans (line ∷ next ∷ more) h is =
           plan = subst (λ ss. plan_at version rest.at_line start (groups ++ []) ss ≡ Ok h.plan) all (subst (λ gs. plan_at version rest.at_line start gs ((spans ++ s ∷ []) ++ rest.more_spans) ≡ Ok h.plan) same rest.plan);
           no_group = λ t e. refl;
           stated = (subst (λ gs. IsTrue (span_fits start.rounds gs last s)) (sym (append-nil groups)) b.fits, subst (λ gs. AreStated start.rounds gs (Some s) rest.more_spans) same rest.stated);
+          none_before = λ no. absurd (let two = b.version_2 in let o : false ≡ true = sym no ∙ two in cc);
         }
     by_row (Ok row.Begin) r is ih =
         let b = begin_back version n start.rounds groups last (parts 44 line) r in
@@ -172,6 +178,7 @@ head_back version start n last groups spans (line ∷ next ∷ more) h is =
           plan = subst (λ ss. plan_at version n start (groups ++ []) ss ≡ Ok h.plan) (sym (append-nil spans)) (subst (λ gs. plan_at version n start gs spans ≡ Ok h.plan) (sym (append-nil groups)) e.0);
           no_group = λ t e. refl;
           stated = tt;
+          none_before = λ no. refl;
         }
     by_row (Err f) r is ih = absurd cc
 
@@ -220,9 +227,21 @@ with_stated plan spans = same_stated plan.groups (group_with plan spans) 0 (λ k
 pub groups_stated : (groups : List GroupPlan) (rounds w1 w2 : ℕ) (spans : List Span) → map stated (with_spans (plan_of groups rounds w1 w2) spans).groups ≡ groups
 groups_stated groups rounds w1 w2 spans = with_stated (plan_of groups rounds w1 w2) spans ∙ stated-group_of rounds groups
 
+-- ---- what a version asks of plans
+
+few_meters : (gs : List Group) → has_version One (map stated gs) ≡ true → (g : ℕ) → size gs g ≤ 64
+few_meters [] h g = omega arith
+few_meters (x ∷ xs) h zero = let few = (test_of (nat_le (length x.spans) 64) (has_version One (map stated xs)) h).0 in grind (arith, nat_tests, few)
+few_meters (x ∷ xs) h (suc g) = few_meters xs (test_of (nat_le (length x.spans) 64) (has_version One (map stated xs)) h).1 g
+
+head_has : (version : Version) (plan : PlanView) → has_version version (map stated plan.groups) ≡ true → (is_two version ≡ false → stated_spans plan ≡ []) → HasHead version plan
+head_has One plan few none = record { meters = few_meters plan.groups few; spans = none refl }
+head_has Two plan few none = tt
+
 -- what is read of a head
 pub record IsHeadRead (version : Version) (ps : List (List ℕ)) (h : HeadRead) : Type 0 where
   pub text : join_with_byte 10 ps ≡ head_text version h.plan ++ join_with_byte 10 h.rest
+  pub has : HasHead version h.plan
 
 pub head_is : (version : Version) (ps : List (List ℕ)) (h : HeadRead) → head_of version ps ≡ Ok h → IsHeadRead version ps h
 unfolding head_of head_text
@@ -245,4 +264,8 @@ head_is version ps h is =
     ∙ sym (append_assoc (first ++ groups_text (map stated made.groups) ++ members_text (stated_spans made)) tail last
     ∙ append_assoc (first ++ groups_text (map stated made.groups)) (members_text (stated_spans made)) (tail ++ last)
     ∙ append_assoc first (groups_text (map stated made.groups)) (members_text (stated_spans made) ++ (tail ++ last))) in
-    record { text = text ∙ ap (λ (plan : PlanView). (start_text version plan ++ groups_text (map stated plan.groups) ++ members_text (stated_spans plan) ++ tail) ++ last) (sym p.made) }
+    let has : HasHead version made = head_has version made (rw gs p.version_has) (λ no. ss ∙ rest.none_before no) in
+    record {
+      text = text ∙ ap (λ (plan : PlanView). (start_text version plan ++ groups_text (map stated plan.groups) ++ members_text (stated_spans plan) ++ tail) ++ last) (sym p.made);
+      has = subst (λ (plan : PlanView). HasHead version plan) (sym p.made) has;
+    }

@@ -4,7 +4,7 @@ ghost use Rattle.transcript_text.specs.Transcripts.{IsTranscript};
 ghost use Rattle.transcript_text.specs.Spelling.{transcript_text, text_of};
 ghost use Rattle.transcript_text.specs.Reading.{Gives};
 ghost use Rattle.transcript_text.specs.Heads.{read_of};
-ghost use Rattle.transcript_text.specs.ReadBack.{ReadsEach};
+ghost use Rattle.transcript_text.specs.ReadBack.{HasHead, IsOldPlan, ReadsEach};
 
 use crate::Transcript;
 use crate::fault::ReadError;
@@ -18,6 +18,7 @@ fn read_version(alloc: Global, version: Version, bytes: &[u8]) -> Result<Transcr
     ensures exact { Gives (λ t. t) result (read_of version bytes.now) }
     ensures found { IfOk result (λ t. bytes.now ≡ text_of version t) }
     ensures sound { IfOk result (λ t. IsTranscript t) }
+    ensures plan { IfOk result (λ t. HasHead version t.plan) }
 {
     let head = match read_head(alloc, version, bytes) {
         Ok(head) => head,
@@ -48,6 +49,7 @@ pub fn read_old(alloc: Global, bytes: &[u8]) -> Result<Transcript, ReadError>
     ensures exact { Gives (λ t. t) result (read_of One bytes.now) }
     ensures found { IfOk result (λ t. bytes.now ≡ text_of One t) }
     ensures sound { IfOk result (λ t. IsTranscript t) }
+    ensures plan { IfOk result (λ t. IsOldPlan t.plan) }
     ensures each { ReadsEach One bytes.now }
 {
     read_version(alloc, Version::One, bytes)
