@@ -112,7 +112,7 @@ record HeadRest (version : Version) (start : Start) (last : Option Span) (groups
   plan : plan_at version at_line start (groups ++ more_groups) (spans ++ more_spans) ≡ Ok h.plan
   no_group : (s : Span) → last ≡ Some s → more_groups ≡ []
   stated : AreStated start.rounds (groups ++ more_groups) last more_spans
-  none_before : is_two version ≡ false → more_spans ≡ []
+  no_span : is_two version ≡ false → more_spans ≡ []
 
 begin_is : (n : ℕ) (rest : List (List ℕ)) (r : Result PlanView ReadError) (h : HeadRead) → at_begin n rest r ≡ Ok h → (r ≡ Ok h.plan) × (rest ≡ h.rest)
 begin_is n rest (Ok plan) h e = let same : record { plan = plan; line = n + 1; rest = rest } ≡ h = cc in (ap (λ (x : HeadRead). Ok x.plan) same, ap (λ (x : HeadRead). x.rest) same)
@@ -145,7 +145,7 @@ head_back version start n last groups spans (line ∷ next ∷ more) h is =
           plan = subst (λ gs. plan_at version rest.at_line start gs (spans ++ rest.more_spans) ≡ Ok h.plan) all rest.plan;
           no_group = λ s e. absurd (let none = b.first in let o : None ≡ Some s = sym none ∙ e in cc);
           stated = subst (λ gs. AreStated start.rounds gs last rest.more_spans) all rest.stated;
-          none_before = rest.none_before;
+          no_span = rest.no_span;
         }
     by_row (Ok (row.Member s)) r is ih =
         let b = member_back version n start.rounds groups last (parts 44 line) s r in
@@ -164,7 +164,7 @@ head_back version start n last groups spans (line ∷ next ∷ more) h is =
           plan = subst (λ ss. plan_at version rest.at_line start (groups ++ []) ss ≡ Ok h.plan) all (subst (λ gs. plan_at version rest.at_line start gs ((spans ++ s ∷ []) ++ rest.more_spans) ≡ Ok h.plan) same rest.plan);
           no_group = λ t e. refl;
           stated = (subst (λ gs. IsTrue (span_fits start.rounds gs last s)) (sym (append-nil groups)) b.fits, subst (λ gs. AreStated start.rounds gs (Some s) rest.more_spans) same rest.stated);
-          none_before = λ no. absurd (let two = b.version_2 in let o : false ≡ true = sym no ∙ two in cc);
+          no_span = λ no. absurd (let two = b.version_2 in let o : false ≡ true = sym no ∙ two in cc);
         }
     by_row (Ok row.Begin) r is ih =
         let b = begin_back version n start.rounds groups last (parts 44 line) r in
@@ -178,7 +178,7 @@ head_back version start n last groups spans (line ∷ next ∷ more) h is =
           plan = subst (λ ss. plan_at version n start (groups ++ []) ss ≡ Ok h.plan) (sym (append-nil spans)) (subst (λ gs. plan_at version n start gs spans ≡ Ok h.plan) (sym (append-nil groups)) e.0);
           no_group = λ t e. refl;
           stated = tt;
-          none_before = λ no. refl;
+          no_span = λ no. refl;
         }
     by_row (Err f) r is ih = absurd cc
 
@@ -264,7 +264,7 @@ head_is version ps h is =
     ∙ sym (append_assoc (first ++ groups_text (map stated made.groups) ++ members_text (stated_spans made)) tail last
     ∙ append_assoc (first ++ groups_text (map stated made.groups)) (members_text (stated_spans made)) (tail ++ last)
     ∙ append_assoc first (groups_text (map stated made.groups)) (members_text (stated_spans made) ++ (tail ++ last))) in
-    let has : HasHead version made = head_has version made (rw gs p.version_has) (λ no. ss ∙ rest.none_before no) in
+    let has : HasHead version made = head_has version made (rw gs p.version_has) (λ no. ss ∙ rest.no_span no) in
     record {
       text = text ∙ ap (λ (plan : PlanView). (start_text version plan ++ groups_text (map stated plan.groups) ++ members_text (stated_spans plan) ++ tail) ++ last) (sym p.made);
       has = subst (λ (plan : PlanView). HasHead version plan) (sym p.made) has;

@@ -1,5 +1,5 @@
 -- The text of each transcript is read back.
-use Rattle.std.proofs.Common.{◌≡◌, ◌∙◌, ◌<◌, ◌≤◌, ◌+◌, ◌^◌, ℕ, true, List, ◌++◌, length, length-append, map, refl, ap, arith, Ok}
+use Rattle.std.proofs.Common.{◌≡◌, ◌∙◌, ◌<◌, ◌≤◌, ◌^◌, ℕ, true, List, ◌++◌, length, length-append, map, refl, ap, arith, Ok}
 use Rattle.group_plan.specs.Plans.{PlanView}
 use Rattle.group_plan.specs.NewPlans.{stated}
 use Rattle.transcript_log.specs.declared.Entry.{Entry}
