@@ -47,7 +47,6 @@ fn mark_all<R: Wait>(
 )
     requires pass { IsPassOf shared.now first.old }
     requires batch { batch.now ≡ (opening shared.now).parcels }
-    requires few { length batch.now < 2 ^ 32 }
     requires empty { (marks.old.items ≡ []) × (vec_len marks.old ≡ 0) }
     requires room { length batch.now ≤ vec_capacity marks.old }
     ensures pass { IsPassOf shared.now first.new }
@@ -76,7 +75,6 @@ pub fn gather<R: Threads + Wait + Sync, G: Gate>(
     requires first { ((view first.old).number ≡ 0) × ((view first.old).out ≡ 0) }
     requires made { (view first.old).made + 16 < 2 ^ 32 }
     requires batch { batch.now ≡ (opening shared.now).parcels }
-    requires few { length batch.now < 2 ^ 32 }
     requires workers { (1 ≤ workers) × (workers ≤ 16) }
     ensures pass { IsPassOf shared.now first.new }
     ensures ends { GatherEnds (opening shared.now) (view first.old) workers result (view first.new) }
