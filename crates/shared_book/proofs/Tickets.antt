@@ -1,9 +1,10 @@
 -- Each step of a turn keeps the rule.
-use Rattle.std.proofs.Common.{◌≡◌, ◌≢◌, ◌≤◌, ◌+◌, ◌%◌, ◌^◌, ℕ, true, false, List, [], ◌∷◌, ◌++◌, length, get_or, set, sym, refl, ap, ◌∙◌, subst, arith, inl, inr, ⊎_elim, eq-eqb, ne_eqb, length-set, append_assoc}
+use Rattle.std.proofs.Common.{◌≡◌, ◌≢◌, ◌≤◌, ◌+◌, ◌%◌, ◌^◌, ◌==◌, ℕ, true, false, List, [], ◌∷◌, ◌++◌, length, get_or, set, sym, refl, ap, ◌∙◌, subst, arith, inl, inr, ⊎_elim, eq-eqb, ne_eqb, length-set, append_assoc}
 use mathlib.Core.Logic.{dite}
 use mathlib.Core.Option.{Option, none, some, some-injective}
 use native.Mathlib.Decide.{ℕ_discrete}
 use lib.ListN.{get_elem?}
+use prog.Atomic.{either}
 use lib.Seq.{set-get_or}
 use Rattle.std.proofs.lemmas.List.{append-nil}
 use Rattle.atomic_table.specs.Table.{State, Act, step, keeps, takes, gives, stepped, Allows}
@@ -16,9 +17,26 @@ use Rattle.shared_book.specs.Turns.{IsLegal, StartsWith, turns_by}
 use Rattle.shared_book.specs.Law.{tick, alive, Stands, Holds, AtHome, IsOut, Kept, Mine, waiting, holding, done_with, Draws, Looks, PassesOn, NextIs}
 use Rattle.shared_book.proofs.Views.{next_mod, total_set, total_few, total_two, tick_one, tick_none, alive_one, inside, stay, due_of, has_of, idle_has, leads_stay, apart_stay, tells_stay, out_stays, whole_of}
 
--- a ticket is drawn
-pub draws : (o : Opening) (slots id : ℕ) (m : Mine) → m.0.live ≡ true → m.0.waits ≡ false → Allows (Kept o) slots id m 0 (λ n. (n + 1) % 2 ^ 64) (Draws (step slots 0 1 0 none) m)
-draws o slots id m live idle s r _ at _ =
+-- what a step on the word of the tickets owes, where the word becomes n
+abbrev DrawsAt : Opening → ℕ → ℕ → ℕ → ℕ → Mine → State Desk View → ℕ → Type 0
+DrawsAt o slots id next after m s n = (w : View) × (a : Act Desk) × Rattle.atomic_table.specs.Table.Valid s.homes m.1 a × Kept o (stepped s 0 n id m.1 w a)
+    × Draws (step slots 0 next after none) m (get_or s.words 0 0) (w, Rattle.atomic_table.specs.Table.carried_after m.1 a)
+
+-- the word is another than the one asked for
+draws_nothing : (o : Opening) (slots id next after : ℕ) (m : Mine) (s : State Desk View) (r : Kept o s) → get_elem? s.views id ≡ some m.0 → get_or s.words 0 0 ≢ next → DrawsAt o slots id next after m s (get_or s.words 0 0)
+draws_nothing o slots id next after m s r at n = (
+  m.0,
+  keeps,
+  tt,
+  (let P : List ℕ × List View → Type 0 = λ x. Kept o (record { words = x.0; homes = s.homes; views = x.1 }) in
+      subst P (λ k. (sym (set-get_or s.words 0 0) k, sym (set_again s.views id m.0 at) k)) r),
+  rw (ne_eqb (get_or s.words 0 0) next n) refl,
+)
+
+-- the word is the one asked for, and a ticket is drawn
+draws_one : (o : Opening) (slots id next after : ℕ) (m : Mine) → m.0.live ≡ true → m.0.waits ≡ false → (s : State Desk View) (r : Kept o s) → get_elem? s.views id ≡ some m.0 → get_or s.words 0 0 ≡ next
+    → DrawsAt o slots id next after m s ((get_or s.words 0 0 + 1) % 2 ^ 64)
+draws_one o slots id next after m live idle s r at now =
     let v : View = m.0 in
     let w : View = waiting v r.drawn in
     let mine = (r.each id v at).0 live in
@@ -62,8 +80,19 @@ draws o slots id m live idle s r _ at _ =
         tells = tells_stay r.log r.log s.views id v w at live (λ p. (p, refl, refl, refl, refl, refl)) (λ _ h. h) (λ _ _. refl) r.tells;
         slot = ⊎_elim (λ (h : AtHome o r.log s). inl h) (λ (h : IsOut s). inr (out_stays s id v w (set s.words 0 ((get_or s.words 0 0 + 1) % 2 ^ 64)) at free h)) r.slot;
       },
-      (r.drawn, refl, ap (λ (ws : List ℕ). get_or ws 0 0) r.words),
+      rw (eq-eqb (get_or s.words 0 0) next now) (r.drawn, refl, ap (λ (ws : List ℕ). get_or ws 0 0) r.words),
     )
+
+-- a pass without a ticket draws one, where the word is the one asked for
+pub draws : (o : Opening) (slots id next after : ℕ) (m : Mine) → m.0.live ≡ true → m.0.waits ≡ false → after ≡ (next + 1) % 2 ^ 64
+    → Allows (Kept o) slots id m 0 (λ n. either (n == next) after n) (Draws (step slots 0 next after none) m)
+draws o slots id next after m live idle one_more s r _ at _ = dite (ℕ_discrete (get_or s.words 0 0) next)
+    (λ (e : get_or s.words 0 0 ≡ next).
+    let more : (get_or s.words 0 0 + 1) % 2 ^ 64 ≡ either (get_or s.words 0 0 == next) after (get_or s.words 0 0) = rw (eq-eqb (get_or s.words 0 0) next e) (ap (λ (n : ℕ). (n + 1) % 2 ^ 64) e ∙ sym one_more) in
+    subst (DrawsAt o slots id next after m s) more (draws_one o slots id next after m live idle s r at e))
+    (λ (n : get_or s.words 0 0 ≢ next).
+    let same : get_or s.words 0 0 ≡ either (get_or s.words 0 0 == next) after (get_or s.words 0 0) = rw (ne_eqb (get_or s.words 0 0) next n) refl in
+    subst (DrawsAt o slots id next after m s) same (draws_nothing o slots id next after m s r at n))
 
 abbrev LooksAt : Opening → ℕ → ℕ → Mine → State Desk View → Type 0
 LooksAt o slots id m s = (w : View) × (a : Act Desk) × Rattle.atomic_table.specs.Table.Valid s.homes m.1 a × Kept o (stepped s 1 (get_or s.words 1 0) id m.1 w a)

@@ -99,9 +99,13 @@ holding v seen = record v { has = true; seen = seen }
 abbrev pub done_with : View → Desk → View
 done_with v d = record v { waits = false; has = false; seen = d.turns.items; mine = turns_by v.number d.turns.items }
 
--- a ticket was drawn
+-- the pass has drawn the ticket that the word says
+abbrev pub HasDrawn : Mine → ℕ → Mine → Type 0
+HasDrawn m r m' = (ticket : ℕ) × (m' ≡ (waiting m.0 ticket, m.1)) × (r ≡ ticket % 2 ^ 64)
+
+-- a ticket was drawn where the word was the one asked for; else nothing changed
 abbrev pub Draws : Step Desk → Mine → ℕ → Mine → Type 0
-Draws st m r m' = (ticket : ℕ) × (m' ≡ (waiting m.0 ticket, m.1)) × (r ≡ ticket % 2 ^ 64)
+Draws st m r m' = MatchBool (r == st.first) (HasDrawn m r m') (m' ≡ m)
 
 -- it is the pass's turn, and it has the slot; or it is not
 abbrev pub Looks : Step Desk → Mine → ℕ → Mine → Type 0

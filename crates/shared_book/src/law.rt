@@ -25,7 +25,7 @@ impl TableRule<Desk, View, Key> for Law {
     ghost first = { λ key. newcomer (opening_of key) 0 [] };
 }
 
-/// Draws a ticket.
+/// Draws a ticket, where it is the one asked for.
 pub struct Draw;
 
 impl Play<Desk, View> for Draw {

@@ -1,7 +1,7 @@
 ghost use Rattle.std.specs.Prelude.{◌≡◌, ◌<◌, ◌∷◌, [], true, length};
 ghost use Rattle.shared_book.specs.declared.desk.Desk.{Desk};
 ghost use Rattle.shared_book.specs.Turns.{IsRequestAt};
-ghost use Rattle.shared_book.specs.Law.{done_with, NextIs};
+ghost use Rattle.shared_book.specs.Law.{done_with, HasDrawn, NextIs};
 ghost use Rattle.shared_book.specs.Rests.{Rests, TakesTurn, HoldsDesk, Changed, SameView, TurnEnds};
 
 use crate::desk::Desk;
@@ -10,7 +10,9 @@ use crate::parcel::{CommitError, Reply, Request};
 use crate::turn::View;
 use atomic_table::{Seat, Shared};
 use std::sync::Wait;
+use std::sync::atomic::AtomicU64;
 use std::thread;
+use std::time::Duration;
 
 /// The words, the ticket that is drawn next and the ticket that is served, and the slot with the desk.
 pub type Counter = Shared<Desk, View, Key, Law>;
@@ -19,6 +21,34 @@ const TICKET: usize = 0;
 
 const SERVING: usize = 1;
 
+/// How many microseconds a pass sleeps that found the desk taken.
+const NAP: u64 = 50;
+
+/// Sleeps for a while. Nobody wakes it.
+fn nap<R: Wait>(rt: &R) {
+    AtomicU64::new(0).park_timeout(rt, 0, Duration::from_micros(NAP));
+}
+
+/// Draws a ticket once it is the next to be served. A pass that waited with a ticket while its thread doesn't run would hold
+/// up all passes behind it.
+fn draw<R: Wait>(rt: &R, counter: &Counter, seat: &mut Seat<Desk, View>) -> u64
+    requires counter { (seat.old.table_id ≡ counter.now.table_id) × (counter.now.table_id.words ≡ 2) }
+    requires rests { Rests seat.old.me }
+    ensures seat { (seat.new.table_id ≡ seat.old.table_id) × (seat.new.id ≡ seat.old.id) }
+    ensures drawn { HasDrawn seat.old.me result seat.new.me }
+{
+    'free: for _ in rt.forever() {
+        let next = counter.peek(SERVING);
+        let after = next.wrapping_add(1);
+        let found = counter.compare_exchange::<Draw>(seat, TICKET, next, after);
+        if found == next {
+            return found;
+        }
+        nap(rt);
+    }
+    unreachable!()
+}
+
 /// Draws a ticket, and waits for its turn.
 pub(crate) fn enter<R: Wait>(rt: &R, counter: &Counter, seat: &mut Seat<Desk, View>)
     requires counter { (seat.old.table_id ≡ counter.now.table_id) × (counter.now.table_id.words ≡ 2) }
@@ -26,7 +56,7 @@ pub(crate) fn enter<R: Wait>(rt: &R, counter: &Counter, seat: &mut Seat<Desk, Vi
     ensures seat { (seat.new.table_id ≡ seat.old.table_id) × (seat.new.id ≡ seat.old.id) }
     ensures turn { TakesTurn seat.old.me.0 seat.new.me }
 {
-    let ticket = counter.fetch_add::<Draw>(seat, TICKET, 1);
+    let ticket = draw(rt, counter, seat);
     'turn: for _ in rt.forever() {
         let serving = counter.load::<Look>(seat, SERVING);
         if serving == ticket {
