@@ -272,6 +272,7 @@ made file slots readings book t texts finished written =
       run,
       record {
         transcript = written.transcript ∙ ap (λ plan. transcript_text (with_entries plan)) finished.plan;
+        read_back = written.read_back ∙ ap (λ plan. Ok (with_entries plan)) finished.plan;
         report = written.report ∙ report_is readings file slots book t is finished run;
         summary = written.summary ∙ summary_is readings file slots book t is finished well;
       },

@@ -3,8 +3,10 @@ use Rattle.std.specs.Prelude.{◌≡◌, ℕ, List, Result, Ok, Err, ⊤}
 use Rattle.group_book.specs.Books.{BookView}
 use Rattle.link_lanes.specs.Lanes.{Meaning}
 use Rattle.plan_files.specs.PlanFiles.{plan_of}
-use Rattle.transcript_text.specs.Transcripts.{TranscriptView, IsTranscript}
+use Rattle.transcript_text.specs.declared.version.Version.TheVariants.{Two}
+use Rattle.transcript_text.specs.Transcripts.{TranscriptView}
 use Rattle.transcript_text.specs.Spelling.{transcript_text}
+use Rattle.transcript_text.specs.Heads.{read_of}
 use Rattle.totals_report.specs.Books.{row_in, summary_in}
 use Rattle.totals_report.specs.Reports.{report_text, summary_text}
 use Rattle.meteragg.specs.declared.texts.RunTexts.{RunTexts}
@@ -20,7 +22,7 @@ texts_of kept = record { transcript = kept.transcript.items; report = kept.repor
 -- the texts are those of a transcript and of a book's outcomes
 pub record AreTextsOf (book : BookView) (t : TranscriptView) (texts : Texts) : Type 0 where
   pub transcript : texts.transcript ≡ transcript_text t
-  pub sound : IsTranscript t
+  pub read_back : read_of Two texts.transcript ≡ Ok t
   pub report : texts.report ≡ report_text book.presence.plan (row_in book)
   pub summary : texts.summary ≡ summary_text (summary_in book)
 

@@ -17,8 +17,10 @@ use Rattle.run_rows.specs.Summary.{summary_of_posts}
 use Rattle.run_rows.specs.Posts.{posts_by_lanes}
 use Rattle.ideal_masks.specs.Isolation.{Isolated}
 use Rattle.plan_files.specs.PlanFiles.{PlanFileView, plan_of}
+use Rattle.transcript_text.specs.declared.version.Version.TheVariants.{Two}
 use Rattle.transcript_text.specs.Transcripts.{TranscriptView}
 use Rattle.transcript_text.specs.Spelling.{transcript_text}
+use Rattle.transcript_text.specs.Heads.{read_of}
 use Rattle.totals_report.specs.Reports.{report_text, summary_text}
 
 -- ---- the values of the files
@@ -83,9 +85,10 @@ pub record Texts : Type 0 where
 abbrev pub transcript_in : Values → List Entry → TranscriptView
 transcript_in v entries = record { plan = plan_in v; entries = entries }
 
--- the transcript of the plan and the entries, the report by fates, and its summary
+-- the transcript of the plan and the entries, which `read` gives for its bytes, the report by fates, and its summary
 pub record AreTexts (v : Values) (entries : List Entry) (texts : Texts) : Type 0 where
   pub transcript : texts.transcript ≡ transcript_text (transcript_in v entries)
+  pub read_back : read_of Two texts.transcript ≡ Ok (transcript_in v entries)
   pub report : texts.report ≡ report_text (plan_in v) (row_in v entries)
   pub summary : texts.summary ≡ summary_text (summary_of_posts (shape_in v) (clock_in v) (plain_sum (readings_in v)) (posts_of entries))
 

@@ -4,7 +4,7 @@ use desk_outside::MemoryDesk;
 use std::test::Fail;
 
 // Each row: its name, the rows of the plan after its first, the readings, the status, and the complaint.
-const REFUSALS: [(&str, &str, &str, u8, &str); 26] = [
+static REFUSALS: [(&str, &str, &str, u8, &str); 26] = [
     (
         "reading_too_great",
         "rounds,1\nwindows,1,2\nN",
@@ -192,7 +192,8 @@ const REFUSALS: [(&str, &str, &str, u8, &str); 26] = [
 #[test]
 fn refused_files(rt: HostRuntime) -> Result<(), Fail> {
     let alloc = rt.alloc();
-    for (name, pattern, readings, status, complaint) in REFUSALS {
+    for case in REFUSALS.iter() {
+        let (name, pattern, readings, status, complaint) = *case;
         let mut rows = String::new(alloc);
         let mut is_first = true;
         for part in pattern.split('N') {
