@@ -1,13 +1,13 @@
 -- What a batch of entries adds to counts and lists.
-use Rattle.std.proofs.Common.{◌≡◌, ℕ, zero, suc, ◌+◌, ◌*◌, ◌<◌, ◌≤◌, Bool, true, false, cond, ◌&&◌, List, [], ◌∷◌, ◌++◌, length, map, replicate, ◌⊎◌, refl, sym, ap, ◌∙◌, subst, append-nil, zero-add, arith, ⊎_elim}
+use Rattle.std.proofs.Common.{◌≡◌, ℕ, suc, ◌+◌, ◌*◌, ◌<◌, ◌≤◌, Bool, true, false, cond, ◌&&◌, List, [], ◌∷◌, ◌++◌, map, replicate, refl, sym, ap, ◌∙◌, append-nil, zero-add, arith, ⊎_elim}
 use Rattle.std.specs.Prelude.{◌==◌, nat_lt, if◌then◌else◌}
 use Rattle.std.specs.List.{sum_by, count_by, filter, flat_map, All}
-use Rattle.std.proofs.lemmas.Bool.{false≢true, lt-ltb, eqb-true, ltb-true, ne_eqb, cases_lt}
+use Rattle.std.proofs.lemmas.Bool.{lt-ltb, eqb-true, ne_eqb, cases_lt}
 use Rattle.std.proofs.lemmas.Bool.Decides.{nat_tests}
 use Rattle.std.proofs.lemmas.Grind.{flat_map-append}
 use Rattle.std.proofs.lemmas.List.{map-append}
-use Rattle.std.proofs.lemmas.List.Elements.{All-head, All-tail, All-weaker, All-nil, All-cons, filter-append}
-use Rattle.std.proofs.lemmas.List.Sums.{sum_by-cons, sum_by-append}
+use Rattle.std.proofs.lemmas.List.Elements.{All-head, All-tail, All-weaker, filter-append}
+use Rattle.std.proofs.lemmas.List.Sums.{sum_by-cons}
 use Rattle.group_plan.specs.declared.Kind.{Kind}
 use Rattle.group_plan.specs.declared.Tag.{Tag}
 use Rattle.link_lanes.specs.declared.Post.{Post}
@@ -17,7 +17,7 @@ use Rattle.transcript_log.specs.declared.Event.TheVariants.{Send, Take, Close, E
 use Rattle.transcript_log.specs.declared.Entry.{Entry}
 use Rattle.transcript_log.specs.Events.{is_take, is_send, is_close, is_end, event_of}
 use Rattle.run_rows.specs.Ticks.{phase, moment, takes_at, copies, tags_of, sent_at, posts_of, StandsOnce}
-use Rattle.tick_run.specs.Progress.{IsDelay, IsBatch}
+use Rattle.tick_run.specs.Progress.{IsBatch}
 
 -- no entry is a Send
 abbrev pub AreSilent : List Entry → Type 0

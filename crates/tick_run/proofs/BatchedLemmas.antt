@@ -1,20 +1,17 @@
 -- A run after its batches.
-use Rattle.std.proofs.Common.{◌≡◌, ℕ, zero, suc, ◌+◌, ◌*◌, ◌<◌, ◌≤◌, List, [], ◌∷◌, ◌++◌, length, map, refl, sym, ap, ◌∙◌, subst, append-nil, arith}
-use Rattle.std.specs.List.{All, filter}
-use Rattle.std.proofs.lemmas.List.Elements.{All-weaker}
+use Rattle.std.proofs.Common.{◌≡◌, ℕ, ◌+◌, ◌*◌, ◌<◌, ◌≤◌, List, ◌++◌, length, map, sym, ap, ◌∙◌, subst, append-nil, arith}
+use Rattle.std.specs.List.{All}
 use Rattle.missing_round.specs.Masks.{Masks}
-use Rattle.group_plan.specs.Plans.{PlanView}
-use Rattle.group_plan.specs.Tables.{ReadingsView, PresenceView, presence_of}
+use Rattle.group_plan.specs.Tables.{ReadingsView, PresenceView}
 use Rattle.group_plan.specs.declared.Tag.{Tag}
 use Rattle.link_lanes.specs.declared.Post.{Post}
-use Rattle.link_lanes.specs.Lanes.{Slot, lasts}
+use Rattle.link_lanes.specs.Lanes.{Slot}
 use Rattle.lossy_link.specs.Arrivals.{Arrival}
-use Rattle.transcript_log.specs.declared.Event.{Event}
 use Rattle.transcript_log.specs.declared.Event.TheVariants.{Take}
 use Rattle.transcript_log.specs.declared.Line.{Line}
 use Rattle.transcript_log.specs.declared.Entry.{Entry}
 use Rattle.transcript_log.specs.Events.{event_of}
-use Rattle.run_rows.specs.Ticks.{Clock, clock_of, phase, copies, posts_of}
+use Rattle.run_rows.specs.Ticks.{Clock, clock_of, phase, posts_of}
 use Rattle.transcript_text.specs.Transcripts.{TranscriptView, last_tick_from}
 use Rattle.group_book.specs.Books.{BookView}
 use Rattle.tick_run.specs.Running.{Stage, emptied, taken, closed, run_shape, IsRunning, AreCopiesDue, KeepCopies, HaveEvents, quiet, calls_due}

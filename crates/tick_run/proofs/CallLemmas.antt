@@ -1,16 +1,16 @@
 -- The Closes and Ends that are due at a tick: each once.
-use Rattle.std.proofs.Common.{◌≡◌, ℕ, zero, suc, ◌+◌, ◌-◌, ◌<◌, ◌≤◌, Bool, true, false, cond, ◌&&◌, List, [], ◌∷◌, ◌++◌, length, refl, sym, ap, ◌∙◌, subst, arith, ⊎_elim}
-use Rattle.std.specs.Prelude.{◌==◌, nat_lt, nat_le, if◌then◌else◌}
-use Rattle.std.specs.List.{sum_by, count_by, flat_map, range_with_len, AllZip}
+use Rattle.std.proofs.Common.{◌≡◌, ℕ, zero, suc, ◌+◌, ◌-◌, ◌<◌, ◌≤◌, Bool, true, false, cond, ◌&&◌, [], ◌∷◌, refl, sym, ap, ◌∙◌, arith, ⊎_elim}
+use Rattle.std.specs.Prelude.{◌==◌, nat_lt, if◌then◌else◌}
+use Rattle.std.specs.List.{sum_by, count_by, range_with_len}
 use mathlib.Core.Path.{fun_ext}
-use Rattle.std.proofs.lemmas.Bool.{false≢true, cases_lt, cases_eq, ne_eqb, lt-ltb}
+use Rattle.std.proofs.lemmas.Bool.{cases_lt, cases_eq, ne_eqb, lt-ltb}
 use Rattle.std.proofs.lemmas.Bool.Decides.{nat_tests}
 use Rattle.std.proofs.lemmas.List.Sums.{sum_by-cons, sum_by-append}
 use Rattle.transcript_log.specs.declared.Event.{Event}
 use Rattle.transcript_log.specs.declared.Event.TheVariants.{Close, End}
 use Rattle.transcript_log.specs.Events.{is_close, is_end}
 use Rattle.transcript_log.proofs.ListLemmas.{sum_by-flat_map}
-use Rattle.run_rows.specs.Ticks.{Clock, phase}
+use Rattle.run_rows.specs.Ticks.{Clock}
 use Rattle.tick_run.specs.Running.{is_due, calls_of, calls_due}
 
 -- ---- one of a range

@@ -1,24 +1,23 @@
 -- The frames that are to be sent at a tick: their tags, and that each is the frame of its tag.
-use Rattle.std.proofs.Common.{◌≡◌, ℕ, zero, suc, ◌+◌, ◌<◌, ◌≤◌, Bool, true, false, cond, not, ◌&&◌, List, [], ◌∷◌, ◌++◌, length, map, refl, sym, ap, ◌∙◌, subst, arith, ⊎_elim}
-use Rattle.std.specs.Prelude.{◌==◌, nat_lt, nat_le, if◌then◌else◌, Option, Some, None, slice_get}
+use Rattle.std.proofs.Common.{◌≡◌, ℕ, zero, suc, ◌+◌, ◌<◌, ◌≤◌, Bool, true, false, cond, not, ◌&&◌, List, [], ◌∷◌, ◌++◌, map, refl, sym, ap, ◌∙◌, subst, arith}
+use Rattle.std.specs.Prelude.{◌==◌, nat_lt, if◌then◌else◌, Some, None}
 use mathlib.Core.Path.{fun_ext}
-use Rattle.std.specs.List.{filter, flat_map, range_with_len, list_any, All}
-use Rattle.std.proofs.lemmas.Bool.{false≢true, and_from, and_parts, lt-ltb, ltb-true, eqb-true}
+use Rattle.std.specs.List.{filter, flat_map, range_with_len, All}
+use Rattle.std.proofs.lemmas.Bool.{and_from, ltb-true, eqb-true}
 use Rattle.std.proofs.lemmas.List.{map-append}
-use Rattle.std.proofs.lemmas.List.Elements.{All-head, All-tail, All-nil, All-cons, All-append}
+use Rattle.std.proofs.lemmas.List.Elements.{All-nil, All-cons, All-append}
 use Rattle.missing_round.specs.Masks.{Masks}
-use Rattle.group_plan.specs.Plans.{size, size_or, is_member, members}
+use Rattle.group_plan.specs.Plans.{size, is_member}
 use Rattle.group_plan.specs.declared.Kind.TheVariants.{Reading, Announcement, Answer}
 use Rattle.group_plan.specs.declared.Tag.{Tag}
 use Rattle.meter_frames.specs.declared.Frame.{Frame}
 use Rattle.transcript_log.specs.declared.Event.{Event}
 use Rattle.transcript_log.specs.declared.Entry.{Entry}
 use Rattle.transcript_log.specs.Tables.{Readings}
-use Rattle.transcript_log.specs.Schedule.{Shape, members_of, is_announced, is_reading_taken, survivors, missing, may_send, is_announcement_taken}
+use Rattle.transcript_log.specs.Schedule.{Shape, members_of, is_announced, is_reading_taken, survivors, missing, may_send}
 use Rattle.transcript_log.specs.Transcript.{Contents, contents_of_tables, set_sent, word_sent, frame}
-use Rattle.transcript_log.proofs.ListLemmas.{flat_map_same}
 use Rattle.run_rows.specs.Ticks.{Clock, tag_of, tags, takes_at, due_of}
-use Rattle.tick_run.specs.Progress.{IsInTime, past_of_entries}
+use Rattle.tick_run.specs.Progress.{past_of_entries}
 use Rattle.tick_run.specs.TickFrames.{was_taken, due_after, reading_frame, announcement_frame, answer_frame, frames_due, AreHeard, IsDue}
 
 -- ---- the tags

@@ -1,23 +1,21 @@
 -- After the last tick: nothing is on its way, and the entries are a tick run.
-use Rattle.std.proofs.Common.{◌≡◌, ℕ, zero, suc, ◌+◌, ◌-◌, ◌*◌, ◌<◌, ◌≤◌, Bool, true, false, cond, ◌&&◌, List, [], ◌∷◌, ◌++◌, length, map, ◌⊎◌, refl, sym, ap, ◌∙◌, subst, append-nil, zero-add, arith, ⊎_elim}
+use Rattle.std.proofs.Common.{◌≡◌, ℕ, ◌+◌, ◌*◌, ◌<◌, ◌≤◌, Bool, true, false, cond, ◌&&◌, List, [], ◌∷◌, ◌++◌, length, map, refl, sym, ap, ◌∙◌, subst, arith, ⊎_elim}
 use Rattle.std.specs.Prelude.{◌==◌, nat_lt, if◌then◌else◌}
 use mathlib.Core.Path.{fun_ext}
 use Rattle.std.specs.List.{sum_by, count_by, filter, flat_map, range_with_len, All}
-use Rattle.std.proofs.lemmas.Bool.{false≢true, and_parts, lt-ltb, ltb-true, ne_eqb, cases_lt}
+use Rattle.std.proofs.lemmas.Bool.{and_parts, lt-ltb, ltb-true, ne_eqb, cases_lt}
 use Rattle.std.proofs.lemmas.Bool.Decides.{nat_tests}
-use Rattle.std.proofs.lemmas.List.Elements.{All-weaker, All-nil, All-cons, All-append, All-push}
+use Rattle.std.proofs.lemmas.List.Elements.{All-weaker}
 use Rattle.group_plan.specs.declared.Kind.{Kind}
 use Rattle.group_plan.specs.declared.Kind.TheVariants.{Reading, Announcement, Answer}
 use Rattle.group_plan.specs.declared.Tag.{Tag}
 use Rattle.link_lanes.specs.Lanes.{Slot, fates_after}
-use Rattle.transcript_log.specs.declared.Event.{Event}
-use Rattle.transcript_log.specs.declared.Event.TheVariants.{Send, Take, Close, End}
 use Rattle.transcript_log.specs.declared.Entry.{Entry}
-use Rattle.transcript_log.specs.Events.{is_take, is_send, is_close, is_end, event_of, events_of}
+use Rattle.transcript_log.specs.Events.{is_send, event_of}
 use Rattle.transcript_log.specs.Schedule.{Shape, is_announced, survivors, members_of}
 use Rattle.transcript_log.proofs.EventLemmas.{is_send-true}
 use Rattle.transcript_log.proofs.ListLemmas.{flat_map_same}
-use Rattle.run_rows.specs.Ticks.{Clock, last_tick, in_plan, phase, moment, tag_of, tags, takes_at, copies, tags_of, sent_at, due_of, posts_of, StandsOnce, HaveDelays, IsTickRun}
+use Rattle.run_rows.specs.Ticks.{Clock, last_tick, in_plan, tag_of, tags, takes_at, copies, due_of, posts_of, HaveDelays, IsTickRun}
 use Rattle.run_rows.proofs.TickLemmas.{Member}
 use Rattle.run_rows.proofs.TickRun.{all_member}
 use Rattle.run_rows.proofs.FateLemmas.{all_from_member}

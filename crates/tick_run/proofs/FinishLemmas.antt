@@ -1,25 +1,22 @@
 -- A run that is over.
-use Rattle.std.proofs.Common.{◌≡◌, ℕ, ◌+◌, ◌*◌, ◌<◌, ◌≤◌, ◌^◌, true, List, [], ◌∷◌, ◌++◌, map, refl, sym, ap, ◌∙◌, subst, arith}
-use Rattle.std.specs.Prelude.{Option, Some, None, is_some, unwrap_or}
-use Rattle.std.specs.List.{filter}
+use Rattle.std.proofs.Common.{◌≡◌, ℕ, ◌+◌, ◌*◌, ◌<◌, ◌^◌, List, [], map, refl, sym, ap, ◌∙◌, subst, arith}
+use Rattle.std.specs.Prelude.{Option, Some, None, unwrap_or}
 use Rattle.missing_round.specs.Masks.{Masks}
 use Rattle.group_plan.specs.Plans.{PlanView, IsWithinLimits}
-use Rattle.group_plan.specs.Tables.{ReadingsView, IsReadingTable, reading, presence_of}
+use Rattle.group_plan.specs.Tables.{ReadingsView, IsReadingTable, reading}
 use Rattle.pair_keys.specs.Keys.{Keys}
 use Rattle.mask_stream.specs.KeyStreams.{streams}
 use Rattle.link_lanes.specs.declared.Post.{Post}
 use Rattle.link_lanes.specs.Lanes.{Slot, fates_after}
 use Rattle.lossy_link.specs.Arrivals.{Arrival}
 use Rattle.transcript_log.specs.declared.Entry.{Entry}
-use Rattle.transcript_log.specs.declared.Event.{Event}
-use Rattle.transcript_log.specs.declared.Line.{Line}
-use Rattle.transcript_log.specs.Events.{event_of, events_of, lines_of}
+use Rattle.transcript_log.specs.Events.{events_of, lines_of}
 use Rattle.transcript_log.specs.Schedule.{Shape, shape_of_presence}
-use Rattle.transcript_log.specs.Tables.{IsBounded, reading_at}
-use Rattle.transcript_log.specs.Transcript.{Contents, transcript, lines_after, shape_of_readings, contents_of_tables}
+use Rattle.transcript_log.specs.Tables.{IsBounded}
+use Rattle.transcript_log.specs.Transcript.{transcript, lines_after, contents_of_tables}
 use Rattle.transcript_log.specs.Journal.{IsJournalAfter, HasFramesOf}
 use Rattle.transcript_log.proofs.JournalLemmas.{journal_is}
-use Rattle.run_rows.specs.Ticks.{Clock, clock_of, last_tick, posts_of, IsTickRun}
+use Rattle.run_rows.specs.Ticks.{Clock, clock_of, last_tick}
 use Rattle.transcript_text.specs.Transcripts.{TranscriptView, no_entries}
 use Rattle.group_book.specs.Books.{BookView, shape_of}
 use Rattle.tick_run.specs.Running.{starting, run_shape, run_contents, IsRunning}

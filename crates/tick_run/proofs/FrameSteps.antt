@@ -1,5 +1,5 @@
 -- The frames of a tick stay what they are while it goes on.
-use Rattle.std.proofs.Common.{◌≡◌, ℕ, ◌+◌, ◌<◌, Bool, true, false, cond, ◌&&◌, List, [], ◌∷◌, ◌++◌, map, refl, sym, ap, ◌∙◌, subst, append_assoc, append-nil, arith}
+use Rattle.std.proofs.Common.{◌≡◌, ℕ, ◌<◌, Bool, true, false, cond, List, [], ◌∷◌, ◌++◌, map, refl, sym, ap, ◌∙◌, subst, append_assoc, append-nil, arith}
 use Rattle.std.specs.Prelude.{if◌then◌else◌, Option, Some, None}
 use mathlib.Core.List.{reverse}
 use Rattle.std.specs.List.{All}
@@ -14,10 +14,10 @@ use Rattle.transcript_log.specs.declared.Line.{Line}
 use Rattle.transcript_log.specs.declared.Line.TheVariants.{Send as SendLine, Take as TakeLine, Close as CloseLine, End as EndLine}
 use Rattle.transcript_log.specs.declared.Entry.{Entry}
 use Rattle.transcript_log.specs.Events.{event_of, events_of, lines_of}
-use Rattle.transcript_log.specs.Schedule.{Shape, is_closed, reaches_floor, is_announced, is_reading_taken, may_send, missing}
+use Rattle.transcript_log.specs.Schedule.{Shape, is_closed, reaches_floor, is_announced, is_reading_taken, may_send}
 use Rattle.transcript_log.specs.Transcript.{Contents, set_sent, word_sent, frame}
 use Rattle.transcript_log.specs.Journal.{past_of, HasFramesOf}
-use Rattle.transcript_log.proofs.ScheduleLemmas.{after, after-keeps, once-more, is_announced-more, is_reading_taken-closed, missing-closed, is_closed-from_taken}
+use Rattle.transcript_log.proofs.ScheduleLemmas.{after-keeps, once-more, is_announced-more, is_reading_taken-closed, missing-closed, is_closed-from_taken}
 use Rattle.run_rows.specs.Ticks.{phase}
 use Rattle.tick_run.specs.Progress.{past_of_entries}
 use Rattle.tick_run.proofs.PastLemmas.{past-append}

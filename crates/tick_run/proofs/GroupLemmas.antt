@@ -1,19 +1,17 @@
 -- What a group sends at a tick, round by round.
-use Rattle.std.proofs.Common.{◌≡◌, ℕ, zero, suc, ◌+◌, ◌-◌, ◌<◌, ◌≤◌, Bool, true, false, cond, not, ◌&&◌, ◌||◌, List, [], ◌∷◌, ◌++◌, length, map, refl, sym, ap, ◌∙◌, subst, append-nil, append_assoc, zero-add, arith, min, ◌⊎◌, ⊎_elim, inl, inr}
+use Rattle.std.proofs.Common.{◌≡◌, ℕ, zero, suc, ◌+◌, ◌-◌, ◌<◌, ◌≤◌, Bool, true, false, cond, not, ◌&&◌, ◌||◌, List, [], ◌∷◌, ◌++◌, map, refl, sym, ap, ◌∙◌, append-nil, append_assoc, zero-add, arith, min, ◌⊎◌, ⊎_elim, inl, inr}
 use Rattle.std.specs.Prelude.{◌==◌, nat_lt, if◌then◌else◌, is_some}
 use mathlib.Core.Path.{fun_ext}
 use Rattle.std.specs.List.{filter, flat_map, range_with_len, list_any, list_all}
-use Rattle.std.proofs.lemmas.Bool.{false≢true, ne_eqb, lt-ltb, cases_eq, and_parts, and_from, eqb-true, false_from_ne_true}
+use Rattle.std.proofs.lemmas.Bool.{false≢true, ne_eqb, lt-ltb, cases_eq, and_parts, and_from, false_from_ne_true}
 use Rattle.std.proofs.lemmas.Bool.Decides.{nat_tests}
 use Rattle.missing_round.specs.Masks.{Masks}
 use Rattle.missing_round.specs.Sets.{is_member as is_in, joined, less}
 use Rattle.missing_round.proofs.SetLemmas.{is_member-joined, less-filter, is_member-filter}
 use Rattle.group_plan.specs.Plans.{size, is_place, members}
-use Rattle.group_plan.specs.Tables.{ReadingsView, reading, presence_of, PresenceView, IsPresenceTable}
-use Rattle.group_plan.specs.declared.Kind.{Kind}
-use Rattle.group_plan.specs.declared.Kind.TheVariants.{Reading, Announcement, Answer}
+use Rattle.group_plan.specs.Tables.{ReadingsView, reading, PresenceView, IsPresenceTable}
+use Rattle.group_plan.specs.declared.Kind.TheVariants.{Announcement}
 use Rattle.group_plan.specs.declared.Tag.{Tag}
-use Rattle.meter_frames.specs.declared.Frame.{Frame}
 use Rattle.transcript_log.specs.declared.Event.{Event}
 use Rattle.transcript_log.specs.Events.{is_send, same_kind}
 use Rattle.transcript_log.specs.Schedule.{Shape, shape_of_presence, members_of, is_announced, is_reading_taken, survivors, missing, may_announce, is_announcement_taken}
@@ -165,7 +163,7 @@ taken-to (tag ∷ tags) g r i = step (tag.group == g) (same_kind tag.kind Announ
 -- ---- answers
 
 -- who was told of the missing set is a survivor
-told_survives : (s : Shape) (g r i : ℕ) (past : List Event) → is_announcement_taken s g r i past ≡ true → is_reading_taken s g r i past ≡ true
+pub told_survives : (s : Shape) (g r i : ℕ) (past : List Event) → is_announcement_taken s g r i past ≡ true → is_reading_taken s g r i past ≡ true
 told_survives s g r i past h =
     once-gives (λ e before. is_send g r i Announcement e && may_announce s g r i before) (λ q. is_reading_taken s g r i q ≡ true)
     (λ e q t. (and_parts (is_announced s g r q) (is_reading_taken s g r i q) (and_parts (is_send g r i Announcement e) (may_announce s g r i q) t).1).1)

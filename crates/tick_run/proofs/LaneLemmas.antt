@@ -1,10 +1,10 @@
 -- The lanes that hang while a run goes on.
-use Rattle.std.proofs.Common.{◌≡◌, ℕ, ◌+◌, ◌<◌, ◌≤◌, Bool, true, false, cond, ◌&&◌, List, [], ◌∷◌, ◌++◌, map, refl, sym, ap, ◌∙◌, arith}
-use Rattle.std.specs.Prelude.{nat_le, if◌then◌else◌}
-use Rattle.std.specs.List.{filter, count_by}
+use Rattle.std.proofs.Common.{◌≡◌, ℕ, ◌+◌, ◌≤◌, Bool, true, false, cond, List, [], ◌∷◌, ◌++◌, map, refl, sym, ap, ◌∙◌, arith}
+use Rattle.std.specs.Prelude.{nat_le}
+use Rattle.std.specs.List.{filter}
 use Rattle.std.proofs.lemmas.Bool.Decides.{nat_tests}
 use Rattle.group_plan.specs.declared.Tag.{Tag}
-use Rattle.link_lanes.specs.Lanes.{Slot, hangs_at, fate_through, fate_after, after_post, after_posts, lasts, RackGoesOn}
+use Rattle.link_lanes.specs.Lanes.{Slot, hangs_at, fate_through, fate_after, after_post, after_posts, lasts}
 use Rattle.link_lanes.specs.declared.Post.{Post}
 use Rattle.link_lanes.proofs.RackLemmas.{racks}
 use Rattle.tick_run.specs.OnTheWay.{AreLanesAt}

@@ -22,3 +22,6 @@ pub mod TakeLemmas
 pub mod TickLoop
 pub mod BatchedLemmas
 pub mod FinishLemmas
+pub mod RangeLemmas
+pub mod MeterLemmas
+pub mod MetersLemmas

@@ -1,15 +1,13 @@
 -- Parcels and the events that they are accepted as, and that added lines fit the plan.
-use Rattle.std.proofs.Common.{◌≡◌, ℕ, zero, suc, ◌+◌, ◌-◌, ◌<◌, ◌≤◌, Bool, true, false, cond, not, ◌&&◌, List, [], ◌∷◌, ◌++◌, length, map, refl, sym, ap, ◌∙◌, subst, arith}
-use Rattle.std.specs.Prelude.{◌==◌, nat_lt, nat_le, if◌then◌else◌, Option, Some, None, is_some, Result, Ok, Err, bytes_eq, slice_get}
-use Rattle.std.specs.List.{sum_by, count_by, filter, flat_map, range_with_len, All, AllZip}
+use Rattle.std.proofs.Common.{◌≡◌, ℕ, zero, suc, ◌+◌, ◌-◌, ◌<◌, ◌≤◌, Bool, true, false, cond, not, ◌&&◌, List, [], ◌∷◌, ◌++◌, length, refl, sym, ap, ◌∙◌, subst, arith}
+use Rattle.std.specs.Prelude.{◌==◌, nat_lt, nat_le, if◌then◌else◌, Option, Some, None, Result, Ok, Err, bytes_eq}
+use Rattle.std.specs.List.{count_by, filter, flat_map, range_with_len, All}
 use Rattle.std.proofs.lemmas.Bool.{false≢true, and_from, and_parts, lt-ltb, ltb-true, eq-eqb}
 use Rattle.std.proofs.lemmas.List.Sums.{sum_by-cons}
 use Rattle.std.proofs.lemmas.List.Elements.{All-head, All-tail, All-nil, All-cons}
-use Rattle.group_plan.specs.Plans.{PlanView, is_place, size, is_member}
+use Rattle.group_plan.specs.Plans.{PlanView, is_place, size}
 use Rattle.group_plan.specs.declared.Tag.{Tag}
-use Rattle.round_machine.specs.declared.Closing.{Closing}
 use Rattle.round_machine.specs.declared.Closing.TheVariants as closings
-use Rattle.round_machine.specs.declared.Ending.{Ending}
 use Rattle.round_machine.specs.declared.Ending.TheVariants as endings
 use Rattle.meter_frames.specs.declared.Frame.{Frame}
 use Rattle.meter_frames.specs.Frames.{spelling, IsFrame}
@@ -20,12 +18,12 @@ use Rattle.transcript_log.specs.declared.Line.TheVariants.{Send as SendLine, Tak
 use Rattle.transcript_log.specs.Events.{event_of, frame_of}
 use Rattle.transcript_log.proofs.EventLemmas.{is_send-itself}
 use Rattle.tick_run.specs.OnTheWay.{same_tag}
-use Rattle.transcript_log.specs.Schedule.{Shape, members_of, is_closed, is_ended, is_announced, reaches_floor, is_reading_taken, is_answer_taken, all_taken, survivors, missing, lacking, closing}
+use Rattle.transcript_log.specs.Schedule.{Shape, is_closed, is_ended, is_announced, reaches_floor, is_answer_taken, all_taken, survivors, missing, lacking, closing}
 use Rattle.transcript_log.specs.Transcript.{Contents, ending}
 use Rattle.transcript_log.specs.Frames.{contents_of_lines}
 use Rattle.transcript_log.specs.Journal.{past_of, core_line, IsJournalAfter}
 use Rattle.run_rows.specs.Ticks.{Clock}
-use Rattle.transcript_text.specs.Transcripts.{HasRound, IsWithin, FitsClosing, FitsEnding, FitsLine}
+use Rattle.transcript_text.specs.Transcripts.{HasRound, FitsClosing, FitsEnding, FitsLine}
 use Rattle.group_book.specs.declared.answers.TakeError.TheVariants.{Unknown, Forged}
 use Rattle.group_book.specs.Books.{BookView, shape_of, knows, posted_of}
 use Rattle.group_book.specs.Places.{is_round}
@@ -33,7 +31,7 @@ use Rattle.shared_book.specs.declared.parcel.Parcel.{Parcel}
 use Rattle.shared_book.specs.declared.parcel.Parcel.TheVariants.{Bytes, Close as CloseParcel, End as EndParcel}
 use Rattle.shared_book.specs.declared.parcel.Request.{Request}
 use Rattle.shared_book.specs.declared.parcel.Request.TheVariants.{Take as TakeRequest, Close as CloseRequest, End as EndRequest}
-use Rattle.shared_book.specs.Parcels.{Judged, Accepted, BadFrame, RefusedFrame, Outside, judged, judged_request, judged_if_read, judged_beside, request_of, decoded, taking, same_frame}
+use Rattle.shared_book.specs.Parcels.{Accepted, RefusedFrame, Outside, judged, judged_if_read, judged_beside, request_of, decoded, taking, same_frame}
 use Rattle.shared_book.proofs.Frames.{decoded_is}
 use Rattle.meter_frames.specs.declared.FrameError.{FrameError}
 use Rattle.collector_workers.specs.declared.mark.Mark.{Mark}

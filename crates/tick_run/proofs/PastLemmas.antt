@@ -1,10 +1,10 @@
 -- What later entries leave as it was.
-use Rattle.std.proofs.Common.{◌≡◌, ℕ, ◌+◌, ◌<◌, ◌≤◌, Bool, true, false, cond, ◌&&◌, List, [], ◌∷◌, ◌++◌, length, map, refl, sym, ap, ◌∙◌, subst, arith, ⊎_elim}
+use Rattle.std.proofs.Common.{◌≡◌, ℕ, ◌+◌, ◌<◌, Bool, true, false, cond, ◌&&◌, List, [], ◌∷◌, ◌++◌, length, map, refl, sym, ap, ◌∙◌, subst, arith}
 use Rattle.std.specs.Prelude.{◌==◌, nat_lt, nat_le, if◌then◌else◌}
 use mathlib.Core.List.{reverse_aux, reverse}
 use mathlib.Core.Path.{fun_ext}
-use Rattle.std.specs.List.{sum_by, count_by, filter, flat_map, range_with_len, All}
-use Rattle.std.proofs.lemmas.Bool.{false≢true, and_from, lt-ltb, eqb-true, or_cases}
+use Rattle.std.specs.List.{count_by, filter, flat_map, range_with_len}
+use Rattle.std.proofs.lemmas.Bool.{and_from, and_parts, eqb-true}
 use Rattle.std.proofs.lemmas.List.{map-append}
 use Rattle.std.proofs.lemmas.List.Sums.{sum_by-cons, sum_by-append}
 use Rattle.group_plan.specs.declared.Kind.{Kind}
@@ -13,12 +13,14 @@ use Rattle.group_plan.specs.declared.Tag.{Tag}
 use Rattle.transcript_log.specs.declared.Event.{Event}
 use Rattle.transcript_log.specs.declared.Event.TheVariants.{Send, Take, Close, End}
 use Rattle.transcript_log.specs.declared.Entry.{Entry}
-use Rattle.transcript_log.specs.Events.{once, is_take, is_send, event_of, events_of}
-use Rattle.transcript_log.specs.Schedule.{Shape, is_closed, is_sent, is_announced, reaches_floor, survivors, members_of, floor_of, may_send, is_reading_taken, is_announcement_sent, is_announcement_taken}
-use Rattle.transcript_log.proofs.ScheduleLemmas.{after, after-keeps, after-reverse_aux, once-more, once-now, is_closed-more, survivors-after}
+use Rattle.transcript_log.specs.declared.Line.{Line}
+use Rattle.transcript_log.specs.Events.{is_take, event_of, events_of}
+use Rattle.transcript_log.specs.Schedule.{Shape, is_closed, is_sent, is_announced, reaches_floor, survivors, members_of, floor_of, is_announcement_sent, is_announcement_taken}
+use Rattle.transcript_log.specs.Journal.{past_of}
+use Rattle.transcript_log.proofs.ScheduleLemmas.{after, after-keeps, after-reverse_aux, once-more, once-now, is_closed-more, is_announced-more, survivors-after, missing-after}
 use Rattle.transcript_log.proofs.ListLemmas.{flat_map_same}
 use Rattle.run_rows.specs.Ticks.{Clock, tag_of, tags, takes_at, due_of}
-use Rattle.tick_run.specs.Progress.{HadEffect, past_of_entries}
+use Rattle.tick_run.specs.Progress.{HadEffect, KeepSets, past_of_entries}
 
 -- ---- the past
 
@@ -58,6 +60,23 @@ pub announced-append : (s : Shape) (g r : ℕ) (xs ys : List Entry) → is_close
 announced-append s g r xs ys h =
     ap (λ b. b && reaches_floor s g r (past_of_entries (xs ++ ys))) (closed-append g r xs ys h ∙ sym h)
     ∙ ap (λ a. is_closed g r (past_of_entries xs) && nat_le (floor_of s g) (length a)) (survivors-append s g r xs ys h)
+
+-- ---- announced sets
+
+sets-after : (s : Shape) (p rest : List Event) → KeepSets s p (after p rest)
+sets-after s p rest g r announced = (
+  after-keeps (λ q. is_announced s g r q ≡ true) (is_announced-more s g r) p rest announced,
+  missing-after s g r p rest (and_parts (is_closed g r p) (reaches_floor s g r p) announced).0,
+)
+
+pub sets-append : (s : Shape) (xs ys : List Entry) → KeepSets s (past_of_entries xs) (past_of_entries (xs ++ ys))
+sets-append s xs ys = subst (KeepSets s (past_of_entries xs)) (sym (past-append xs ys)) (sets-after s (past_of_entries xs) (events_of ys))
+
+pub sets-lines : (s : Shape) (journal added : List Line) → KeepSets s (past_of journal) (past_of (journal ++ added))
+sets-lines s journal added =
+    subst (KeepSets s (past_of journal))
+    (sym (ap reverse (map-append event_of journal added) ∙ reverse_aux-append (map event_of journal) (map event_of added) [] ∙ sym (after-reverse_aux (past_of journal) (map event_of added))))
+    (sets-after s (past_of journal) (map event_of added))
 
 -- ---- announcements heard
 

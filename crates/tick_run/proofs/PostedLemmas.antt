@@ -1,18 +1,16 @@
 -- Posted frames: each is that of its tag, as long as the run goes on.
-use Rattle.std.proofs.Common.{◌≡◌, ◌≢◌, ℕ, ◌<◌, Bool, true, false, cond, ◌&&◌, List, [], ◌∷◌, ◌++◌, length, map, refl, sym, ap, ◌∙◌, subst, append_assoc, append-nil, arith, ⊎_elim}
-use Rattle.std.specs.Prelude.{◌==◌, if◌then◌else◌, Option, Some, None, is_some, Ok, bytes_eq, nat_lt}
-use mathlib.Core.List.{reverse_aux, reverse}
-use Rattle.std.specs.List.{All}
-use Rattle.std.proofs.lemmas.Bool.{false≢true, and_from, and_parts, eq-eqb, lt-ltb}
+use Rattle.std.proofs.Common.{◌≡◌, ◌≢◌, ℕ, Bool, true, false, cond, ◌&&◌, List, [], ◌∷◌, ◌++◌, map, refl, sym, ap, ◌∙◌, subst, append_assoc}
+use Rattle.std.specs.Prelude.{if◌then◌else◌, Option, Some, None, is_some}
+use mathlib.Core.List.{reverse}
+use Rattle.std.proofs.lemmas.Bool.{false≢true, and_parts}
 use Rattle.std.proofs.lemmas.List.{map-append}
-use Rattle.group_plan.specs.Plans.{is_place, size}
 use Rattle.group_plan.specs.declared.Kind.{Kind}
 use Rattle.group_plan.specs.declared.Kind.TheVariants.{Reading, Announcement, Answer}
 use Rattle.group_plan.specs.declared.Tag.{Tag}
 use Rattle.meter_frames.specs.declared.Frame.{Frame}
-use Rattle.meter_frames.specs.Frames.{spelling, FitsKind, IsFrame}
+use Rattle.meter_frames.specs.Frames.{FitsKind}
 use Rattle.transcript_log.specs.declared.Event.{Event}
-use Rattle.transcript_log.specs.declared.Event.TheVariants.{Send, Take}
+use Rattle.transcript_log.specs.declared.Event.TheVariants.{Send}
 use Rattle.transcript_log.specs.declared.Line.{Line}
 use Rattle.transcript_log.specs.declared.Line.TheVariants.{Send as SendLine, Take as TakeLine, Close as CloseLine, End as EndLine}
 use Rattle.transcript_log.specs.Events.{is_send, event_of, frame_of}
@@ -24,7 +22,7 @@ use Rattle.transcript_log.proofs.ScheduleLemmas.{after, after-keeps, after-rever
 use Rattle.run_rows.specs.Ticks.{tag_of}
 use Rattle.group_book.specs.declared.answers.SendAnswer.{SendAnswer}
 use Rattle.group_book.specs.declared.answers.SendAnswer.TheVariants.{Unknown, NotAllowed, WrongSet, Differs, Sent}
-use Rattle.group_book.specs.Books.{BookView, shape_of, past, knows, allows, missing_of, posted, posted_in, posted_of, Adds, IsFree, HasSet, HasOtherSet, SendEnds}
+use Rattle.group_book.specs.Books.{BookView, shape_of, past, knows, allows, missing_of, posted, posted_in, posted_of, Adds, IsFree, HasOtherSet, SendEnds}
 use Rattle.tick_run.proofs.FrameSteps.{may_of_frame, frame_more}
 use Rattle.tick_run.proofs.PastLemmas.{reverse_aux-append}
 

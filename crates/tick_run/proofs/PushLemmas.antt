@@ -1,12 +1,10 @@
 -- One more parcel, and one more line.
 use Rattle.std.proofs.Common.{◌≡◌, ℕ, ◌+◌, ◌-◌, ◌<◌, ◌≤◌, List, [], ◌∷◌, ◌++◌, length, take, drop, map, get_or, refl, sym, ap, ◌∙◌, subst, append_assoc, arith}
-use Rattle.std.specs.List.{AllZip}
 use Rattle.std.proofs.lemmas.List.{map-append, take_more, take_all, length-append}
 use Rattle.rayon.proofs.ListFacts.{AllZip-append}
 use Rattle.group_plan.specs.declared.Tag.{Tag}
 use Rattle.transcript_log.specs.declared.Event.TheVariants.{Take}
 use Rattle.transcript_log.specs.declared.Line.{Line}
-use Rattle.transcript_log.specs.declared.Entry.{Entry}
 use Rattle.transcript_text.specs.Transcripts.{TranscriptView, last_tick_from}
 use Rattle.group_book.specs.Books.{BookView}
 use Rattle.shared_book.specs.declared.parcel.Parcel.{Parcel}

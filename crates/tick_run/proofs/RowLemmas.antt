@@ -1,12 +1,12 @@
 -- The rows of readings of a group, and the words that hide them.
-use Rattle.std.proofs.Common.{◌≡◌, ℕ, zero, suc, ◌+◌, ◌<◌, ◌≤◌, ◌^◌, Bool, true, false, cond, ◌&&◌, List, [], ◌∷◌, length, map, get_or, refl, sym, ap, ◌∙◌, subst, arith, ⊎_elim}
+use Rattle.std.proofs.Common.{◌≡◌, ℕ, zero, suc, ◌+◌, ◌<◌, Bool, true, false, cond, List, [], ◌∷◌, length, map, refl, sym, ap, ◌∙◌, arith, ⊎_elim}
 use Rattle.std.specs.Prelude.{nat_lt, slice_index, slice_index_or, Option, Some, None, is_some, unwrap_or}
 use Rattle.std.specs.List.{list_all, filter, range_with_len}
 use Rattle.std.proofs.lemmas.Bool.{false≢true, and_from, and_parts, lt-ltb, ltb-true, cases_lt}
 use Rattle.std.proofs.lemmas.List.{get_or_past}
 use Rattle.missing_round.specs.Masks.{Masks}
 use Rattle.missing_round.specs.Sets.{is_member as is_in}
-use Rattle.missing_round.proofs.SetLemmas.{is_member-picked, is_member-filter}
+use Rattle.missing_round.proofs.SetLemmas.{is_member-picked}
 use Rattle.group_plan.specs.Plans.{PlanView, Group, size, is_place, is_member, members}
 use Rattle.group_plan.specs.Tables.{ReadingsView, reading, IsReadingTable}
 use Rattle.meter_frames.specs.declared.Frame.{Frame}

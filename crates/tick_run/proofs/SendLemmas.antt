@@ -1,31 +1,27 @@
 -- How a run goes on by one Send, and from tick to tick.
-use Rattle.std.proofs.Common.{◌≡◌, ℕ, zero, suc, ◌+◌, ◌*◌, ◌<◌, ◌≤◌, Bool, true, false, cond, ◌&&◌, List, [], ◌∷◌, ◌++◌, length, map, ◌⊎◌, refl, sym, ap, ◌∙◌, subst, append-nil, zero-add, arith, ⊎_elim}
-use Rattle.std.specs.Prelude.{◌==◌, nat_lt, if◌then◌else◌, Option, Some, None}
-use Rattle.std.specs.List.{sum_by, count_by, filter, flat_map, range_with_len, All}
-use Rattle.std.proofs.lemmas.Bool.{false≢true, and_from, ne_eqb, cases_lt}
+use Rattle.std.proofs.Common.{◌≡◌, ℕ, ◌+◌, ◌*◌, ◌<◌, ◌≤◌, Bool, true, false, cond, ◌&&◌, List, [], ◌∷◌, ◌++◌, length, refl, sym, ap, ◌∙◌, subst, append-nil, arith, ⊎_elim}
+use Rattle.std.specs.Prelude.{◌==◌, nat_lt, Option}
+use Rattle.std.specs.List.{sum_by, count_by, flat_map, range_with_len, All}
+use Rattle.std.proofs.lemmas.Bool.{and_from, ne_eqb, cases_lt}
 use Rattle.std.proofs.lemmas.Bool.Decides.{nat_tests}
-use Rattle.std.proofs.lemmas.List.{map-append}
-use Rattle.std.proofs.lemmas.List.Elements.{All-weaker, All-nil, All-cons, All-append, All-push}
-use Rattle.std.proofs.lemmas.List.Sums.{sum_by-cons, sum_by-append, sum_by_push}
+use Rattle.std.proofs.lemmas.List.Elements.{All-weaker, All-nil, All-cons, All-push}
+use Rattle.std.proofs.lemmas.List.Sums.{sum_by_push}
 use Rattle.group_plan.specs.declared.Kind.{Kind}
 use Rattle.group_plan.specs.declared.Kind.TheVariants.{Reading, Announcement, Answer}
 use Rattle.group_plan.specs.declared.Tag.{Tag}
-use Rattle.link_lanes.specs.declared.Post.{Post}
-use Rattle.link_lanes.specs.Lanes.{Slot, fate_after, fates_after}
 use Rattle.meter_frames.specs.declared.Frame.{Frame}
 use Rattle.transcript_log.specs.declared.Event.{Event}
-use Rattle.transcript_log.specs.declared.Event.TheVariants.{Send, Take, Close, End}
-use Rattle.transcript_log.specs.declared.Line.TheVariants.{Send as SendLine}
+use Rattle.transcript_log.specs.declared.Event.TheVariants.{Send}
 use Rattle.transcript_log.specs.declared.Entry.{Entry}
-use Rattle.transcript_log.specs.Events.{is_take, is_send, is_close, is_end, event_of, events_of}
-use Rattle.transcript_log.specs.Schedule.{Shape, is_closed, is_sent, may_send}
+use Rattle.transcript_log.specs.Events.{is_send, is_close, is_end, event_of}
+use Rattle.transcript_log.specs.Schedule.{Shape, is_sent, may_send}
 use Rattle.transcript_log.proofs.EventLemmas.{is_send-itself}
 use Rattle.transcript_log.proofs.ScheduleLemmas.{after, once-now}
-use Rattle.run_rows.specs.Ticks.{Clock, in_plan, phase, moment, tag_of, takes_at, copies, tags_of, sent_at, due_of, posts_of, StandsOnce}
+use Rattle.run_rows.specs.Ticks.{Clock, in_plan, phase, moment, tag_of, takes_at, copies, tags_of, sent_at, due_of, posts_of}
 use Rattle.tick_run.specs.Progress.{IsDelay, IsInTime, HadEffect, past_of_entries, RunsTo, sending}
 use Rattle.tick_run.proofs.OrderLemmas.{ordered-append}
 use Rattle.tick_run.proofs.PastLemmas.{past-append, had_effect-append, taken-append, takes-append, due-stays}
-use Rattle.tick_run.proofs.BatchLemmas.{sum_none, no_close, no_end, takes-none, sent-append, posts-append, fates-push, stands-none}
+use Rattle.tick_run.proofs.BatchLemmas.{sum_none, takes-none, sent-append, posts-append, stands-none}
 use Rattle.tick_run.proofs.StepLemmas.{closed_of_run}
 
 -- a later moment bounds the entries too

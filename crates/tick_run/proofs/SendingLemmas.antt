@@ -1,13 +1,12 @@
 -- How a run goes on by Sends, with the fates that the lanes give.
-use Rattle.std.proofs.Common.{◌≡◌, ℕ, ◌+◌, ◌<◌, ◌≤◌, Bool, true, false, ◌&&◌, List, [], ◌∷◌, ◌++◌, length, map, refl, sym, ap, ◌∙◌, subst, append_assoc, append-nil, arith}
-use Rattle.std.specs.Prelude.{nat_lt, Option, Some}
-use Rattle.std.specs.List.{filter, flat_map, range_with_len, All}
+use Rattle.std.proofs.Common.{◌≡◌, ℕ, ◌+◌, true, ◌&&◌, List, [], ◌∷◌, ◌++◌, map, refl, sym, ap, ◌∙◌, subst, append_assoc, append-nil, arith}
+use Rattle.std.specs.Prelude.{nat_lt, Some}
+use Rattle.std.specs.List.{filter}
 use Rattle.std.proofs.lemmas.Bool.{and_from, lt-ltb}
 use Rattle.std.proofs.lemmas.List.{map-append}
-use Rattle.std.proofs.lemmas.List.Elements.{All-weaker, All-nil, All-cons}
 use Rattle.missing_round.specs.Masks.{Masks}
-use Rattle.group_plan.specs.Plans.{PlanView, size}
-use Rattle.group_plan.specs.Tables.{ReadingsView, PresenceView, presence_of}
+use Rattle.group_plan.specs.Plans.{size}
+use Rattle.group_plan.specs.Tables.{ReadingsView}
 use Rattle.group_plan.specs.declared.Tag.{Tag}
 use Rattle.link_lanes.specs.declared.Post.{Post}
 use Rattle.link_lanes.specs.Lanes.{Slot, after_posts, lasts, fate_after, fates_after}
@@ -16,19 +15,19 @@ use Rattle.meter_frames.specs.declared.Frame.{Frame}
 use Rattle.transcript_log.specs.declared.Event.TheVariants.{Send}
 use Rattle.transcript_log.specs.declared.Line.TheVariants.{Send as SendLine}
 use Rattle.transcript_log.specs.declared.Entry.{Entry}
-use Rattle.transcript_log.specs.Events.{lines_of}
 use Rattle.transcript_log.specs.Schedule.{Shape, shape_of_presence}
 use Rattle.transcript_log.specs.Transcript.{Contents, frame}
 use Rattle.transcript_log.specs.Journal.{past_of, core_line, HasFramesOf}
-use Rattle.run_rows.specs.Ticks.{Clock, clock_of, posts_of, sent_at, due_of}
+use Rattle.run_rows.specs.Ticks.{Clock, clock_of, posts_of, sent_at}
 use Rattle.transcript_text.specs.Transcripts.{TranscriptView}
-use Rattle.group_book.specs.Books.{BookView, shape_of, past, knows, Adds}
-use Rattle.tick_run.specs.Progress.{RunsTo, past_of_entries, sending}
+use Rattle.group_book.specs.Books.{BookView, shape_of, past, knows}
+use Rattle.tick_run.specs.Progress.{past_of_entries, sending}
 use Rattle.tick_run.specs.TickFrames.{IsDue}
 use Rattle.tick_run.specs.Running.{Stage, sending_at, run_shape, run_contents, IsRunning}
-use Rattle.tick_run.specs.Sending.{SendsOne, KeepsFates, KeptFates, SendsOn, GoesOn, AreDue, IsOfPlan}
+use Rattle.tick_run.specs.Sending.{SendsOne, KeepsFates, KeptFates, SendsOn, GoesOn}
 use Rattle.tick_run.proofs.BatchLemmas.{fates-push}
 use Rattle.tick_run.proofs.SendLemmas.{sent_step, due_step, posts-push}
+use Rattle.tick_run.proofs.PastLemmas.{sets-append}
 use Rattle.tick_run.proofs.FrameSteps.{may_of_frame, frame-append, past_of-lines}
 use Rattle.tick_run.proofs.LaneLemmas.{lanes-fate, lanes-posted, lanes-retired}
 use Rattle.tick_run.proofs.PostedLemmas.{sent-only, sent-line}
@@ -81,17 +80,22 @@ goes-one readings m t book after script done waiting left lanes hung posts all f
           set = is_due.set;
           fits = is_due.fits;
         };
+        sets = sets-append s script.entries (sending t f.tag (Some f) one.fate ∷ []);
       });
     }
 
 pub sends_on-none : (readings : ReadingsView) (m : Masks) (t : ℕ) (xs : List Entry) → SendsOn readings m t [] xs xs
-sends_on-none readings m t xs = record { sent = sym (append-nil (sent_at xs t)); due = refl; still = λ f is. is }
+sends_on-none readings m t xs = record { sent = sym (append-nil (sent_at xs t)); due = refl; still = λ f is. is; sets = λ g r announced. (announced, refl) }
 
 pub sends_on-more : (readings : ReadingsView) (m : Masks) (t : ℕ) (zs ts : List Tag) (xs ys ws : List Entry) → SendsOn readings m t zs xs ys → SendsOn readings m t ts ys ws → SendsOn readings m t (zs ++ ts) xs ws
 sends_on-more readings m t zs ts xs ys ws a b = record {
   sent = b.sent ∙ ap (λ l. l ++ ts) a.sent ∙ append_assoc (sent_at xs t) zs ts;
   due = b.due ∙ a.due;
   still = λ f is. b.still f (a.still f is);
+  sets = λ g r announced.
+      let first = a.sets g r announced in
+      let second = b.sets g r first.0 in
+      (second.0, second.1 ∙ first.1);
 }
 
 -- ---- the fates

@@ -1,12 +1,9 @@
 -- Frames sent one after another.
 use Rattle.std.proofs.Common.{◌≡◌, ℕ, ◌+◌, ◌<◌, ◌≤◌, ◌^◌, List, [], ◌∷◌, ◌++◌, length, take, map, get_or, refl, sym, ap, ◌∙◌, subst, arith}
 use Rattle.std.specs.Prelude.{Some}
-use Rattle.std.specs.List.{All}
 use Rattle.std.proofs.lemmas.List.{map-append, take_more, take_all, length-append}
 use Rattle.missing_round.specs.Masks.{Masks}
-use Rattle.group_plan.specs.Plans.{PlanView}
 use Rattle.group_plan.specs.Tables.{ReadingsView}
-use Rattle.group_plan.specs.declared.Tag.{Tag}
 use Rattle.link_lanes.specs.declared.Post.{Post}
 use Rattle.link_lanes.specs.Lanes.{Slot}
 use Rattle.lossy_link.specs.Arrivals.{Arrival}

@@ -1,6 +1,6 @@
 -- The shape of readings, by their table and by their presence.
-use Rattle.std.proofs.Common.{◌≡◌, ℕ, Bool, true, false, List, [], map, get_or, refl, sym, ap, ◌∙◌}
-use Rattle.std.specs.Prelude.{Option, None, is_some}
+use Rattle.std.proofs.Common.{◌≡◌, ℕ, Bool, false, [], map, get_or, ap, ◌∙◌}
+use Rattle.std.specs.Prelude.{None, is_some}
 use mathlib.Core.Path.{fun_ext}
 use Rattle.std.proofs.Math.ListN.{get_or-map}
 use Rattle.group_plan.specs.Tables.{ReadingsView, reading, is_present, presence_of}

@@ -1,41 +1,39 @@
 -- How a run goes on, stage by stage.
-use Rattle.std.proofs.Common.{◌≡◌, ℕ, zero, suc, ◌+◌, ◌-◌, ◌*◌, ◌<◌, ◌≤◌, Bool, true, false, cond, not, ◌&&◌, ◌||◌, List, [], ◌∷◌, ◌++◌, length, map, refl, sym, ap, ◌∙◌, subst, append-nil, arith, ⊎_elim}
-use Rattle.std.specs.Prelude.{◌==◌, nat_lt, nat_le, if◌then◌else◌, Option, Some, None, is_some}
-use mathlib.Core.List.{reverse}
-use mathlib.Core.Path.{fun_ext}
-use Rattle.std.specs.List.{sum_by, count_by, filter, flat_map, range_with_len, list_any, All, AllZip}
-use Rattle.std.proofs.lemmas.Bool.{false≢true, cases_lt, cases_eq, lt-ltb, eqb-true, ltb-true, not-true}
+use Rattle.std.proofs.Common.{◌≡◌, ℕ, zero, suc, ◌+◌, ◌-◌, ◌*◌, ◌<◌, Bool, true, false, cond, not, ◌||◌, List, [], ◌∷◌, ◌++◌, length, map, refl, sym, ap, ◌∙◌, subst, arith}
+use Rattle.std.specs.Prelude.{◌==◌, nat_lt, if◌then◌else◌, Some}
+use Rattle.std.specs.List.{count_by, flat_map, range_with_len, list_any, All}
+use Rattle.std.proofs.lemmas.Bool.{ltb-true}
 use Rattle.std.proofs.lemmas.Bool.Decides.{nat_tests}
 use Rattle.std.proofs.lemmas.List.{map-append}
 use Rattle.std.proofs.lemmas.List.Elements.{All-head, All-tail, All-weaker, All-nil, All-cons, All-map, All-append}
 use Rattle.std.proofs.lemmas.List.Sums.{sum_by-cons, sum_by-append, sum_by_push}
 use Rattle.missing_round.specs.Masks.{Masks}
-use Rattle.group_plan.specs.Tables.{ReadingsView, reading, presence_of}
+use Rattle.group_plan.specs.Tables.{ReadingsView, presence_of}
 use Rattle.group_plan.specs.declared.Kind.TheVariants.{Announcement}
 use Rattle.group_plan.specs.declared.Tag.{Tag}
 use Rattle.lossy_link.specs.Arrivals.{Arrival, posted, due_at, due_elsewhere}
 use Rattle.meter_frames.specs.declared.Frame.{Frame}
 use Rattle.transcript_log.specs.declared.Event.{Event}
-use Rattle.transcript_log.specs.declared.Event.TheVariants.{Send, Take, Close, End}
+use Rattle.transcript_log.specs.declared.Event.TheVariants.{Take, Close, End}
 use Rattle.transcript_log.specs.declared.Line.{Line}
 use Rattle.transcript_log.specs.declared.Line.TheVariants.{Send as SendLine}
 use Rattle.transcript_log.specs.declared.Entry.{Entry}
-use Rattle.transcript_log.specs.Events.{is_take, is_send, is_close, is_end, event_of, lines_of}
-use Rattle.transcript_log.specs.Schedule.{Shape, may_send, is_announcement_taken}
+use Rattle.transcript_log.specs.Events.{is_take, is_close, is_end, event_of, lines_of}
+use Rattle.transcript_log.specs.Schedule.{Shape}
 use Rattle.transcript_log.specs.Transcript.{Contents, frame}
-use Rattle.transcript_log.specs.Journal.{past_of, HasFramesOf}
+use Rattle.transcript_log.specs.Journal.{HasFramesOf}
 use Rattle.transcript_log.proofs.ListLemmas.{sum_by-map}
 use Rattle.run_rows.specs.Ticks.{Clock, clock_of, phase, tag_of, takes_at, copies, sent_at, due_of}
 use Rattle.transcript_text.specs.Transcripts.{TranscriptView, no_entries}
 use Rattle.group_book.specs.Books.{BookView}
-use Rattle.tick_run.specs.OnTheWay.{same_tag, is_copy, AreOnTheWay}
-use Rattle.tick_run.specs.Progress.{IsDelay, IsTimely, RunsTo, IsBatch, past_of_entries, sending}
+use Rattle.tick_run.specs.OnTheWay.{same_tag, is_copy}
+use Rattle.tick_run.specs.Progress.{IsDelay, RunsTo, IsBatch, past_of_entries, sending}
 use Rattle.tick_run.specs.TickFrames.{was_taken, due_after, AreHeard, IsDue}
 use Rattle.tick_run.specs.Running.{Stage, starting, emptied, taken, closed, sending_at, run_shape, run_contents, IsRunning, quiet, AreCopiesDue, KeepCopies, HaveEvents, is_due, calls_of, calls_due}
 use Rattle.tick_run.proofs.LinkLemmas.{count-posted, count-due, count-elsewhere}
-use Rattle.tick_run.proofs.BatchLemmas.{AreSilent, silent-batch, copies-silent}
+use Rattle.tick_run.proofs.BatchLemmas.{silent-batch, copies-silent}
 use Rattle.tick_run.proofs.StepLemmas.{takes_step, closes_step}
-use Rattle.tick_run.proofs.SendLemmas.{at_start, run_later, send_step, sent_step, due_step, tick_over}
+use Rattle.tick_run.proofs.SendLemmas.{at_start, run_later, send_step, tick_over}
 use Rattle.tick_run.proofs.EndLemmas.{announcement_round, announcement_later}
 use Rattle.tick_run.proofs.FrameSteps.{may_of_frame, has_frames-append, has_frames-silent, past_of-lines}
 use Rattle.tick_run.proofs.DueLemmas.{due-taken}

@@ -1,29 +1,25 @@
 -- How a run goes on: the Takes of a tick, its Closes and Ends, and one Send.
-use Rattle.std.proofs.Common.{◌≡◌, ℕ, zero, suc, ◌+◌, ◌*◌, ◌<◌, ◌≤◌, Bool, true, false, cond, ◌&&◌, List, [], ◌∷◌, ◌++◌, length, map, ◌⊎◌, refl, sym, ap, ◌∙◌, subst, append-nil, zero-add, arith, ⊎_elim, inl, inr}
+use Rattle.std.proofs.Common.{◌≡◌, ℕ, ◌+◌, ◌*◌, ◌<◌, ◌≤◌, Bool, true, false, cond, ◌&&◌, List, [], ◌∷◌, ◌++◌, length, refl, sym, ap, ◌∙◌, subst, append-nil, zero-add, arith, ⊎_elim, inl, inr}
 use Rattle.std.specs.Prelude.{◌==◌, nat_lt, if◌then◌else◌}
-use Rattle.std.specs.List.{sum_by, count_by, filter, flat_map, range_with_len, All}
-use Rattle.std.proofs.lemmas.Bool.{false≢true, and_from, lt-ltb, eqb-true, ne_eqb, cases_lt, cases_eq}
-use Rattle.std.proofs.lemmas.List.{map-append}
+use Rattle.std.specs.List.{sum_by, count_by, flat_map, range_with_len, All}
+use Rattle.std.proofs.lemmas.Bool.{and_from, lt-ltb, cases_lt, cases_eq}
 use Rattle.std.proofs.lemmas.List.Elements.{All-head, All-tail, All-weaker, All-nil, All-cons, All-append}
 use Rattle.std.proofs.lemmas.List.Sums.{sum_by-cons, sum_by-append}
-use Rattle.group_plan.specs.declared.Kind.{Kind}
-use Rattle.group_plan.specs.declared.Kind.TheVariants.{Reading, Announcement, Answer}
+use Rattle.group_plan.specs.declared.Kind.TheVariants.{Announcement}
 use Rattle.group_plan.specs.declared.Tag.{Tag}
-use Rattle.link_lanes.specs.declared.Post.{Post}
-use Rattle.link_lanes.specs.Lanes.{Slot, fate_after, fates_after}
 use Rattle.transcript_log.specs.declared.Event.{Event}
 use Rattle.transcript_log.specs.declared.Event.TheVariants.{Send, Take, Close, End}
 use Rattle.transcript_log.specs.declared.Entry.{Entry}
-use Rattle.transcript_log.specs.Events.{is_take, is_send, is_close, is_end, event_of, events_of}
-use Rattle.transcript_log.specs.Schedule.{Shape, is_closed, is_sent, is_announcement_sent, is_announcement_taken}
+use Rattle.transcript_log.specs.Events.{is_take, is_send, is_close, is_end, event_of}
+use Rattle.transcript_log.specs.Schedule.{Shape, is_closed, is_sent, is_announcement_taken}
 use Rattle.transcript_log.proofs.EventLemmas.{is_send-true}
-use Rattle.run_rows.specs.Ticks.{Clock, in_plan, phase, moment, tag_of, takes_at, copies, tags_of, sent_at, due_of, posts_of, StandsOnce}
+use Rattle.run_rows.specs.Ticks.{Clock, in_plan, phase, moment, tag_of, takes_at, copies, tags_of, sent_at, due_of}
 use Rattle.run_rows.proofs.TickLemmas.{Member, Stands, once-from}
 use Rattle.run_rows.proofs.TickRun.{once_stands, events-reverse, all_member}
 use Rattle.tick_run.specs.Progress.{IsDelay, IsInTime, HadEffect, past_of_entries, RunsTo, IsBatch}
 use Rattle.tick_run.proofs.OrderLemmas.{ordered-append}
 use Rattle.tick_run.proofs.PastLemmas.{had_effect-append, taken-append, heard-append, takes-append, due-stays}
-use Rattle.tick_run.proofs.BatchLemmas.{AreSilent, silent-batch, sum_none, no_close, no_end, posts-silent, sent-silent, copies-silent, takes-other, takes-none, takes-all, sent-append, posts-append, fates-push, stands-none, stands-due}
+use Rattle.tick_run.proofs.BatchLemmas.{AreSilent, silent-batch, no_close, no_end, sent-silent, copies-silent, takes-other, takes-none, takes-all, sent-append, stands-none, stands-due}
 
 -- ---- what a run so far gives
 

@@ -1,28 +1,26 @@
 -- The copies that are due can be taken: each is of a frame that was sent with effect.
-use Rattle.std.proofs.Common.{◌≡◌, ℕ, zero, suc, ◌+◌, ◌*◌, ◌<◌, ◌≤◌, Bool, true, false, cond, ◌&&◌, List, [], ◌∷◌, ◌++◌, length, map, get_or, refl, sym, ap, ◌∙◌, subst, arith}
-use Rattle.std.specs.Prelude.{nat_lt, Option, Some}
-use Rattle.std.specs.List.{sum_by, count_by, filter, flat_map, range_with_len, All}
+use Rattle.std.proofs.Common.{◌≡◌, ℕ, zero, suc, ◌+◌, ◌*◌, ◌<◌, ◌≤◌, Bool, true, cond, ◌&&◌, List, [], ◌∷◌, length, get_or, sym, ap, ◌∙◌, subst, arith}
+use Rattle.std.specs.Prelude.{nat_lt}
+use Rattle.std.specs.List.{sum_by, count_by, All}
 use Rattle.std.proofs.lemmas.Bool.{and_from, lt-ltb}
-use Rattle.std.proofs.lemmas.List.Elements.{All-head, All-tail, All-nil, All-cons, All-weaker}
+use Rattle.std.proofs.lemmas.List.Elements.{All-head, All-tail, All-weaker}
 use Rattle.std.proofs.lemmas.List.Sums.{sum_by-cons}
 use Rattle.missing_round.specs.Masks.{Masks}
 use Rattle.group_plan.specs.Plans.{size}
-use Rattle.group_plan.specs.Tables.{ReadingsView, presence_of}
+use Rattle.group_plan.specs.Tables.{ReadingsView}
 use Rattle.group_plan.specs.declared.Tag.{Tag}
-use Rattle.lossy_link.specs.Arrivals.{Arrival, due_at}
-use Rattle.meter_frames.specs.declared.Frame.{Frame}
+use Rattle.lossy_link.specs.Arrivals.{Arrival}
 use Rattle.transcript_log.specs.declared.Entry.{Entry}
 use Rattle.transcript_log.specs.Schedule.{Shape, shape_of_presence, is_sent}
 use Rattle.transcript_log.specs.Transcript.{Contents}
 use Rattle.transcript_log.specs.Journal.{past_of, HasFramesOf}
 use Rattle.transcript_log.proofs.EventLemmas.{is_send-itself}
-use Rattle.run_rows.specs.Ticks.{Clock, clock_of, moment, phase, copies, sent_at, tags_of}
-use Rattle.transcript_log.specs.Events.{event_of}
+use Rattle.run_rows.specs.Ticks.{Clock, clock_of, moment, copies}
 use Rattle.transcript_text.specs.Transcripts.{TranscriptView, last_tick_from}
-use Rattle.group_book.specs.Books.{BookView, shape_of, past, knows, was_sent, posted_of}
+use Rattle.group_book.specs.Books.{BookView, shape_of, past}
 use Rattle.tick_run.specs.OnTheWay.{same_tag}
 use Rattle.tick_run.specs.Progress.{past_of_entries, RunsTo}
-use Rattle.tick_run.specs.Running.{Stage, starting, run_shape, run_contents, IsRunning, AreCopiesDue}
+use Rattle.tick_run.specs.Running.{Stage, run_shape, run_contents, IsRunning, AreCopiesDue}
 use Rattle.tick_run.specs.Batches.{CanTake}
 use Rattle.tick_run.proofs.StepLemmas.{from_copies, sent_of_copies}
 use Rattle.tick_run.proofs.EndLemmas.{in_time_of}

@@ -1,11 +1,10 @@
 -- The Sends of a tick, group by group.
-use Rattle.std.proofs.Common.{◌≡◌, ℕ, zero, suc, ◌+◌, ◌*◌, ◌<◌, ◌≤◌, Bool, true, ◌&&◌, List, [], ◌∷◌, ◌++◌, length, map, get_or, refl, sym, ap, ◌∙◌, subst, append-nil, zero-add, arith}
-use Rattle.std.specs.Prelude.{nat_lt, Option, Some, Result, Ok, Vec, IfOk}
+use Rattle.std.proofs.Common.{◌≡◌, ℕ, ◌+◌, ◌*◌, ◌<◌, ◌≤◌, List, [], ◌++◌, length, map, get_or, sym, ap, ◌∙◌, subst, zero-add, arith}
+use Rattle.std.specs.Prelude.{nat_lt, Result, Ok, Vec, IfOk}
 use Rattle.std.specs.declared.alloc.Global.{Global}
 use Rattle.std.specs.declared.alloc.AllocError.{AllocError}
 use Rattle.std.specs.List.{flat_map, range_with_len, All, AllZip}
 use Rattle.std.proofs.lemmas.Bool.{and_from, lt-ltb}
-use Rattle.std.proofs.lemmas.List.{length-append}
 use Rattle.std.proofs.lemmas.List.Elements.{All-weaker}
 use Rattle.missing_round.specs.Masks.{Masks}
 use Rattle.group_plan.specs.Plans.{PlanView, size}
@@ -15,18 +14,16 @@ use Rattle.link_lanes.specs.declared.Post.{Post}
 use Rattle.link_lanes.specs.Lanes.{Slot}
 use Rattle.lossy_link.specs.Arrivals.{Arrival}
 use Rattle.meter_frames.specs.declared.Frame.{Frame}
-use Rattle.transcript_log.specs.declared.Entry.{Entry}
 use Rattle.transcript_log.specs.declared.Event.{Event}
-use Rattle.transcript_log.specs.Events.{event_of}
 use Rattle.transcript_log.specs.Schedule.{Shape}
 use Rattle.transcript_log.specs.Transcript.{Contents}
 use Rattle.transcript_log.specs.Journal.{past_of}
 use Rattle.transcript_log.proofs.ListLemmas.{flat_map_same}
-use Rattle.run_rows.specs.Ticks.{Clock, clock_of, moment, phase, sent_at, due_of, tags_of}
+use Rattle.run_rows.specs.Ticks.{Clock, clock_of, sent_at, due_of}
 use Rattle.transcript_text.specs.Transcripts.{TranscriptView, last_tick_from}
 use Rattle.group_book.specs.Books.{BookView, past}
 use Rattle.tick_run.specs.Progress.{past_of_entries}
-use Rattle.tick_run.specs.TickFrames.{due_after, frames_due, AreHeard, IsDue}
+use Rattle.tick_run.specs.TickFrames.{frames_due, AreHeard, IsDue}
 use Rattle.tick_run.specs.Running.{closed, sending_at, starting, run_shape, run_contents, IsRunning, AreCopiesDue}
 use Rattle.tick_run.specs.Sending.{IsOfPlan, KeepsFates, SendsOn, GoesOn, AreDue}
 use Rattle.tick_run.proofs.DueLemmas.{tags-due, all-due_now}
@@ -36,24 +33,7 @@ use Rattle.tick_run.proofs.FrameSteps.{past_of-lines}
 use Rattle.tick_run.proofs.StateLemmas.{hears, due-now, sends-begin, tick-over}
 use Rattle.tick_run.proofs.SendingLemmas.{sends_on-none, sends_on-more}
 use Rattle.tick_run.proofs.TakeLemmas.{last-before}
-
--- the place of an item beside a range
-pub range_at : {Y : Type 0} (R : ℕ → Y → Type 0) (a n : ℕ) (ys : List Y) → AllZip R (range_with_len a n) ys → (k : ℕ) (d : Y) → k < length ys → (k < n) × R (a + k) (get_or ys k d)
-range_at R a zero [] all k d lt = absurd (omega arith)
-range_at R a zero (y ∷ ys) all k d lt = absurd all
-range_at R a (suc n) [] all k d lt = absurd all
-range_at R a (suc n) (y ∷ ys) all zero d lt = let same : a ≡ a + 0 = omega arith in (omega arith, subst (λ z. R z y) same all.0)
-range_at R a (suc n) (y ∷ ys) all (suc k) d lt =
-    let later = range_at R (a + 1) n ys all.1 k d (omega arith) in
-    let below : k < n = later.0 in
-    let same : a + 1 + k ≡ a + suc k = omega arith in
-    (omega arith, subst (λ z. R z (get_or ys k d)) same later.1)
-
-pub range_long : {Y : Type 0} (R : ℕ → Y → Type 0) (a n : ℕ) (ys : List Y) → AllZip R (range_with_len a n) ys → length ys ≡ n
-range_long R a zero [] all = refl
-range_long R a zero (y ∷ ys) all = absurd all
-range_long R a (suc n) [] all = absurd all
-range_long R a (suc n) (y ∷ ys) all = let later = range_long R (a + 1) n ys all.1 in omega arith
+use Rattle.tick_run.proofs.RangeLemmas.{range_at}
 
 -- the frames of a group, as they are due once the rounds of the tick are closed
 abbrev pub group_frames_of : ReadingsView → Masks → ℕ → TranscriptView → List Tag → ℕ → List Frame

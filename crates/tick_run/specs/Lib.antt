@@ -6,3 +6,4 @@ pub mod Running
 pub mod Jobs
 pub mod Sending
 pub mod Batches
+pub mod Meters

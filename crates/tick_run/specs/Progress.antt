@@ -1,19 +1,18 @@
 -- How far a run by ticks has come.
-use Rattle.std.specs.Prelude.{◌≡◌, ℕ, ◌+◌, ◌<◌, ◌≤◌, nat_lt, true, ◌&&◌, List, [], length, map, reverse, All, sum_by, Option}
+use Rattle.std.specs.Prelude.{◌≡◌, ℕ, ◌+◌, ◌<◌, ◌≤◌, nat_lt, true, ◌&&◌, List, [], length, reverse, All, sum_by, Option}
 use Rattle.std.specs.List.{flat_map, range_with_len}
 use Rattle.group_plan.specs.declared.Kind.{Kind}
 use Rattle.group_plan.specs.declared.Kind.TheVariants.{Reading, Announcement, Answer}
 use Rattle.group_plan.specs.declared.Tag.{Tag}
 use Rattle.group_plan.specs.Plans.{size}
-use Rattle.link_lanes.specs.Lanes.{Slot, fates_after}
 use Rattle.transcript_log.specs.declared.Event.{Event}
-use Rattle.transcript_log.specs.declared.Event.TheVariants.{Send, Take, Close, End}
+use Rattle.transcript_log.specs.declared.Event.TheVariants.{Send}
 use Rattle.meter_frames.specs.declared.Frame.{Frame}
 use Rattle.transcript_log.specs.declared.Line.TheVariants.{Send as SendLine}
 use Rattle.transcript_log.specs.declared.Entry.{Entry}
 use Rattle.transcript_log.specs.Events.{event_of, events_of, is_close, is_end}
-use Rattle.transcript_log.specs.Schedule.{Shape, is_sent, is_announcement_taken}
-use Rattle.run_rows.specs.Ticks.{Clock, in_plan, phase, moment, IsOrdered, takes_at, copies, StandsOnce, tags_of, tag_of, sent_at, due_of, posts_of}
+use Rattle.transcript_log.specs.Schedule.{Shape, is_sent, is_announced, missing, is_announcement_taken}
+use Rattle.run_rows.specs.Ticks.{Clock, in_plan, phase, moment, IsOrdered, takes_at, copies, StandsOnce, tags_of, tag_of, sent_at, due_of}
 
 -- a delay of a copy, in ticks
 abbrev pub IsDelay : ℕ → Type 0
@@ -49,6 +48,10 @@ HadEffect s past _ = Unit {0}
 -- the past of a list of entries: its events, the newest first
 abbrev pub past_of_entries : List Entry → List Event
 past_of_entries entries = reverse (events_of entries)
+
+-- what was announced by one past is announced by the other, with the same missing set
+abbrev pub KeepSets : Shape → List Event → List Event → Type 0
+KeepSets s before after = (g r : ℕ) → is_announced s g r before ≡ true → (is_announced s g r after ≡ true) × (missing s g r after ≡ missing s g r before)
 
 -- these entries are those of a tick run before moment m: all Takes of the ticks below `taken`, all Closes and Ends of the ticks
 -- below `closed`, and all Sends of the ticks below `sent`

@@ -1,12 +1,12 @@
 -- A run that goes on: its book, its transcript and its link, stage by stage of a tick.
-use Rattle.std.specs.Prelude.{◌≡◌, ℕ, ◌+◌, ◌-◌, ◌*◌, nat_le, nat_lt, Bool, ◌&&◌, List, [], ◌∷◌, ◌++◌, length, count_by, sum_by, if◌then◌else◌}
+use Rattle.std.specs.Prelude.{◌≡◌, ℕ, ◌+◌, ◌-◌, ◌*◌, nat_le, nat_lt, Bool, ◌&&◌, List, [], ◌∷◌, ◌++◌, count_by, sum_by, if◌then◌else◌}
 use Rattle.std.specs.List.{AllZip, flat_map, range_with_len}
 use Rattle.missing_round.specs.Masks.{Masks}
 use Rattle.group_plan.specs.Tables.{ReadingsView, reading, presence_of}
 use Rattle.group_plan.specs.declared.Tag.{Tag}
 use Rattle.lossy_link.specs.Arrivals.{Arrival}
 use Rattle.transcript_log.specs.declared.Event.{Event}
-use Rattle.transcript_log.specs.declared.Event.TheVariants.{Take, Close, End}
+use Rattle.transcript_log.specs.declared.Event.TheVariants.{Close, End}
 use Rattle.transcript_log.specs.declared.Line.{Line}
 use Rattle.transcript_log.specs.declared.Entry.{Entry}
 use Rattle.transcript_log.specs.Events.{event_of, lines_of}

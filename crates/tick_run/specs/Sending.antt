@@ -16,7 +16,7 @@ use Rattle.transcript_text.specs.Transcripts.{TranscriptView}
 use Rattle.group_book.specs.declared.answers.SendAnswer.{SendAnswer}
 use Rattle.group_book.specs.Books.{BookView, SendEnds}
 use Rattle.tick_run.specs.OnTheWay.{AreLanesAt}
-use Rattle.tick_run.specs.Progress.{IsDelay, past_of_entries, sending}
+use Rattle.tick_run.specs.Progress.{IsDelay, KeepSets, past_of_entries, sending}
 use Rattle.tick_run.specs.TickFrames.{IsDue}
 use Rattle.tick_run.specs.Running.{run_shape, run_contents, IsRunning, sending_at}
 
@@ -51,13 +51,14 @@ pub record KeptFates (slots : List Slot) (t : ℕ) (entries : List Entry) (lanes
   pub fates : map (λ p. p.fate) posts ≡ fates_after slots [] posts
   pub lanes_are : AreLanesAt slots posts t lanes
 
--- frames with these tags were sent at tick t, and what is due stays due
+-- frames with these tags were sent at tick t, what is due stays due, and announced sets stay
 pub record SendsOn (readings : ReadingsView) (m : Masks) (t : ℕ) (tags : List Tag) (before after : List Entry) : Type 0 where
   pub sent : sent_at after t ≡ sent_at before t ++ tags
   pub due : flat_map (due_of (run_shape readings) (clock_of readings.plan) after t) (range_with_len 0 (length readings.plan.groups))
       ≡ flat_map (due_of (run_shape readings) (clock_of readings.plan) before t) (range_with_len 0 (length readings.plan.groups))
   pub still : (f : Frame) → IsDue (run_shape readings) (clock_of readings.plan) (run_contents readings m) (past_of_entries before) t f
       → IsDue (run_shape readings) (clock_of readings.plan) (run_contents readings m) (past_of_entries after) t f
+  pub sets : KeepSets (run_shape readings) (past_of_entries before) (past_of_entries after)
 
 -- the run goes on by these frames
 pub record GoesOn (readings : ReadingsView) (m : Masks) (t : ℕ) (frames : List Frame) (before : TranscriptView) (book : BookView) (script : TranscriptView) (waiting : List Arrival) : Type 0 where

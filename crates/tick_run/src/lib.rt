@@ -4,6 +4,7 @@
 mod batches;
 mod frames;
 mod group;
+mod meters;
 mod run;
 mod running;
 mod sends;

@@ -13,8 +13,10 @@ ghost use Rattle.group_book.specs.Books.{shape_of};
 ghost use Rattle.tick_run.specs.Running.{IsRunning, starting};
 ghost use Rattle.tick_run.specs.Sending.{KeptFates};
 ghost use Rattle.tick_run.specs.Finished.{IsFinished};
+ghost use Rattle.tick_run.specs.Meters.{AreMeters};
 
 use crate::RunError;
+use crate::meters::Meters;
 use crate::running::Running;
 use crate::tick::run_tick;
 use collector_workers::Gate;
@@ -41,6 +43,7 @@ fn run_ticks<R: Threads + Wait + Sync, G: Gate>(
     rt: &R,
     alloc: Global,
     run: Running,
+    meters: &mut Meters,
     rack: &mut Rack,
     readings: &Readings,
     masks: &ChaMasks,
@@ -48,6 +51,7 @@ fn run_ticks<R: Threads + Wait + Sync, G: Gate>(
     gate: &G,
 ) -> Result<Running, RunError>
     requires running { IsRunning readings.now (words_of masks.now) (starting 0) run.book run.transcript run.link }
+    requires meters { AreMeters run.book 0 meters.old }
     requires masks { plan_of masks.now ≡ readings.now.plan }
     requires workers { (1 ≤ workers) × (workers ≤ 16) }
     requires room { HasRoom (λ b. meaning (b.vtable, b.value)) rack.old }
@@ -57,7 +61,9 @@ fn run_ticks<R: Threads + Wait + Sync, G: Gate>(
 {
     let mut run = run;
     for tick in 0..readings.plan().last_tick() + 1 {
-        run = run_tick(rt, alloc, run, rack, readings, masks, tick, workers, gate)?;
+        run = run_tick(
+            rt, alloc, run, meters, rack, readings, masks, tick, workers, gate,
+        )?;
     }
     Ok(run)
 }
@@ -106,11 +112,22 @@ pub fn run_plan<R: Threads + Wait + Sync, G: Gate>(
         transcript: Transcript::empty(alloc, plan)?,
         link: Link::new(alloc),
     };
+    let mut meters = Meters::new(alloc, &run.book)?;
     let Running {
         book,
         transcript,
         link: _,
-    } = run_ticks(rt, alloc, run, rack, readings, &masks, workers, gate)?;
+    } = run_ticks(
+        rt,
+        alloc,
+        run,
+        &mut meters,
+        rack,
+        readings,
+        &masks,
+        workers,
+        gate,
+    )?;
     lines_are_legal(&book);
     Ok(Finished { book, transcript })
 }

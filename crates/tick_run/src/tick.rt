@@ -1,30 +1,64 @@
 //! One tick of a run.
 
-ghost use Rattle.std.specs.Prelude.{◌≡◌, ◌+◌, ◌<◌, ◌≤◌, ◌^◌, List, IfOk, OnOk};
+ghost use Rattle.std.specs.Prelude.{◌≡◌, ◌+◌, ◌<◌, ◌≤◌, ◌^◌, List, length, IfOk, OnOk};
+ghost use Rattle.std.specs.List.{AllZip, range_with_len};
+ghost use Rattle.group_plan.specs.Tables.{reading, presence_of};
+ghost use Rattle.group_book.specs.Books.{past};
+ghost use Rattle.run_rows.specs.Ticks.{clock_of};
 ghost use Rattle.link_lanes.specs.Lanes.{Slot};
 ghost use Rattle.link_lanes.specs.Racks.{slots, posts_of, HasRoom};
 ghost use Rattle.mask_stream.specs.ChaMaskTables.{plan_of, words_of};
-ghost use Rattle.tick_run.specs.Running.{IsRunning, AreCopiesDue, starting, closed};
+ghost use Rattle.tick_run.specs.Running.{run_shape, IsRunning, AreCopiesDue, starting, closed};
 ghost use Rattle.tick_run.specs.Sending.{KeepsFates, KeptFates};
+ghost use Rattle.tick_run.specs.TickFrames.{frames_due, AreHeard};
+ghost use Rattle.tick_run.specs.Meters.{AreMeters};
 
 use crate::RunError;
 use crate::batches::{close_rounds, take_copies};
+use crate::meters::Meters;
 use crate::running::Running;
 use crate::sends::send_all;
 use crate::words::tick_frames;
 use collector_workers::Gate;
+use group_book::Book;
 use group_plan::{Readings, Tag};
 use link_lanes::{Lane, Rack};
 use mask_stream::ChaMasks;
+use meter_frames::Frame;
 use std::alloc::{AllocError, Global};
 use std::sync::Wait;
 use std::thread::Threads;
+
+/// The frames that each group sends at a tick: its meters read the round that starts, and answer the announcements that came in.
+fn frames_at(
+    rt: &(impl Threads + Sync),
+    alloc: Global,
+    book: &Book,
+    meters: &mut Meters,
+    readings: &Readings,
+    masks: &ChaMasks,
+    tags: &[Tag],
+    tick: u32,
+) -> Result<Vec<Result<Vec<Frame>, AllocError>>, AllocError>
+    requires presence { book.now.presence ≡ presence_of readings.now }
+    requires masks { plan_of masks.now ≡ readings.now.plan }
+    requires heard { AreHeard (run_shape readings.now) (clock_of readings.now.plan) (past book.now) tick tags.now }
+    requires meters { AreMeters book.now tick meters.old }
+    ensures meters { OnOk result (AreMeters book.now (tick + 1) meters.new) }
+    ensures frames { IfOk result (λ groups. AllZip (λ g frames. IfOk frames (λ f. f.items ≡ frames_due (run_shape readings.now) (clock_of readings.now.plan) (reading readings.now.table) (words_of masks.now) (past book.now) tags.now tick g))
+        (range_with_len 0 (length readings.now.plan.groups)) groups.items) }
+{
+    meters.read(book, tick);
+    let answered = meters.answered(alloc, book, tags)?;
+    tick_frames(rt, alloc, book, readings, masks, &answered, tick)
+}
 
 /// Sends all that is due at a tick, once its copies are taken and its rounds are closed.
 fn send_tick(
     rt: &(impl Threads + Sync),
     alloc: Global,
     run: &mut Running,
+    meters: &mut Meters,
     rack: &mut Rack,
     readings: &Readings,
     masks: &ChaMasks,
@@ -33,15 +67,17 @@ fn send_tick(
 ) -> Result<(), AllocError>
     requires running { IsRunning readings.now (words_of masks.now) (closed tick) run.old.book run.old.transcript run.old.link }
     requires tags { AreCopiesDue tick run.old.transcript.entries tags.now }
+    requires meters { AreMeters run.old.book tick meters.old }
     requires masks { plan_of masks.now ≡ readings.now.plan }
     requires tick { tick < 2 ^ 31 }
     requires room { HasRoom (λ b. meaning (b.vtable, b.value)) rack.old }
     ensures running { OnOk result (IsRunning readings.now (words_of masks.now) (starting (tick + 1)) run.new.book run.new.transcript run.new.link) }
+    ensures meters { OnOk result (AreMeters run.new.book (tick + 1) meters.new) }
     ensures fates { (hung : List Slot) → KeepsFates hung tick run.old.transcript.entries (slots (λ b. meaning (b.vtable, b.value)) rack.old) (posts_of rack.old) →
         OnOk result (KeepsFates hung tick run.new.transcript.entries (slots (λ b. meaning (b.vtable, b.value)) rack.new) (posts_of rack.new)) }
     ensures room { HasRoom (λ b. meaning (b.vtable, b.value)) rack.new }
 {
-    let groups = tick_frames(rt, alloc, &run.book, readings, masks, tags, tick)?;
+    let groups = frames_at(rt, alloc, &run.book, meters, readings, masks, tags, tick)?;
     for frames in &groups {
         match frames {
             Ok(frames) => send_all(tick, frames, run, rack)?,
@@ -57,6 +93,7 @@ pub(crate) fn run_tick<R: Threads + Wait + Sync, G: Gate>(
     rt: &R,
     alloc: Global,
     run: Running,
+    meters: &mut Meters,
     rack: &mut Rack,
     readings: &Readings,
     masks: &ChaMasks,
@@ -65,11 +102,13 @@ pub(crate) fn run_tick<R: Threads + Wait + Sync, G: Gate>(
     gate: &G,
 ) -> Result<Running, RunError>
     requires running { IsRunning readings.now (words_of masks.now) (starting tick) run.book run.transcript run.link }
+    requires meters { AreMeters run.book tick meters.old }
     requires masks { plan_of masks.now ≡ readings.now.plan }
     requires tick { tick < 2 ^ 31 }
     requires workers { (1 ≤ workers) × (workers ≤ 16) }
     requires room { HasRoom (λ b. meaning (b.vtable, b.value)) rack.old }
     ensures running { IfOk result (λ after. IsRunning readings.now (words_of masks.now) (starting (tick + 1)) after.book after.transcript after.link) }
+    ensures meters { IfOk result (λ after. AreMeters after.book (tick + 1) meters.new) }
     ensures fates { (hung : List Slot) → KeptFates hung tick run.transcript.entries (slots (λ b. meaning (b.vtable, b.value)) rack.old) (posts_of rack.old) →
         IfOk result (λ after. KeptFates hung (tick + 1) after.transcript.entries (slots (λ b. meaning (b.vtable, b.value)) rack.new) (posts_of rack.new)) }
     ensures room { HasRoom (λ b. meaning (b.vtable, b.value)) rack.new }
@@ -79,6 +118,8 @@ pub(crate) fn run_tick<R: Threads + Wait + Sync, G: Gate>(
     let tags = run.link.due(tick)?;
     let run = take_copies(rt, alloc, run, &tags, tick, workers, gate)?;
     let mut run = close_rounds(rt, alloc, run, tick, workers, gate)?;
-    send_tick(rt, alloc, &mut run, rack, readings, masks, &tags, tick)?;
+    send_tick(
+        rt, alloc, &mut run, meters, rack, readings, masks, &tags, tick,
+    )?;
     Ok(run)
 }

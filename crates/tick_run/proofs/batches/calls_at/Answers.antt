@@ -1,4 +1,4 @@
-use Rattle.std.proofs.Common.{◌≡◌, ◌++◌, ap, sym, ◌∙◌}
+use Rattle.std.proofs.Common.{◌++◌, ap, sym, ◌∙◌}
 use Rattle.run_rows.specs.Ticks.{clock_of}
 use Rattle.tick_run.specs.Running.{parcels_of}
 use Rattle.tick_run.proofs.GroupLemmas.{flat_next}

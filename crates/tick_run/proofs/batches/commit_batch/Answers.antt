@@ -1,4 +1,4 @@
-use Rattle.std.proofs.Common.{◌≡◌, ◌++◌, ◌-◌, [], refl, ap, sym, subst, ◌∙◌, List, All, length, take, drop, map}
+use Rattle.std.proofs.Common.{◌++◌, [], refl, ap, sym, subst, ◌∙◌, List, All, map}
 use Rattle.group_plan.specs.Plans.{PlanView}
 use Rattle.transcript_log.specs.declared.Line.{Line}
 use Rattle.transcript_text.specs.Transcripts.{FitsLine}

@@ -1,5 +1,3 @@
-use Rattle.std.proofs.Common.{◌≡◌, sym, subst, ◌∙◌}
-use Rattle.tick_run.specs.Running.{Ask}
 use Rattle.tick_run.proofs.PushLemmas.{ask-push}
 use Rattle.tick_run.proofs.batches.copies_of.Goals as goal
 

@@ -1,5 +1,3 @@
-use Rattle.std.proofs.Common.{◌≡◌, sym, ◌∙◌, true}
-use Rattle.group_book.specs.Books.{posted_of}
 use Rattle.tick_run.proofs.ParcelLemmas.{judged-take}
 use Rattle.tick_run.proofs.batches.parcel_of.Goals as goal
 

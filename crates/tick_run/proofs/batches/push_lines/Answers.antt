@@ -1,4 +1,4 @@
-use Rattle.std.proofs.Common.{◌≡◌, ◌++◌, ◌∷◌, [], ap, ◌∙◌, List, ℕ}
+use Rattle.std.proofs.Common.{◌++◌, ◌∷◌, [], ap, ◌∙◌, List, ℕ}
 use Rattle.tick_run.proofs.PushLemmas.{pushed-more}
 use Rattle.tick_run.proofs.batches.push_lines.Goals as goal
 

@@ -1,7 +1,6 @@
-use Rattle.std.proofs.Common.{◌≡◌, ◌++◌, IsTrue, map, filter}
+use Rattle.std.proofs.Common.{◌≡◌, ◌++◌, map, filter}
 use Rattle.missing_round.specs.Sets.{is_member}
-use Rattle.mask_stream.specs.ChaMaskTables.{plan_of, words_of}
-use Rattle.blind_core.specs.Blind.{are_places}
+use Rattle.mask_stream.specs.ChaMaskTables.{words_of}
 use Rattle.tick_run.specs.TickFrames.{answer_frame}
 use Rattle.tick_run.proofs.frames.add_answers.Given as goal
 

@@ -1,4 +1,4 @@
-use Rattle.std.proofs.Common.{◌≡◌, ◌++◌, ◌∙◌, ap, sym, subst, rules, List, length, ℕ, OnOk, map, filter, is_some, slice_index_or, None, Option}
+use Rattle.std.proofs.Common.{◌≡◌, ◌++◌, ◌∙◌, sym, subst, List, length, ℕ, OnOk, map, filter, is_some, slice_index_or, None, Option}
 use Rattle.group_plan.specs.Plans.{members as members_of}
 use Rattle.group_plan.specs.Tables.{reading}
 use Rattle.mask_stream.specs.ChaMaskTables.{words_of}

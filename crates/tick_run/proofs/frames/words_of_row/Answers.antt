@@ -1,5 +1,3 @@
-use Rattle.std.proofs.Common.{◌≡◌, IsTrue, subst}
-use Rattle.blind_core.specs.Blind.{are_places, AreReadings}
 use Rattle.tick_run.proofs.RowLemmas.{members-are_places, row-are_readings}
 use Rattle.tick_run.proofs.frames.words_of_row.Goals as goal
 

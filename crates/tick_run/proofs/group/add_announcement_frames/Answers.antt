@@ -1,4 +1,4 @@
-use Rattle.std.proofs.Common.{◌≡◌, ◌++◌, ◌+◌, ◌-◌, ◌<◌, ◌≤◌, sym, ap, ◌∙◌, subst, OnOk, append-nil, arith, ℕ, map, List, true}
+use Rattle.std.proofs.Common.{◌≡◌, ◌++◌, ◌-◌, ◌<◌, ◌≤◌, sym, ap, ◌∙◌, subst, OnOk, append-nil, arith, ℕ, map, List, true}
 use Rattle.missing_round.specs.Sets.{less}
 use Rattle.group_plan.specs.Plans.{members}
 use Rattle.group_book.specs.Books.{shape_of, past}

@@ -1,4 +1,4 @@
-use Rattle.std.proofs.Common.{◌≡◌, ◌++◌, ◌+◌, ◌-◌, ◌<◌, ◌≤◌, sym, ap, ◌∙◌, subst, min, append_assoc, arith, ℕ, List, filter}
+use Rattle.std.proofs.Common.{◌≡◌, ◌++◌, ◌-◌, ◌<◌, ◌≤◌, sym, ap, ◌∙◌, min, append_assoc, arith, List, filter}
 use Rattle.std.specs.List.{flat_map, range_with_len}
 use Rattle.group_plan.specs.declared.Tag.{Tag}
 use Rattle.group_plan.specs.declared.Kind.TheVariants.{Announcement}

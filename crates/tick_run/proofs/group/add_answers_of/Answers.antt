@@ -1,4 +1,4 @@
-use Rattle.std.proofs.Common.{◌≡◌, ◌++◌, sym, ap, ◌∙◌, subst, OnOk, append-nil, ℕ, List, true, map, filter}
+use Rattle.std.proofs.Common.{◌≡◌, ◌++◌, sym, ap, ◌∙◌, subst, OnOk, append-nil}
 use Rattle.group_plan.specs.Plans.{members}
 use Rattle.group_plan.specs.Tables.{IsPresenceTable}
 use Rattle.missing_round.specs.Sets.{is_member}

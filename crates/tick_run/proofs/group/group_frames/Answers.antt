@@ -1,4 +1,4 @@
-use Rattle.std.proofs.Common.{◌≡◌, ◌++◌, ◌==◌, ◌+◌, ap, ◌∙◌, List, [], map, filter, nat_lt}
+use Rattle.std.proofs.Common.{◌++◌, ◌==◌, ◌+◌, ap, ◌∙◌, List, [], map, filter, nat_lt}
 use Rattle.std.specs.Prelude.{if◌then◌else◌}
 use Rattle.std.specs.List.{flat_map, range_with_len}
 use Rattle.group_plan.specs.Tables.{PresenceView, reading, presence_of}

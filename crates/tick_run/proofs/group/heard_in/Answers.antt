@@ -1,4 +1,4 @@
-use Rattle.std.proofs.Common.{◌≡◌, ◌++◌, ◌∷◌, [], sym, subst, take, ℕ}
+use Rattle.std.proofs.Common.{sym, subst, take}
 use Rattle.std.proofs.lemmas.List.{take_more}
 use Rattle.tick_run.specs.TickFrames.{IsHeardIn}
 use Rattle.tick_run.proofs.group.heard_in.Goals as goal

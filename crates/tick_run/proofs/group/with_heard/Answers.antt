@@ -1,4 +1,4 @@
-use Rattle.std.proofs.Common.{◌≡◌, ap, ◌∙◌, sym}
+use Rattle.std.proofs.Common.{ap, ◌∙◌, sym}
 use Rattle.missing_round.specs.Sets.{is_member}
 use Rattle.tick_run.proofs.GroupLemmas.{heard-more}
 use Rattle.tick_run.proofs.group.with_heard.Goals as goal

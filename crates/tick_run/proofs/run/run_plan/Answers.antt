@@ -1,9 +1,23 @@
-use Rattle.std.proofs.Common.{◌≡◌, ◌+◌, refl, subst, sym, ◌∙◌}
+use Rattle.std.proofs.Common.{◌+◌, refl, ap, subst, sym, ◌∙◌, List, []}
 use Rattle.group_plan.specs.Plans.{last_tick}
 use Rattle.pair_keys.specs.Keys.{table_of}
 use Rattle.mask_stream.specs.ChaMaskTables.{words_of}
+use Rattle.lossy_link.specs.Arrivals.{Arrival}
+use Rattle.transcript_text.specs.Transcripts.{TranscriptView, no_entries}
+use Rattle.tick_run.specs.Running.{IsRunning, starting}
+use Rattle.tick_run.proofs.StateLemmas.{starts}
 use Rattle.tick_run.proofs.FinishLemmas.{finishes, kept-fresh}
 use Rattle.tick_run.proofs.run.run_plan.Goals as goal
+
+pub run_ticks-requires-clause-running : goal.run_ticks-requires-clause-running
+run_ticks-requires-clause-running g c κs within =
+    let readings = c.args.readings.now in
+    let m = words_of c.new-masks.result in
+    let presence = c.in_ok-new.ensures.presence ∙ c.in_ok-presence.ensures in
+    let start = starts readings m c.in_ok-new.field-0 presence c.in_ok-new.ensures.journal in
+    let empty = c.in_ok-empty.ensures ∙ ap no_entries (sym c.requires.readings) in
+    subst (λ (l : List Arrival). IsRunning readings m (starting 0) c.in_ok-new.field-0 c.in_ok-empty.field-0 l) (sym c.new-2.ensures)
+    (subst (λ (script : TranscriptView). IsRunning readings m (starting 0) c.in_ok-new.field-0 script []) (sym empty) start)
 
 pub returns-clause-finished : goal.returns-clause-finished
 returns-clause-finished g c =

@@ -1,4 +1,4 @@
-use Rattle.std.proofs.Common.{◌≡◌, ◌≤◌, ◌+◌, ap, subst, ◌∙◌, ℕ, arith}
+use Rattle.std.proofs.Common.{◌≡◌, ◌+◌, ap, subst, ◌∙◌, ℕ, arith}
 use Rattle.group_plan.specs.Plans.{last_tick}
 use Rattle.mask_stream.specs.ChaMaskTables.{words_of}
 use Rattle.tick_run.specs.Running.{IsRunning, starting}
@@ -9,6 +9,7 @@ pub loop-tick-preserved : goal.loop-tick-preserved
 loop-tick-preserved g c = record {
   room = c.run_tick.ensures.room;
   running = c.in_ok-run.ensures.running;
+  meters = c.in_ok-run.ensures.meters;
   fates = λ hung kept. c.in_ok-run.ensures.fates hung (c.loop-tick.invariant.fates hung kept);
 }
 

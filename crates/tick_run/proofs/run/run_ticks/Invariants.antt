@@ -4,12 +4,14 @@ use Rattle.link_lanes.specs.Racks.{slots, posts_of, HasRoom}
 use Rattle.mask_stream.specs.ChaMaskTables.{words_of}
 use Rattle.tick_run.specs.Running.{IsRunning, starting}
 use Rattle.tick_run.specs.Sending.{KeptFates}
+use Rattle.tick_run.specs.Meters.{AreMeters}
 use Rattle.tick_run.proofs.run.run_ticks.Given as goal
 
 abbrev pub invariant-loop-tick : goal.invariant-loop-tick
 invariant-loop-tick g l = record {
   room : HasRoom (λ b. (goal.Lane-dyn g (b.vtable, b.value)).meaning b.value) l.rack;
   running : IsRunning l.readings (words_of l.masks) (starting l.tick) l.run.book l.run.transcript l.run.link;
+  meters : AreMeters l.run.book l.tick l.meters;
   fates : (hung : List Slot) → KeptFates hung 0 l.fn.run.transcript.entries (slots (λ b. (goal.Lane-dyn g (b.vtable, b.value)).meaning b.value) l.fn.rack) (posts_of l.fn.rack)
       → KeptFates hung l.tick l.run.transcript.entries (slots (λ b. (goal.Lane-dyn g (b.vtable, b.value)).meaning b.value) l.rack) (posts_of l.rack);
 }

@@ -1,4 +1,4 @@
-use Rattle.std.proofs.Common.{◌≡◌, sym, subst, arith}
+use Rattle.std.proofs.Common.{sym, subst, arith}
 use Rattle.tick_run.specs.Sending.{IsOfPlan}
 use Rattle.tick_run.proofs.SendingLoop.{sending-none, sending-more, sent-all}
 use Rattle.tick_run.proofs.sends.send_all.Goals as goal

@@ -1,13 +1,13 @@
-use Rattle.std.proofs.Common.{◌≡◌, ◌≤◌, ◌+◌, ◌*◌, sym, subst, ◌∙◌, List, arith}
+use Rattle.std.proofs.Common.{◌≡◌, sym, subst, ◌∙◌, List, arith}
 use Rattle.group_plan.specs.declared.Tag.{Tag}
 use Rattle.mask_stream.specs.ChaMaskTables.{words_of}
 use Rattle.lossy_link.specs.Arrivals.{Arrival, due_at, due_elsewhere}
-use Rattle.run_rows.specs.Ticks.{clock_of}
-use Rattle.tick_run.specs.Running.{emptied, taken, closed, IsRunning, AreCopiesDue}
+use Rattle.tick_run.specs.Running.{emptied, taken, IsRunning, AreCopiesDue}
 use Rattle.tick_run.proofs.StateLemmas.{empties, copies-due}
 use Rattle.tick_run.proofs.TakeLemmas.{all-taken}
 use Rattle.tick_run.proofs.SendingLemmas.{keeps-retired, kept-next}
 use Rattle.tick_run.proofs.BatchedLemmas.{takes-batched, closes-batched, takes-fates, closes-fates, last-running}
+use Rattle.tick_run.proofs.MetersLemmas.{meters-batched}
 use Rattle.tick_run.proofs.tick.run_tick.Goals as goal
 
 pub take_copies-requires-clause-later : goal.take_copies-requires-clause-later
@@ -89,6 +89,15 @@ send_tick-requires-clause-tags g c κs within =
     let two = c.in_ok-run-2.run' in
     let ended = closes-batched readings m t one.book two.book one.transcript two.transcript one.link two.link c.deref.result.now took.0 took.1 c.in_ok-run-2.ensures in
     subst (λ (l : List Tag). AreCopiesDue t two.transcript.entries l) (c.deref.ensures.value ∙ sym c.deref-2.ensures.value) ended.1
+
+pub send_tick-requires-clause-meters : goal.send_tick-requires-clause-meters
+send_tick-requires-clause-meters g c κs within =
+    let t = c.args.tick in
+    let m = c.args.meters.now in
+    let one = c.in_ok-run.run' in
+    let two = c.in_ok-run-2.run' in
+    meters-batched t t _ one.book two.book one.transcript two.transcript one.link two.link m c.in_ok-run-2.ensures
+    (meters-batched t t _ c.args.run.book one.book c.args.run.transcript one.transcript c.due.new.self one.link m c.in_ok-run.ensures c.requires.meters)
 
 pub returns-clause-fates : goal.returns-clause-fates
 returns-clause-fates g c = λ hung kept.

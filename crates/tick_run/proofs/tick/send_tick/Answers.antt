@@ -1,14 +1,15 @@
-use Rattle.std.proofs.Common.{◌≡◌, ◌≤◌, ap, sym, subst, ◌∙◌, List, length, arith}
+use Rattle.std.proofs.Common.{◌≡◌, ◌≤◌, ◌+◌, ap, sym, subst, ◌∙◌, List, length, arith}
 use Rattle.std.specs.List.{AllZip, range_with_len}
 use Rattle.mask_stream.specs.ChaMaskTables.{words_of}
-use Rattle.meter_frames.specs.declared.Frame.{Frame}
-use Rattle.tick_run.specs.Sending.{AreDue}
+use Rattle.tick_run.specs.Running.{closed, sending_at}
 use Rattle.tick_run.proofs.StateLemmas.{hears}
-use Rattle.tick_run.proofs.TickLoop.{group_frames_of, IsOfGroup, range_long, groups-none, groups-more, groups-all, group-due, group-at, due-of_plan, heard-past}
+use Rattle.tick_run.proofs.TickLoop.{group_frames_of, IsOfGroup, groups-none, groups-more, groups-all, group-due, group-at, due-of_plan, heard-past}
+use Rattle.tick_run.proofs.RangeLemmas.{range_long}
+use Rattle.tick_run.proofs.MetersLemmas.{meters-running}
 use Rattle.tick_run.proofs.tick.send_tick.Goals as goal
 
-pub tick_frames-requires-clause-heard : goal.tick_frames-requires-clause-heard
-tick_frames-requires-clause-heard g c κs within =
+pub frames_at-requires-clause-heard : goal.frames_at-requires-clause-heard
+frames_at-requires-clause-heard g c κs within =
     heard-past c.args.readings.now (words_of c.args.masks.now) c.args.tick c.args.run.now.book c.args.run.now.transcript c.args.run.now.link c.args.tags.now c.requires.running c.requires.tags
 
 pub loop-frames-init : goal.loop-frames-init
@@ -26,7 +27,7 @@ send_all-requires-clause-frames g c =
     let script = c.args.run.now.transcript in
     let k = c.loop-frames.frames-index in
     let sent = c.loop-frames.invariant.sent in
-    let all = subst (λ (l : List _). AllZip (IsOfGroup readings m t c.args.run.now.book tags) (range_with_len 0 (length readings.plan.groups)) l) (sym c.deref-frames-items.ensures.value) c.in_ok-groups.ensures in
+    let all = subst (λ (l : List _). AllZip (IsOfGroup readings m t c.args.run.now.book tags) (range_with_len 0 (length readings.plan.groups)) l) (sym c.deref-frames-items.ensures.value) c.in_ok-groups.ensures.frames in
     let frames : c.deref.result.now ≡ group_frames_of readings m t script tags k
     = group-at readings m t tags c.args.run.now.book script c.args.run.now.link c.deref-frames-items.result.now (length readings.plan.groups) k c.frames-item.result c.in-Ok.frames c.deref.result.now c.requires.running all c.loop-frames-test.true c.frames-item.is c.in-Ok.is c.deref.ensures.value in
     let heard = hears readings m t c.args.run.now.book script c.args.run.now.link tags c.requires.running c.requires.tags in
@@ -42,7 +43,7 @@ loop-frames-preserved g c =
     let script = c.args.run.now.transcript in
     let k = c.loop-frames.frames-index in
     let sent = c.loop-frames.invariant.sent in
-    let all = subst (λ (l : List _). AllZip (IsOfGroup readings m t c.args.run.now.book tags) (range_with_len 0 (length readings.plan.groups)) l) (sym c.deref-frames-items.ensures.value) c.in_ok-groups.ensures in
+    let all = subst (λ (l : List _). AllZip (IsOfGroup readings m t c.args.run.now.book tags) (range_with_len 0 (length readings.plan.groups)) l) (sym c.deref-frames-items.ensures.value) c.in_ok-groups.ensures.frames in
     let frames : c.deref.result.now ≡ group_frames_of readings m t script tags k
     = group-at readings m t tags c.args.run.now.book script c.args.run.now.link c.deref-frames-items.result.now (length readings.plan.groups) k c.frames-item.result c.in-Ok.frames c.deref.result.now c.requires.running all c.loop-frames-test.true c.frames-item.is c.in-Ok.is c.deref.ensures.value in
     let heard = hears readings m t c.args.run.now.book script c.args.run.now.link tags c.requires.running c.requires.tags in
@@ -61,7 +62,13 @@ returns-clause-running g c =
     let t = c.args.tick in
     let tags = c.args.tags.now in
     let long : length c.deref-frames-items.result.now ≡ length readings.plan.groups
-    = ap length c.deref-frames-items.ensures.value ∙ range_long (IsOfGroup readings m t c.args.run.now.book tags) 0 (length readings.plan.groups) c.in_ok-groups.groups.items c.in_ok-groups.ensures in
+    = ap length c.deref-frames-items.ensures.value ∙ range_long (IsOfGroup readings m t c.args.run.now.book tags) 0 (length readings.plan.groups) c.in_ok-groups.groups.items c.in_ok-groups.ensures.frames in
     let over : length c.deref-frames-items.result.now ≤ c.loop-frames.frames-index = c.loop-frames-test.false in
     let within : c.loop-frames.frames-index ≤ length c.deref-frames-items.result.now = c.loop-frames.auto.frames-index-end in
     groups-all readings m t c.loop-frames.frames-index tags c.args.run.now.book c.args.run.now.transcript c.args.run.now.link c.loop-frames.run.book c.loop-frames.run.transcript c.loop-frames.run.link _ _ _ _ c.requires.running c.requires.tags (omega arith) c.loop-frames.invariant.sent
+
+pub returns-clause-meters : goal.returns-clause-meters
+returns-clause-meters g c =
+    let sent = c.loop-frames.invariant.sent in
+    meters-running c.args.readings.now (words_of c.args.masks.now) (closed c.args.tick) (sending_at c.args.tick) c.args.run.now.book c.loop-frames.run.book c.args.run.now.transcript c.loop-frames.run.transcript c.args.run.now.link c.loop-frames.run.link
+    (c.args.tick + 1) c.frames_at.new.meters c.requires.running sent.running sent.on.sets c.in_ok-groups.ensures.meters

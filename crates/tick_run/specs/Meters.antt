@@ -1,0 +1,72 @@
+-- The meters of a run: what each has read, and what it answers.
+use Rattle.std.specs.Prelude.{◌≡◌, ℕ, ◌<◌, Bool, true, false, List, length, All, Option, Some, None, is_some}
+use Rattle.std.specs.List.{AllZip, range_with_len}
+use Rattle.group_plan.specs.Plans.{size}
+use Rattle.group_plan.specs.Tables.{IsPresenceTable}
+use Rattle.group_plan.specs.declared.Kind.TheVariants.{Announcement}
+use Rattle.group_plan.specs.declared.Tag.{Tag}
+use Rattle.meter_core.specs.Meters.{MeterView, note_at, kept_set}
+use Rattle.meter_core.specs.declared.Heard.{Heard}
+use Rattle.meter_core.specs.declared.Heard.TheVariants.{Answer, AnswerAgain, Refused}
+use Rattle.transcript_log.specs.declared.Event.{Event}
+use Rattle.transcript_log.specs.Events.{same_kind}
+use Rattle.transcript_log.specs.Schedule.{Shape, members_of, floor_of, missing, is_announced, is_announcement_taken}
+use Rattle.group_book.specs.Books.{BookView, shape_of, past}
+use Rattle.tick_run.specs.declared.meters.Meters.{Meters}
+
+-- a meter that is marked read is so over the members of the round
+abbrev pub AreMembers : List ℕ → Option (List ℕ) → Type 0
+AreMembers members None = Unit {0}
+AreMembers members (Some set) = set ≡ members
+
+-- a set that is kept for a round is the one that was announced
+abbrev pub IsKept : Shape → List Event → ℕ → ℕ → Option (List ℕ) → Type 0
+IsKept s past g r None = Unit {0}
+IsKept s past g r (Some set) = (is_announced s g r past ≡ true) × (set ≡ missing s g r past)
+
+-- meter i of group g in a run of n rounds: it has read those rounds below t in which it is present, and keeps announced sets alone
+pub record IsMeter (s : Shape) (n t : ℕ) (past : List Event) (g i : ℕ) (m : MeterView) : Type 0 where
+  pub number : m.meter ≡ i
+  pub floor : m.floor ≡ floor_of s g
+  pub notes : length m.notes ≡ n
+  pub read : (r : ℕ) → r < t → r < n → s.present g r i ≡ true → is_some (note_at m r).members ≡ true
+  pub members : (r : ℕ) → AreMembers (members_of s g r) (note_at m r).members
+  pub kept : (r : ℕ) → IsKept s past g r (kept_set m r)
+
+-- the meters of group g, one after another
+abbrev pub AreOfGroup : Shape → ℕ → ℕ → List Event → ℕ → List MeterView → Type 0
+AreOfGroup s n t past g meters = AllZip (IsMeter s n t past g) (range_with_len 0 (size s.groups g)) meters
+
+-- the meters of the book's plan after its past, before the readings of tick t are sent; only members are present
+pub record AreMeters (b : BookView) (t : ℕ) (m : Meters) : Type 0 where
+  pub table : IsPresenceTable b.presence.plan b.presence.table
+  pub groups : AllZip (λ g meters. AreOfGroup (shape_of b) b.presence.plan.rounds t (past b) g meters.items) (range_with_len 0 (length b.presence.plan.groups)) m.groups.items
+
+-- ---- hearing
+
+-- the meter answers
+abbrev pub is_answer : Heard → Bool
+is_answer Answer = true
+is_answer AnswerAgain = true
+is_answer (Refused why) = false
+
+abbrev pub is_announcement : Tag → Bool
+is_announcement tag = same_kind tag.kind Announcement
+
+-- an announcement was taken with effect, of a round of the plan below t
+pub record IsTold (b : BookView) (t : ℕ) (tag : Tag) : Type 0 where
+  pub taken : is_announcement_taken (shape_of b) tag.group tag.round tag.meter (past b) ≡ true
+  pub round : tag.round < b.presence.plan.rounds
+  pub early : tag.round < t
+
+-- the meters have read the rounds below some t, and the announcement is of one of them
+pub record CanHear (b : BookView) (m : Meters) (tag : Tag) : Type 0 where
+  pub until : ℕ
+  pub meters : AreMeters b until m
+  pub told : is_announcement tag ≡ true → IsTold b until tag
+
+-- the same of each of these tags
+pub record CanHearAll (b : BookView) (m : Meters) (tags : List Tag) : Type 0 where
+  pub until : ℕ
+  pub meters : AreMeters b until m
+  pub told : All (λ tag. is_announcement tag ≡ true → IsTold b until tag) tags

@@ -1,0 +1,150 @@
+//! The meters of a run: each reads its rounds, and answers at most one missing set in each.
+
+ghost use Rattle.std.specs.Prelude.{◌≡◌, ◌+◌, ◌<◌, ◌≤◌, ℕ, true, IfOk, OnOk, length, filter, if◌then◌else◌};
+ghost use Rattle.missing_round.specs.Sets.{is_member};
+ghost use Rattle.group_plan.specs.Plans.{floor_of};
+ghost use Rattle.meter_core.specs.Meters.{marked};
+ghost use Rattle.group_book.specs.Books.{shape_of, past};
+ghost use Rattle.tick_run.specs.Meters.{AreOfGroup, AreMeters, is_answer, is_announcement, CanHear, CanHearAll};
+
+use group_book::Book;
+use group_plan::{Kind, Plan, Tag};
+use meter_core::{Heard, Meter};
+use missing_round::MeterSet;
+use std::alloc::{AllocError, Global};
+use transcript_text::members;
+
+/// The meters of a plan, by group and meter.
+#[derive(Drop)]
+pub(crate) struct Meters {
+    groups: Vec<Vec<Meter>>,
+}
+
+/// The floor of a group.
+fn floor_of(plan: &Plan, group: u16) -> u16
+    requires { group < length plan.now.groups }
+    ensures floor { result ≡ floor_of plan.now.groups group }
+    ensures least { 2 ≤ result }
+    ensures most { result ≤ 256 }
+{
+    plan.groups()[group as usize].floor as u16
+}
+
+/// The meters of a group, before they read or hear anything.
+fn new_group(alloc: Global, book: &Book, group: u16) -> Result<Vec<Meter>, AllocError>
+    requires { group < length book.now.presence.plan.groups }
+    ensures { IfOk result (λ meters. AreOfGroup (shape_of book.now) book.now.presence.plan.rounds 0 (past book.now) group meters.items) }
+{
+    let plan = book.plan();
+    let floor = floor_of(plan, group);
+    let rounds = plan.rounds();
+    let mut meters = Vec::new(alloc);
+    for meter in 0..plan.meters(group) {
+        meters.push(Meter::new(alloc, meter as u8, floor, rounds)?)?;
+    }
+    Ok(meters)
+}
+
+/// Marks the round as read by the meter, where it has a reading.
+fn read_one(meter: &mut Meter, has_reading: bool, round: u32, members: &MeterSet)
+    requires round { round < length meter.old.notes }
+    requires member { has_reading ≡ true → is_member meter.old.meter members.now ≡ true }
+    ensures { meter.new ≡ (if has_reading then marked meter.old round members.now else meter.old) }
+{
+    if has_reading {
+        meter.mark_read(round, members);
+    }
+}
+
+/// Marks the round as read by each meter of the group that has a reading in it.
+fn read_group(meters: &mut [Meter], book: &Book, group: u16, round: u32)
+    requires group { group < length book.now.presence.plan.groups }
+    requires round { round < book.now.presence.plan.rounds }
+    requires meters { AreOfGroup (shape_of book.now) book.now.presence.plan.rounds round (past book.now) group meters.old }
+    ensures { AreOfGroup (shape_of book.now) book.now.presence.plan.rounds (round + 1) (past book.now) group meters.new }
+{
+    let members = members(book.plan(), group, round);
+    for meter in 0..book.plan().meters(group) {
+        let has_reading = book.presence().has(group, round, meter as u8);
+        read_one(&mut meters[meter as usize], has_reading, round, &members);
+    }
+}
+
+/// Whether it is an announcement.
+fn is_announcement(tag: Tag) -> bool
+    ensures { result ≡ is_announcement tag }
+{
+    tag.kind == Kind::Announcement
+}
+
+/// Whether the meter answers.
+fn is_answer(heard: Heard) -> bool
+    ensures { result ≡ is_answer heard }
+{
+    match heard {
+        Heard::Answer | Heard::AnswerAgain => true,
+        Heard::Refused(_) => false,
+    }
+}
+
+impl Meters {
+    /// The meters of the book's plan, before they read or hear anything.
+    pub(crate) fn new(alloc: Global, book: &Book) -> Result<Meters, AllocError>
+        ensures { IfOk result (λ meters. AreMeters book.now 0 meters) }
+    {
+        let mut groups = Vec::new(alloc);
+        for group in 0..book.presence().plan().groups().len() {
+            groups.push(new_group(alloc, book, group as u16)?)?;
+        }
+        Ok(Meters { groups })
+    }
+
+    /// Marks the round that starts at the tick as read by each meter that has a reading in it.
+    pub(crate) fn read(&mut self, book: &Book, tick: u32)
+        requires { AreMeters book.now tick self.old }
+        ensures { AreMeters book.now (tick + 1) self.new }
+    {
+        if tick >= book.plan().rounds() {
+            return;
+        }
+        for group in 0..self.groups.len() {
+            read_group(&mut self.groups[group], book, group as u16, tick);
+        }
+    }
+
+    /// Whether the tag is an announcement that its meter answers: the meter hears of the missing set of the round.
+    fn hear(&mut self, book: &Book, tag: Tag) -> bool
+        requires { CanHear book.now self.old tag }
+        ensures meters { (t : ℕ) → AreMeters book.now t self.old → AreMeters book.now t self.new }
+        ensures answered { result ≡ is_announcement tag }
+    {
+        if !is_announcement(tag) {
+            return false;
+        }
+        let Some(missing) = book.announced(tag.group, tag.round) else {
+            return false;
+        };
+        let meter = &mut self.groups[tag.group as usize][tag.meter as usize];
+        is_answer(meter.hear(tag.round, &missing))
+    }
+
+    /// The announcements among the tags that their meters answer.
+    pub(crate) fn answered(
+        &mut self,
+        alloc: Global,
+        book: &Book,
+        tags: &[Tag],
+    ) -> Result<Vec<Tag>, AllocError>
+        requires { CanHearAll book.now self.old tags.now }
+        ensures meters { (t : ℕ) → AreMeters book.now t self.old → OnOk result (AreMeters book.now t self.new) }
+        ensures answered { IfOk result (λ answered. answered.items ≡ filter is_announcement tags.now) }
+    {
+        let mut answered = Vec::new(alloc);
+        for tag in tags {
+            if self.hear(book, *tag) {
+                answered.push(*tag)?;
+            }
+        }
+        Ok(answered)
+    }
+}
