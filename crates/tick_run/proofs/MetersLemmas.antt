@@ -33,7 +33,7 @@ use Rattle.tick_run.proofs.PastLemmas.{sets-lines}
 use Rattle.tick_run.proofs.FrameSteps.{past_of-lines}
 use Rattle.tick_run.specs.OnTheWay.{same_tag}
 use Rattle.tick_run.specs.TickFrames.{was_taken, reading_frame, answer_frame, announcements_at, frames_due, AreHeard}
-use Rattle.tick_run.specs.Meters.{IsMeter, AreOfGroup, AreMeters, is_announcement, IsTold, CanHearAll}
+use Rattle.tick_run.specs.Meters.{IsMeter, IsMeterOf, AreOfGroup, IsGroup, AreMeters, is_announcement, IsTold, CanHearAll}
 use Rattle.tick_run.proofs.RangeLemmas.{range_long, range_item, range_weaker, range_set}
 use Rattle.tick_run.proofs.MeterLemmas.{read-marked, read-none, stays, heard-is}
 use Rattle.tick_run.proofs.GroupLemmas.{told-place}
@@ -54,12 +54,11 @@ member-in plan g r i below is = is_member-picked (is_member plan.groups g r) 0 (
 -- in no round there is nothing to read
 pub read-over : (b : BookView) (t : ℕ) (m : Meters) → b.presence.plan.rounds ≤ t → AreMeters b t m → AreMeters b (t + 1) m
 read-over b t m over are =
-    let s : Shape = shape_of b in
-    let n : ℕ = b.presence.plan.rounds in
+    let plan : PlanView = b.presence.plan in
     record {
       table = are.table;
-      groups = range_weaker (λ g (v : Vec MeterView Global). AreOfGroup s n t (past b) g v.items) (λ g (v : Vec MeterView Global). AreOfGroup s n (t + 1) (past b) g v.items) 0 (length b.presence.plan.groups) m.groups.items
-          (λ g v _ _ group. range_weaker (IsMeter s n t (past b) g) (IsMeter s n (t + 1) (past b) g) 0 (size s.groups g) v.items (λ i meter _ _ is. read-none s n t (past b) g i meter (λ below _. omega arith) is) group)
+      groups = range_weaker (IsGroup b t) (IsGroup b (t + 1)) 0 (length plan.groups) m.groups.items
+          (λ g v _ _ group. range_weaker (IsMeterOf b t g) (IsMeterOf b (t + 1) g) 0 (size plan.groups g) v.items (λ i meter _ _ is. read-none (shape_of b) plan.rounds t (past b) g i meter (λ below _. omega arith) is) group)
           are.groups;
     }
 
@@ -71,9 +70,9 @@ meters-stay b after t m same sets are =
     let n : ℕ = b.presence.plan.rounds in
     record {
       table = subst (λ (p : PresenceView). IsPresenceTable p.plan p.table) (sym same) are.table;
-      groups = subst (λ (p : PresenceView). AllZip (λ g (v : Vec MeterView Global). AreOfGroup (shape_of_presence p) p.plan.rounds t (past after) g v.items) (range_with_len 0 (length p.plan.groups)) m.groups.items) (sym same)
-          (range_weaker (λ g (v : Vec MeterView Global). AreOfGroup s n t (past b) g v.items) (λ g (v : Vec MeterView Global). AreOfGroup s n t (past after) g v.items) 0 (length b.presence.plan.groups) m.groups.items
-          (λ g v _ _ group. range_weaker (IsMeter s n t (past b) g) (IsMeter s n t (past after) g) 0 (size s.groups g) v.items (λ i meter _ _ is. stays s n t (past b) (past after) g i meter sets is) group)
+      groups = subst (λ (p : PresenceView). AllZip (IsGroup (record after { presence = p }) t) (range_with_len 0 (length p.plan.groups)) m.groups.items) (sym same)
+          (range_weaker (IsGroup b t) (IsGroup (record after { presence = b.presence }) t) 0 (length s.groups) m.groups.items
+          (λ g v _ _ group. range_weaker (IsMeterOf b t g) (IsMeter s n t (past after) g) 0 (size s.groups g) v.items (λ i meter _ _ is. stays s n t (past b) (past after) g i meter sets is) group)
           are.groups);
     }
 
@@ -165,30 +164,28 @@ pub told-group : (b : BookView) (u t : ℕ) (m : Meters) (tag : Tag) → AreMete
 told-group b u t m tag are told = group-lt b.presence.plan.groups tag.group tag.meter (told-meter b u t m tag are told)
 
 pub groups-long : (b : BookView) (t : ℕ) (m : Meters) → AreMeters b t m → length m.groups.items ≡ length b.presence.plan.groups
-groups-long b t m are = range_long (λ g (v : Vec MeterView Global). AreOfGroup (shape_of b) b.presence.plan.rounds t (past b) g v.items) 0 (length b.presence.plan.groups) m.groups.items are.groups
+groups-long b t m are = range_long (IsGroup b t) 0 (length b.presence.plan.groups) m.groups.items are.groups
 
-pub group-at : (b : BookView) (t : ℕ) (m : Meters) (g : ℕ) (v : Vec MeterView Global) → AreMeters b t m → g < length m.groups.items → v ≡ get_or m.groups.items g v → AreOfGroup (shape_of b) b.presence.plan.rounds t (past b) g v.items
-group-at b t m g v are lt is = range_item (λ g (w : Vec MeterView Global). AreOfGroup (shape_of b) b.presence.plan.rounds t (past b) g w.items) (length b.presence.plan.groups) g m.groups.items v is lt are.groups
+pub group-at : (b : BookView) (t : ℕ) (m : Meters) (g : ℕ) (v : Vec MeterView Global) → AreMeters b t m → g < length m.groups.items → v ≡ get_or m.groups.items g v → IsGroup b t g v
+group-at b t m g v are lt is = range_item (IsGroup b t) (length b.presence.plan.groups) g m.groups.items v is lt are.groups
 
 pub group-long : (b : BookView) (t : ℕ) (m : Meters) (g : ℕ) (v : Vec MeterView Global) → AreMeters b t m → g < length m.groups.items → v ≡ get_or m.groups.items g v → length v.items ≡ size b.presence.plan.groups g
-group-long b t m g v are lt is = range_long (IsMeter (shape_of b) b.presence.plan.rounds t (past b) g) 0 (size b.presence.plan.groups g) v.items (group-at b t m g v are lt is)
+group-long b t m g v are lt is = range_long (IsMeterOf b t g) 0 (size b.presence.plan.groups g) v.items (group-at b t m g v are lt is)
 
 pub meter-at : (b : BookView) (t : ℕ) (m : Meters) (g i : ℕ) (v : Vec MeterView Global) (meter : MeterView) → AreMeters b t m → g < length m.groups.items → v ≡ get_or m.groups.items g v → i < length v.items → meter ≡ get_or v.items i meter
-    → IsMeter (shape_of b) b.presence.plan.rounds t (past b) g i meter
-meter-at b t m g i v meter are lt is below here = range_item (IsMeter (shape_of b) b.presence.plan.rounds t (past b) g) (size b.presence.plan.groups g) i v.items meter here below (group-at b t m g v are lt is)
+    → IsMeterOf b t g i meter
+meter-at b t m g i v meter are lt is below here = range_item (IsMeterOf b t g) (size b.presence.plan.groups g) i v.items meter here below (group-at b t m g v are lt is)
 
 -- once one meter has heard of an announced set
 pub heard-meters : (b : BookView) (t : ℕ) (m : Meters) (g i r : ℕ) (v : Vec MeterView Global) (meter after : MeterView) (said : Heard) → AreMeters b t m → g < length m.groups.items → v ≡ get_or m.groups.items g v
     → i < length v.items → meter ≡ get_or v.items i meter → is_announced (shape_of b) g r (past b) ≡ true → Hears meter r (missing (shape_of b) g r (past b)) said after
     → AreMeters b t (record { groups = with_item m.groups g (with_item v i after) })
 heard-meters b t m g i r v meter after said are lt is below here announced hears =
-    let s : Shape = shape_of b in
-    let n : ℕ = b.presence.plan.rounds in
-    let new : IsMeter s n t (past b) g i after = heard-is s n t (past b) g r i meter after said (meter-at b t m g i v meter are lt is below here) announced hears in
-    let group : AreOfGroup s n t (past b) g (slice_set v.items i after)
-    = range_set (IsMeter s n t (past b) g) (IsMeter s n t (past b) g) 0 (size s.groups g) i v.items after (λ j z _ h. h) (subst (λ j. IsMeter s n t (past b) g j after) (sym (zero-add i)) new) (group-at b t m g v are lt is) in
+    let new : IsMeterOf b t g i after = heard-is (shape_of b) b.presence.plan.rounds t (past b) g r i meter after said (meter-at b t m g i v meter are lt is below here) announced hears in
+    let group : AreOfGroup b t g (slice_set v.items i after)
+    = range_set (IsMeterOf b t g) (IsMeterOf b t g) 0 (size b.presence.plan.groups g) i v.items after (λ j z _ h. h) (subst (λ j. IsMeterOf b t g j after) (sym (zero-add i)) new) (group-at b t m g v are lt is) in
     record {
       table = are.table;
-      groups = range_set (λ h (w : Vec MeterView Global). AreOfGroup s n t (past b) h w.items) (λ h (w : Vec MeterView Global). AreOfGroup s n t (past b) h w.items) 0 (length b.presence.plan.groups) g m.groups.items (with_item v i after)
-          (λ j z _ h. h) (subst (λ h. AreOfGroup s n t (past b) h (slice_set v.items i after)) (sym (zero-add g)) group) are.groups;
+      groups = range_set (IsGroup b t) (IsGroup b t) 0 (length b.presence.plan.groups) g m.groups.items (with_item v i after)
+          (λ j z _ h. h) (subst (λ h. AreOfGroup b t h (slice_set v.items i after)) (sym (zero-add g)) group) are.groups;
     }

@@ -1,5 +1,6 @@
 -- The meters of a run: what each has read, and what it answers.
-use Rattle.std.specs.Prelude.{◌≡◌, ℕ, ◌<◌, Bool, true, false, List, length, All, Option, Some, None, is_some}
+use Rattle.std.specs.Prelude.{◌≡◌, ℕ, ◌<◌, Bool, true, false, List, length, All, Option, Some, None, is_some, Vec}
+use Rattle.std.specs.declared.alloc.Global.{Global}
 use Rattle.std.specs.List.{AllZip, range_with_len}
 use Rattle.group_plan.specs.Plans.{size}
 use Rattle.group_plan.specs.Tables.{IsPresenceTable}
@@ -33,14 +34,21 @@ pub record IsMeter (s : Shape) (n t : ℕ) (past : List Event) (g i : ℕ) (m : 
   pub members : (r : ℕ) → AreMembers (members_of s g r) (note_at m r).members
   pub kept : (r : ℕ) → IsKept s past g r (kept_set m r)
 
--- the meters of group g, one after another
-abbrev pub AreOfGroup : Shape → ℕ → ℕ → List Event → ℕ → List MeterView → Type 0
-AreOfGroup s n t past g meters = AllZip (IsMeter s n t past g) (range_with_len 0 (size s.groups g)) meters
+-- the same of the book's plan after its past, before the readings of tick t are sent
+abbrev pub IsMeterOf : BookView → ℕ → ℕ → ℕ → MeterView → Type 0
+IsMeterOf b t g i m = IsMeter (shape_of b) b.presence.plan.rounds t (past b) g i m
 
--- the meters of the book's plan after its past, before the readings of tick t are sent; only members are present
+-- the meters of group g, one after another
+abbrev pub AreOfGroup : BookView → ℕ → ℕ → List MeterView → Type 0
+AreOfGroup b t g meters = AllZip (IsMeterOf b t g) (range_with_len 0 (size b.presence.plan.groups g)) meters
+
+abbrev pub IsGroup : BookView → ℕ → ℕ → Vec MeterView Global → Type 0
+IsGroup b t g meters = AreOfGroup b t g meters.items
+
+-- the meters of all groups; only members are present
 pub record AreMeters (b : BookView) (t : ℕ) (m : Meters) : Type 0 where
   pub table : IsPresenceTable b.presence.plan b.presence.table
-  pub groups : AllZip (λ g meters. AreOfGroup (shape_of b) b.presence.plan.rounds t (past b) g meters.items) (range_with_len 0 (length b.presence.plan.groups)) m.groups.items
+  pub groups : AllZip (IsGroup b t) (range_with_len 0 (length b.presence.plan.groups)) m.groups.items
 
 -- ---- hearing
 

@@ -4,7 +4,6 @@ ghost use Rattle.std.specs.Prelude.{◌≡◌, ◌+◌, ◌<◌, ◌≤◌, ℕ,
 ghost use Rattle.missing_round.specs.Sets.{is_member};
 ghost use Rattle.group_plan.specs.Plans.{floor_of};
 ghost use Rattle.meter_core.specs.Meters.{marked};
-ghost use Rattle.group_book.specs.Books.{shape_of, past};
 ghost use Rattle.tick_run.specs.Meters.{AreOfGroup, AreMeters, is_answer, is_announcement, CanHear, CanHearAll};
 
 use group_book::Book;
@@ -33,7 +32,7 @@ fn floor_of(plan: &Plan, group: u16) -> u16
 /// The meters of a group, before they read or hear anything.
 fn new_group(alloc: Global, book: &Book, group: u16) -> Result<Vec<Meter>, AllocError>
     requires { group < length book.now.presence.plan.groups }
-    ensures { IfOk result (λ meters. AreOfGroup (shape_of book.now) book.now.presence.plan.rounds 0 (past book.now) group meters.items) }
+    ensures { IfOk result (λ meters. AreOfGroup book.now 0 group meters.items) }
 {
     let plan = book.plan();
     let floor = floor_of(plan, group);
@@ -60,8 +59,8 @@ fn read_one(meter: &mut Meter, has_reading: bool, round: u32, members: &MeterSet
 fn read_group(meters: &mut [Meter], book: &Book, group: u16, round: u32)
     requires group { group < length book.now.presence.plan.groups }
     requires round { round < book.now.presence.plan.rounds }
-    requires meters { AreOfGroup (shape_of book.now) book.now.presence.plan.rounds round (past book.now) group meters.old }
-    ensures { AreOfGroup (shape_of book.now) book.now.presence.plan.rounds (round + 1) (past book.now) group meters.new }
+    requires meters { AreOfGroup book.now round group meters.old }
+    ensures { AreOfGroup book.now (round + 1) group meters.new }
 {
     let members = members(book.plan(), group, round);
     for meter in 0..book.plan().meters(group) {

@@ -7,7 +7,7 @@ use Rattle.group_plan.specs.Tables.{PresenceView, is_present}
 use Rattle.meter_core.specs.Meters.{MeterView, marked}
 use Rattle.transcript_log.proofs.MemberLemmas.{is_member-below}
 use Rattle.group_book.specs.Books.{shape_of, past}
-use Rattle.tick_run.specs.Meters.{IsMeter}
+use Rattle.tick_run.specs.Meters.{IsMeterOf}
 use Rattle.tick_run.proofs.RangeLemmas.{upto-none, upto-within, upto-at, upto-more, upto-all}
 use Rattle.tick_run.proofs.MetersLemmas.{read-one, member-in}
 use Rattle.tick_run.proofs.meters.read_group.Goals as goal
@@ -15,7 +15,7 @@ use Rattle.tick_run.proofs.meters.read_group.Goals as goal
 pub loop-meter-init : goal.loop-meter-init
 loop-meter-init c =
     let b = c.args.book.now in
-    upto-none (λ t. IsMeter (shape_of b) b.presence.plan.rounds t (past b) c.args.group) c.args.round (size b.presence.plan.groups c.args.group) c.args.meters.now c.requires.meters
+    upto-none (λ t. IsMeterOf b t c.args.group) c.args.round (size b.presence.plan.groups c.args.group) c.args.meters.now c.requires.meters
 
 pub has-has_reading-requires : goal.has-has_reading-requires
 has-has_reading-requires c =
@@ -32,7 +32,7 @@ bounds-meters-meter c =
     let plan = b.presence.plan in
     let g = c.args.group in
     let end = c.meters-meter-end.ensures.meters ∙ ap (λ (p : PlanView). size p.groups g) c.plan-2.ensures in
-    upto-within (λ t. IsMeter (shape_of b) plan.rounds t (past b) g) c.args.round c.loop-meter.meter (size plan.groups g) c.meters-meter-end.result c.loop-meter.meters c.loop-meter.invariant end c.loop-meter-test.true
+    upto-within (λ t. IsMeterOf b t g) c.args.round c.loop-meter.meter (size plan.groups g) c.meters-meter-end.result c.loop-meter.meters c.loop-meter.invariant end c.loop-meter-test.true
 
 pub read_one-requires-clause-round : goal.read_one-requires-clause-round
 read_one-requires-clause-round c =
@@ -42,8 +42,8 @@ read_one-requires-clause-round c =
     let t = c.args.round in
     let k = c.loop-meter.meter in
     let end = c.meters-meter-end.ensures.meters ∙ ap (λ (p : PlanView). size p.groups g) c.plan-2.ensures in
-    let within = upto-within (λ t. IsMeter (shape_of b) plan.rounds t (past b) g) t k (size plan.groups g) c.meters-meter-end.result c.loop-meter.meters c.loop-meter.invariant end c.loop-meter-test.true in
-    let is = upto-at (λ t. IsMeter (shape_of b) plan.rounds t (past b) g) t k (size plan.groups g) c.loop-meter.meters c.index-meters-meter.result c.index-meters-meter.is within c.loop-meter.invariant in
+    let within = upto-within (λ t. IsMeterOf b t g) t k (size plan.groups g) c.meters-meter-end.result c.loop-meter.meters c.loop-meter.invariant end c.loop-meter-test.true in
+    let is = upto-at (λ t. IsMeterOf b t g) t k (size plan.groups g) c.loop-meter.meters c.index-meters-meter.result c.index-meters-meter.is within c.loop-meter.invariant in
     subst (λ (m : MeterView). t < length m.notes) c.index-meters-meter.is (omega (arith, c.requires.round, is.notes))
 
 pub read_one-requires-clause-member : goal.read_one-requires-clause-member
@@ -54,8 +54,8 @@ read_one-requires-clause-member c = λ has.
     let t = c.args.round in
     let k = c.loop-meter.meter in
     let end = c.meters-meter-end.ensures.meters ∙ ap (λ (p : PlanView). size p.groups g) c.plan-2.ensures in
-    let within = upto-within (λ t. IsMeter (shape_of b) plan.rounds t (past b) g) t k (size plan.groups g) c.meters-meter-end.result c.loop-meter.meters c.loop-meter.invariant end c.loop-meter-test.true in
-    let is = upto-at (λ t. IsMeter (shape_of b) plan.rounds t (past b) g) t k (size plan.groups g) c.loop-meter.meters c.index-meters-meter.result c.index-meters-meter.is within c.loop-meter.invariant in
+    let within = upto-within (λ t. IsMeterOf b t g) t k (size plan.groups g) c.meters-meter-end.result c.loop-meter.meters c.loop-meter.invariant end c.loop-meter-test.true in
+    let is = upto-at (λ t. IsMeterOf b t g) t k (size plan.groups g) c.loop-meter.meters c.index-meters-meter.result c.index-meters-meter.is within c.loop-meter.invariant in
     let member : is_member plan.groups g t k ≡ true = sym (ap (λ (p : PresenceView). is_member p.plan.groups g t k) c.presence.ensures) ∙ c.has-has_reading.ensures.member has in
     ap (λ (i : ℕ). is_in i c.members-members.result) (sym (ap (λ (m : MeterView). m.meter) c.index-meters-meter.is) ∙ is.number)
     ∙ ap (is_in k) (c.members-members.ensures ∙ ap (λ (p : PlanView). members p.groups g t) c.plan.ensures)
@@ -71,13 +71,13 @@ loop-meter-preserved c =
     let has = c.has-has_reading.result in
     let old = slice_index_or c.loop-meter.meters k c.index-meters-meter.result in
     let end = c.meters-meter-end.ensures.meters ∙ ap (λ (p : PlanView). size p.groups g) c.plan-2.ensures in
-    let within = upto-within (λ t. IsMeter (shape_of b) plan.rounds t (past b) g) t k (size plan.groups g) c.meters-meter-end.result c.loop-meter.meters c.loop-meter.invariant end c.loop-meter-test.true in
-    let is = upto-at (λ t. IsMeter (shape_of b) plan.rounds t (past b) g) t k (size plan.groups g) c.loop-meter.meters c.index-meters-meter.result c.index-meters-meter.is within c.loop-meter.invariant in
-    let was = subst (IsMeter (shape_of b) plan.rounds t (past b) g k) c.index-meters-meter.is is in
+    let within = upto-within (λ t. IsMeterOf b t g) t k (size plan.groups g) c.meters-meter-end.result c.loop-meter.meters c.loop-meter.invariant end c.loop-meter-test.true in
+    let is = upto-at (λ t. IsMeterOf b t g) t k (size plan.groups g) c.loop-meter.meters c.index-meters-meter.result c.index-meters-meter.is within c.loop-meter.invariant in
+    let was = subst (IsMeterOf b t g k) c.index-meters-meter.is is in
     let set = c.members-members.ensures ∙ ap (λ (p : PlanView). members p.groups g t) c.plan.ensures in
     let present = c.has-has_reading.ensures.present ∙ ap (λ (p : PresenceView). is_present p.table g t k) c.presence.ensures in
-    upto-more (λ t. IsMeter (shape_of b) plan.rounds t (past b) g) t k (size plan.groups g) c.loop-meter.meters c.read_one.new.meter
-    (subst (IsMeter (shape_of b) plan.rounds (t + 1) (past b) g k) (sym (c.read_one.ensures ∙ ap (λ (l : List ℕ). if has then marked old t l else old) set)) (read-one (shape_of b) plan.rounds t (past b) g k old has c.requires.round present was))
+    upto-more (λ t. IsMeterOf b t g) t k (size plan.groups g) c.loop-meter.meters c.read_one.new.meter
+    (subst (IsMeterOf b (t + 1) g k) (sym (c.read_one.ensures ∙ ap (λ (l : List ℕ). if has then marked old t l else old) set)) (read-one (shape_of b) plan.rounds t (past b) g k old has c.requires.round present was))
     c.loop-meter.invariant
 
 pub returns : goal.returns
@@ -87,4 +87,4 @@ returns c =
     let g = c.args.group in
     let end : c.meters-meter-end.result ≡ size plan.groups g = c.meters-meter-end.ensures.meters ∙ ap (λ (p : PlanView). size p.groups g) c.plan-2.ensures in
     let over : c.meters-meter-end.result ≤ c.loop-meter.meter = c.loop-meter-test.false in
-    upto-all (λ t. IsMeter (shape_of b) plan.rounds t (past b) g) c.args.round c.loop-meter.meter (size plan.groups g) c.loop-meter.meters (omega arith) c.loop-meter.invariant
+    upto-all (λ t. IsMeterOf b t g) c.args.round c.loop-meter.meter (size plan.groups g) c.loop-meter.meters (omega arith) c.loop-meter.invariant

@@ -3,7 +3,7 @@ use Rattle.std.specs.declared.alloc.Global.{Global}
 use Rattle.std.specs.List.{AllZip, range_with_len}
 use Rattle.meter_core.specs.Meters.{MeterView}
 use Rattle.group_book.specs.Books.{shape_of, past}
-use Rattle.tick_run.specs.Meters.{AreOfGroup}
+use Rattle.tick_run.specs.Meters.{IsGroup}
 use Rattle.tick_run.proofs.RangeLemmas.{range_push}
 use Rattle.tick_run.proofs.meters.Meters.new.Goals as goal
 
@@ -11,6 +11,5 @@ pub loop-group-preserved : goal.loop-group-preserved
 loop-group-preserved c =
     let b = c.args.book.now in
     let k = c.loop-group.group in
-    let R = λ (g : ℕ) (v : Vec MeterView Global). AreOfGroup (shape_of b) b.presence.plan.rounds 0 (past b) g v.items in
-    subst (λ (l : List (Vec MeterView Global)). AllZip R (range_with_len 0 (k + 1)) l) (sym c.in_ok-push.ensures.items)
-    (range_push R 0 k c.loop-group.groups.items c.in_ok-new_group.field-0 c.loop-group.invariant (subst (λ (g : ℕ). R g c.in_ok-new_group.field-0) (sym (zero-add k)) c.in_ok-new_group.ensures))
+    subst (λ (l : List (Vec MeterView Global)). AllZip (IsGroup b 0) (range_with_len 0 (k + 1)) l) (sym c.in_ok-push.ensures.items)
+    (range_push (IsGroup b 0) 0 k c.loop-group.groups.items c.in_ok-new_group.field-0 c.loop-group.invariant (subst (λ (g : ℕ). IsGroup b 0 g c.in_ok-new_group.field-0) (sym (zero-add k)) c.in_ok-new_group.ensures))

@@ -4,7 +4,7 @@ use Rattle.std.specs.declared.alloc.Global.{Global}
 use Rattle.group_plan.specs.Plans.{PlanView, IsWithinLimits}
 use Rattle.meter_core.specs.Meters.{MeterView}
 use Rattle.group_book.specs.Books.{shape_of, past}
-use Rattle.tick_run.specs.Meters.{AreOfGroup}
+use Rattle.tick_run.specs.Meters.{AreOfGroup, IsGroup}
 use Rattle.std.proofs.lemmas.List.{with_items_is}
 use Rattle.tick_run.proofs.RangeLemmas.{upto-none, upto-long, upto-at, upto-more, upto-all}
 use Rattle.tick_run.proofs.MetersLemmas.{read-over, groups-long}
@@ -20,7 +20,7 @@ returns-then-tick-rounds c =
 pub loop-group-init : goal.loop-group-init
 loop-group-init c =
     let b = c.args.book.now in
-    upto-none (λ (t g : ℕ) (v : Vec MeterView Global). AreOfGroup (shape_of b) b.presence.plan.rounds t (past b) g v.items) c.args.tick (length b.presence.plan.groups) c.args.self.now.groups.items c.requires.groups
+    upto-none (IsGroup b) c.args.tick (length b.presence.plan.groups) c.args.self.now.groups.items c.requires.groups
 
 pub overflow_cast-group : goal.overflow_cast-group
 overflow_cast-group c =
@@ -38,18 +38,17 @@ pub read_group-requires-clause-meters : goal.read_group-requires-clause-meters
 read_group-requires-clause-meters c =
     let b = c.args.book.now in
     let plan = b.presence.plan in
-    let R = λ (t g : ℕ) (v : Vec MeterView Global). AreOfGroup (shape_of b) plan.rounds t (past b) g v.items in
     let k = c.loop-group.group in
-    let long : length c.loop-group.self.groups.items ≡ length plan.groups = upto-long R c.args.tick k (length plan.groups) c.loop-group.self.groups.items c.loop-group.invariant in
+    let long : length c.loop-group.self.groups.items ≡ length plan.groups = upto-long (IsGroup b) c.args.tick k (length plan.groups) c.loop-group.self.groups.items c.loop-group.invariant in
     let within : k < length c.loop-group.self.groups.items = omega (arith, long, read_group-requires-clause-group c) in
-    let group = upto-at R c.args.tick k (length plan.groups) c.loop-group.self.groups.items c.index_mut.result.now c.index_mut.ensures.value within c.loop-group.invariant in
-    subst (λ (l : List MeterView). AreOfGroup (shape_of b) plan.rounds c.args.tick (past b) k l) (sym c.deref_mut.ensures.value) group
+    let group = upto-at (IsGroup b) c.args.tick k (length plan.groups) c.loop-group.self.groups.items c.index_mut.result.now c.index_mut.ensures.value within c.loop-group.invariant in
+    subst (AreOfGroup b c.args.tick k) (sym c.deref_mut.ensures.value) group
 
 pub loop-group-preserved : goal.loop-group-preserved
 loop-group-preserved c =
     let b = c.args.book.now in
-    upto-more (λ (t g : ℕ) (v : Vec MeterView Global). AreOfGroup (shape_of b) b.presence.plan.rounds t (past b) g v.items) c.args.tick c.loop-group.group (length b.presence.plan.groups) c.loop-group.self.groups.items (with_items c.index_mut.result.now c.read_group.new.meters)
-    (subst (λ (l : List MeterView). AreOfGroup (shape_of b) b.presence.plan.rounds (c.args.tick + 1) (past b) c.loop-group.group l) (sym (with_items_is c.index_mut.result.now c.read_group.new.meters (omega (arith, c.read_group.auto.meters, c.deref_mut.ensures.len)))) c.read_group.ensures)
+    upto-more (IsGroup b) c.args.tick c.loop-group.group (length b.presence.plan.groups) c.loop-group.self.groups.items (with_items c.index_mut.result.now c.read_group.new.meters)
+    (subst (AreOfGroup b (c.args.tick + 1) c.loop-group.group) (sym (with_items_is c.index_mut.result.now c.read_group.new.meters (omega (arith, c.read_group.auto.meters, c.deref_mut.ensures.len)))) c.read_group.ensures)
     c.loop-group.invariant
 
 pub returns : goal.returns
@@ -58,6 +57,6 @@ returns c =
     let over : c.len-group-end.result ≤ c.loop-group.group = c.loop-group-test.false in
     record {
       table = c.requires.table;
-      groups = upto-all (λ (t g : ℕ) (v : Vec MeterView Global). AreOfGroup (shape_of b) b.presence.plan.rounds t (past b) g v.items) c.args.tick c.loop-group.group (length b.presence.plan.groups) c.loop-group.self.groups.items
+      groups = upto-all (IsGroup b) c.args.tick c.loop-group.group (length b.presence.plan.groups) c.loop-group.self.groups.items
           (omega (arith, over, c.len-group-end.ensures, groups-long b c.args.tick c.args.self.now c.requires)) c.loop-group.invariant;
     }
