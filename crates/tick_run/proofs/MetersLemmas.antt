@@ -1,11 +1,12 @@
 -- The meters of a run, through a tick.
-use Rattle.std.proofs.Common.{◌≡◌, ℕ, ◌+◌, ◌<◌, ◌≤◌, Bool, true, false, ◌&&◌, ◌||◌, List, [], ◌∷◌, ◌++◌, zero, suc, length, map, get_or, refl, sym, ap, ◌∙◌, subst, arith, zero-add}
+use Rattle.std.proofs.Common.{◌≡◌, ℕ, ◌+◌, ◌<◌, ◌≤◌, Bool, true, false, ◌&&◌, ◌||◌, List, [], ◌∷◌, ◌++◌, zero, suc, length, map, get_or, refl, sym, ap, ◌∙◌, subst, arith, zero-add, ⊎_elim, Some}
 use Rattle.std.specs.Prelude.{◌==◌, nat_lt, if◌then◌else◌, slice_set, Vec}
 use Rattle.std.specs.Vec.{with_item}
 use Rattle.std.specs.declared.alloc.Global.{Global}
 use mathlib.Core.Path.{fun_ext}
 use Rattle.std.specs.List.{AllZip, range_with_len, filter, flat_map, list_any}
-use Rattle.std.proofs.lemmas.Bool.{false≢true, and_from, and_parts, ltb-true, eq-eqb, or_left, or_right, cond_both}
+use Rattle.std.proofs.lemmas.Bool.{false≢true, and_from, and_parts, ltb-true, cases_eq, eq-eqb, or_left, or_right, cond_both}
+use Rattle.std.proofs.lemmas.List.{get_or-set_same, get_or-set_other}
 use Rattle.missing_round.specs.Masks.{Masks}
 use Rattle.missing_round.specs.Sets.{is_member as is_in}
 use Rattle.missing_round.proofs.SetLemmas.{is_member-picked}
@@ -14,7 +15,7 @@ use Rattle.group_plan.specs.declared.Kind.TheVariants.{Announcement}
 use Rattle.group_plan.specs.declared.Tag.{Tag}
 use Rattle.group_plan.specs.Tables.{ReadingsView, PresenceView, IsPresenceTable}
 use Rattle.group_plan.proofs.MeterNumbers.{group-lt}
-use Rattle.meter_core.specs.Meters.{MeterView, marked, Hears}
+use Rattle.meter_core.specs.Meters.{MeterView, marked, kept_set, Hears}
 use Rattle.meter_core.specs.declared.Heard.{Heard}
 use Rattle.transcript_log.specs.declared.Event.{Event}
 use Rattle.transcript_log.specs.Events.{same_kind}
@@ -33,9 +34,9 @@ use Rattle.tick_run.proofs.PastLemmas.{sets-lines}
 use Rattle.tick_run.proofs.FrameSteps.{past_of-lines}
 use Rattle.tick_run.specs.OnTheWay.{same_tag}
 use Rattle.tick_run.specs.TickFrames.{was_taken, reading_frame, answer_frame, announcements_at, frames_due, AreHeard}
-use Rattle.tick_run.specs.Meters.{IsMeter, IsMeterOf, AreOfGroup, IsGroup, AreMeters, is_announcement, IsTold, CanHearAll}
+use Rattle.tick_run.specs.Meters.{IsMeter, IsMeterOf, AreOfGroup, IsGroup, AreMeters, is_answer, is_announcement, IsTold, CanHearAll, HasKept, HaveHeard}
 use Rattle.tick_run.proofs.RangeLemmas.{range_long, range_item, range_weaker, range_set}
-use Rattle.tick_run.proofs.MeterLemmas.{read-marked, read-none, stays, heard-is}
+use Rattle.tick_run.proofs.MeterLemmas.{read-marked, read-none, stays, heard-is, kept-now, kept-still}
 use Rattle.tick_run.proofs.GroupLemmas.{told-place}
 
 -- ---- a round that is read
@@ -189,3 +190,35 @@ heard-meters b t m g i r v meter after said are lt is below here announced hears
       groups = range_set (IsGroup b t) (IsGroup b t) 0 (length b.presence.plan.groups) g m.groups.items (with_item v i after)
           (λ j z _ h. h) (subst (λ h. AreOfGroup b t h (slice_set v.items i after)) (sym (zero-add g)) group) are.groups;
     }
+
+-- its meter keeps that set
+pub heard-kept_now : (b : BookView) (m : Meters) (tag : Tag) (v : Vec MeterView Global) (meter after : MeterView) (said : Heard) → tag.group < length m.groups.items → tag.meter < length v.items
+    → Hears meter tag.round (missing (shape_of b) tag.group tag.round (past b)) said after → is_answer said ≡ true → HasKept b (record { groups = with_item m.groups tag.group (with_item v tag.meter after) }) tag
+heard-kept_now b m tag v meter after said lt below hears answers group d =
+    ap (λ (w : Vec MeterView Global). kept_set (get_or w.items tag.meter d) tag.round) (get_or-set_same m.groups.items tag.group (with_item v tag.meter after) group lt)
+    ∙ ap (λ x. kept_set x tag.round) (get_or-set_same v.items tag.meter after d below)
+    ∙ kept-now meter after tag.round (missing (shape_of b) tag.group tag.round (past b)) said hears answers
+
+-- and the meters of other tags keep theirs
+pub heard-kept_still : (b : BookView) (m : Meters) (tag z : Tag) (v : Vec MeterView Global) (meter after : MeterView) (said : Heard) → tag.group < length m.groups.items → v ≡ get_or m.groups.items tag.group v
+    → tag.meter < length v.items → meter ≡ get_or v.items tag.meter meter → Hears meter tag.round (missing (shape_of b) tag.group tag.round (past b)) said after
+    → HasKept b m z → HasKept b (record { groups = with_item m.groups tag.group (with_item v tag.meter after) }) z
+heard-kept_still b m tag z v meter after said lt is below here hears kept group d = ⊎_elim in_group elsewhere (cases_eq z.group tag.group)
+  where
+    elsewhere : (z.group ≡ tag.group → ⊥) → kept_set (get_or (get_or (slice_set m.groups.items tag.group (with_item v tag.meter after)) z.group group).items z.meter d) z.round ≡ Some (missing (shape_of b) z.group z.round (past b))
+    elsewhere ne = ap (λ (w : Vec MeterView Global). kept_set (get_or w.items z.meter d) z.round) (get_or-set_other m.groups.items tag.group z.group (with_item v tag.meter after) group ne) ∙ kept group d
+
+    in_group : z.group ≡ tag.group → kept_set (get_or (get_or (slice_set m.groups.items tag.group (with_item v tag.meter after)) z.group group).items z.meter d) z.round ≡ Some (missing (shape_of b) z.group z.round (past b))
+    in_group same =
+        let new : get_or (slice_set m.groups.items tag.group (with_item v tag.meter after)) z.group group ≡ with_item v tag.meter after
+        = ap (λ g. get_or (slice_set m.groups.items tag.group (with_item v tag.meter after)) g group) same ∙ get_or-set_same m.groups.items tag.group (with_item v tag.meter after) group lt in
+        let old : (e : MeterView) → kept_set (get_or v.items z.meter e) z.round ≡ Some (missing (shape_of b) z.group z.round (past b))
+        = λ e. ap (λ (w : Vec MeterView Global). kept_set (get_or w.items z.meter e) z.round) (is ∙ ap (λ g. get_or m.groups.items g v) (sym same)) ∙ kept v e in
+        ap (λ (w : Vec MeterView Global). kept_set (get_or w.items z.meter d) z.round) new ∙ ⊎_elim
+        (λ own.
+        ap (λ x. kept_set x z.round) (ap (λ j. get_or (slice_set v.items tag.meter after) j d) own ∙ get_or-set_same v.items tag.meter after d below)
+        ∙ kept-still meter after tag.round z.round (missing (shape_of b) tag.group tag.round (past b)) (missing (shape_of b) z.group z.round (past b)) said hears
+        (λ round. ap (λ g. missing (shape_of b) g z.round (past b)) same ∙ ap (λ q. missing (shape_of b) tag.group q (past b)) round)
+        (ap (λ x. kept_set x z.round) (here ∙ ap (λ j. get_or v.items j meter) (sym own)) ∙ old meter))
+        (λ other. ap (λ x. kept_set x z.round) (get_or-set_other v.items tag.meter z.meter after d other) ∙ old d)
+        (cases_eq z.meter tag.meter)

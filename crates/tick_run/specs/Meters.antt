@@ -1,5 +1,5 @@
 -- The meters of a run: what each has read, and what it answers.
-use Rattle.std.specs.Prelude.{◌≡◌, ℕ, ◌<◌, Bool, true, false, List, length, All, Option, Some, None, is_some, Vec}
+use Rattle.std.specs.Prelude.{◌≡◌, ℕ, ◌<◌, Bool, true, false, List, length, All, Option, Some, None, is_some, slice_index_or, Vec}
 use Rattle.std.specs.declared.alloc.Global.{Global}
 use Rattle.std.specs.List.{AllZip, range_with_len}
 use Rattle.group_plan.specs.Plans.{size}
@@ -78,3 +78,12 @@ pub record CanHearAll (b : BookView) (m : Meters) (tags : List Tag) : Type 0 whe
   pub until : ℕ
   pub meters : AreMeters b until m
   pub told : All (λ tag. is_announcement tag ≡ true → IsTold b until tag) tags
+
+-- the meter of the tag keeps the missing set of its round
+abbrev pub HasKept : BookView → Meters → Tag → Type 0
+HasKept b m tag = (group : Vec MeterView Global) (meter : MeterView)
+    → kept_set (slice_index_or (slice_index_or m.groups.items tag.group group).items tag.meter meter) tag.round ≡ Some (missing (shape_of b) tag.group tag.round (past b))
+
+-- so do the meters of the announcements among these tags
+abbrev pub HaveHeard : BookView → Meters → List Tag → Type 0
+HaveHeard b m tags = All (λ tag. is_announcement tag ≡ true → HasKept b m tag) tags

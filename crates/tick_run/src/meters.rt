@@ -3,8 +3,9 @@
 ghost use Rattle.std.specs.Prelude.{◌≡◌, ◌+◌, ◌<◌, ◌≤◌, ℕ, true, IfOk, OnOk, length, filter, if◌then◌else◌};
 ghost use Rattle.missing_round.specs.Sets.{is_member};
 ghost use Rattle.group_plan.specs.Plans.{floor_of};
+ghost use Rattle.group_plan.specs.declared.Tag.{Tag};
 ghost use Rattle.meter_core.specs.Meters.{marked};
-ghost use Rattle.tick_run.specs.Meters.{AreOfGroup, AreMeters, is_answer, is_announcement, CanHear, CanHearAll};
+ghost use Rattle.tick_run.specs.Meters.{AreOfGroup, AreMeters, is_answer, is_announcement, CanHear, CanHearAll, HasKept, HaveHeard};
 
 use group_book::Book;
 use group_plan::{Kind, Plan, Tag};
@@ -116,6 +117,8 @@ impl Meters {
         requires { CanHear book.now self.old tag }
         ensures meters { (t : ℕ) → AreMeters book.now t self.old → AreMeters book.now t self.new }
         ensures answered { result ≡ is_announcement tag }
+        ensures heard { is_announcement tag ≡ true → HasKept book.now self.new tag }
+        ensures kept { (other : Tag) → HasKept book.now self.old other → HasKept book.now self.new other }
     {
         if !is_announcement(tag) {
             return false;
@@ -137,6 +140,7 @@ impl Meters {
         requires { CanHearAll book.now self.old tags.now }
         ensures meters { (t : ℕ) → AreMeters book.now t self.old → OnOk result (AreMeters book.now t self.new) }
         ensures answered { IfOk result (λ answered. answered.items ≡ filter is_announcement tags.now) }
+        ensures heard { OnOk result (HaveHeard book.now self.new tags.now) }
     {
         let mut answered = Vec::new(alloc);
         for tag in tags {

@@ -11,7 +11,7 @@ ghost use Rattle.mask_stream.specs.ChaMaskTables.{plan_of, words_of};
 ghost use Rattle.tick_run.specs.Running.{run_shape, IsRunning, AreCopiesDue, starting, closed};
 ghost use Rattle.tick_run.specs.Sending.{KeepsFates, KeptFates};
 ghost use Rattle.tick_run.specs.TickFrames.{frames_due, AreHeard};
-ghost use Rattle.tick_run.specs.Meters.{AreMeters};
+ghost use Rattle.tick_run.specs.Meters.{AreMeters, HaveHeard};
 
 use crate::RunError;
 use crate::batches::{close_rounds, take_copies};
@@ -45,6 +45,7 @@ fn frames_at(
     requires heard { AreHeard (run_shape readings.now) (clock_of readings.now.plan) (past book.now) tick tags.now }
     requires meters { AreMeters book.now tick meters.old }
     ensures meters { OnOk result (AreMeters book.now (tick + 1) meters.new) }
+    ensures heard { OnOk result (HaveHeard book.now meters.new tags.now) }
     ensures frames { IfOk result (λ groups. AllZip (λ g frames. IfOk frames (λ f. f.items ≡ frames_due (run_shape readings.now) (clock_of readings.now.plan) (reading readings.now.table) (words_of masks.now) (past book.now) tags.now tick g))
         (range_with_len 0 (length readings.now.plan.groups)) groups.items) }
 {

@@ -5,7 +5,7 @@ use Rattle.meter_core.specs.Meters.{Hears}
 use Rattle.transcript_log.proofs.ScheduleLemmas.{is_announced-from_sent, is_announcement_sent-from_taken}
 use Rattle.group_book.specs.Books.{shape_of, past}
 use Rattle.tick_run.proofs.MeterLemmas.{told-answers}
-use Rattle.tick_run.proofs.MetersLemmas.{told-meter, told-group, groups-long, group-long, meter-at, heard-meters}
+use Rattle.tick_run.proofs.MetersLemmas.{told-meter, told-group, groups-long, group-long, meter-at, heard-meters, heard-kept_now, heard-kept_still}
 use Rattle.tick_run.proofs.meters.Meters.hear.Goals as goal
 
 pub announced-requires : goal.announced-requires
@@ -21,6 +21,14 @@ returns-in_default-clause-answered c =
     let b = c.args.book.now in
     let tag = c.args.tag in
     let told = c.requires.told (sym c.is_announcement.ensures ∙ c.if-not-is_announcement.false) in
+    let announced = is_announced-from_sent (shape_of b) tag.group tag.round tag.meter (past b) (is_announcement_sent-from_taken (shape_of b) tag.group tag.round tag.meter (past b) told.taken) in
+    absurd (false≢true (sym c.in_default.ensures ∙ announced))
+
+pub returns-in_default-clause-heard : goal.returns-in_default-clause-heard
+returns-in_default-clause-heard c = λ is.
+    let b = c.args.book.now in
+    let tag = c.args.tag in
+    let told = c.requires.told is in
     let announced = is_announced-from_sent (shape_of b) tag.group tag.round tag.meter (past b) (is_announcement_sent-from_taken (shape_of b) tag.group tag.round tag.meter (past b) told.taken) in
     absurd (false≢true (sym c.in_default.ensures ∙ announced))
 
@@ -69,3 +77,33 @@ returns-clause-answered c =
     c.is_answer.ensures
     ∙ told-answers (shape_of b) b.presence.plan.rounds u (past b) tag.group tag.round tag.meter c.index_mut-meter.result.now c.hear.new.self c.hear.result meter told.round told.early told.taken hears
     ∙ sym is
+
+pub returns-clause-heard : goal.returns-clause-heard
+returns-clause-heard c = λ is.
+    let b = c.args.book.now in
+    let u = c.requires.until in
+    let m = c.args.self.now in
+    let tag = c.args.tag in
+    let v = c.index_mut.result.now in
+    let told = c.requires.told is in
+    let within : tag.group < length m.groups.items = omega (arith, told-group b u u m tag c.requires.meters told, groups-long b u m c.requires.meters) in
+    let below : tag.meter < length v.items = omega (arith, told-meter b u u m tag c.requires.meters told, group-long b u m tag.group v c.requires.meters within c.index_mut.ensures.value) in
+    let found = c.in-Some.ensures in
+    let hears = subst (λ (set : List ℕ). Hears c.index_mut-meter.result.now tag.round set c.hear.result c.hear.new.self) found.1 c.hear.ensures in
+    let meter = meter-at b u m tag.group tag.meter v c.index_mut-meter.result.now c.requires.meters within c.index_mut.ensures.value below c.index_mut-meter.ensures.value in
+    let answers = told-answers (shape_of b) b.presence.plan.rounds u (past b) tag.group tag.round tag.meter c.index_mut-meter.result.now c.hear.new.self c.hear.result meter told.round told.early told.taken hears in
+    heard-kept_now b m tag v c.index_mut-meter.result.now c.hear.new.self c.hear.result within below hears answers
+
+pub returns-clause-kept : goal.returns-clause-kept
+returns-clause-kept c = λ other kept.
+    let b = c.args.book.now in
+    let u = c.requires.until in
+    let m = c.args.self.now in
+    let tag = c.args.tag in
+    let v = c.index_mut.result.now in
+    let told = c.requires.told (sym c.is_announcement.ensures ∙ c.if-not-is_announcement.false) in
+    let within : tag.group < length m.groups.items = omega (arith, told-group b u u m tag c.requires.meters told, groups-long b u m c.requires.meters) in
+    let below : tag.meter < length v.items = omega (arith, told-meter b u u m tag c.requires.meters told, group-long b u m tag.group v c.requires.meters within c.index_mut.ensures.value) in
+    let found = c.in-Some.ensures in
+    let hears = subst (λ (set : List ℕ). Hears c.index_mut-meter.result.now tag.round set c.hear.result c.hear.new.self) found.1 c.hear.ensures in
+    heard-kept_still b m tag other v c.index_mut-meter.result.now c.hear.new.self c.hear.result within c.index_mut.ensures.value below c.index_mut-meter.ensures.value hears kept
