@@ -12,6 +12,19 @@ use std::sync::Wait;
 use std::thread;
 use std::thread::Threads;
 
+// So many parcels are work enough to start a thread for.
+const PARCELS_A_THREAD: usize = 64;
+
+// How many of the workers have enough to do. With two workers and two parcels it is two at least.
+fn busy_workers(workers: usize, parcels: usize) -> usize
+    ensures { result ≤ workers }
+{
+    (parcels / PARCELS_A_THREAD)
+        .max(2)
+        .min(parcels)
+        .min(workers)
+}
+
 // A channel that holds the numbers of all places, or as many as there is memory for.
 pub(crate) fn all_places<R: Wait>(
     rt: &R,
@@ -54,8 +67,8 @@ fn work<R: Wait, G: Gate>(
     unreachable!()
 }
 
-// All workers, beside each other, until no place is left.
-pub(crate) fn work_all<R: Threads + Wait + Sync, G: Gate>(
+// Workers beside each other, one thread each, until no place is left.
+fn work_beside<R: Threads + Wait + Sync, G: Gate>(
     rt: &R,
     shared: &SharedBook,
     passes: &mut [Pass],
@@ -80,6 +93,25 @@ pub(crate) fn work_all<R: Threads + Wait + Sync, G: Gate>(
             { work(rt, shared, pass, batch, places, gate, i as u32 + 1) },
         );
     }
+}
+
+// The workers that have enough to do, beside each other, until no place is left.
+pub(crate) fn work_all<R: Threads + Wait + Sync, G: Gate>(
+    rt: &R,
+    shared: &SharedBook,
+    passes: &mut [Pass],
+    batch: &[Parcel],
+    places: &Receiver<u32>,
+    gate: &G,
+)
+    requires passes { All (IsPassOf shared.now) passes.old }
+    requires few { length passes.old < 2 ^ 16 }
+    ensures passes { All (IsPassOf shared.now) passes.new }
+    ensures long { length passes.new ≡ length passes.old }
+{
+    let count = busy_workers(passes.len(), batch.len());
+    let (busy, _idle) = passes.split_at_mut(count);
+    work_beside(rt, shared, busy, batch, places, gate);
 }
 
 // Splits a pass for each worker from the first.
