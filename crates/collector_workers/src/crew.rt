@@ -13,7 +13,7 @@ use std::thread;
 use std::thread::Threads;
 
 // So many parcels are work enough to start a thread for.
-const PARCELS_A_THREAD: usize = 64;
+const PARCELS_A_THREAD: usize = 256;
 
 // How many of the workers have enough to do. With two workers and two parcels it is two at least.
 fn busy_workers(workers: usize, parcels: usize) -> usize
