@@ -476,4 +476,6 @@ pub fn transcript<W: World>(
 }
 
 #[cfg(test)]
+mod book_tests;
+#[cfg(test)]
 mod tests;
