@@ -2,7 +2,7 @@
 use Rattle.std.proofs.Common.{◌≡◌, ℕ, ◌+◌, ◌-◌, ◌<◌, ◌≤◌, Bool, true, false, not, ◌&&◌, List, [], ◌∷◌, length, refl, sym, ap, ◌∙◌, subst, arith, ⊎_elim}
 use Rattle.std.specs.Prelude.{◌==◌, nat_lt, if◌then◌else◌, slice_set, replicate, Option, Some, None, is_some, bytes_eq}
 use Rattle.std.specs.List.{filter}
-use Rattle.std.proofs.lemmas.Bool.{false≢true, cases_eq, cases_lt, and_parts, lt-ltb, leb-true, le-ltb, cond_both}
+use Rattle.std.proofs.lemmas.Bool.{false≢true, cases_eq, cases_lt, and_parts, and_from, and_left, and_right, false_from_ne_true, lt-ltb, leb-true, le-ltb, cond_both}
 use Rattle.std.proofs.lemmas.List.{length-set, length-replicate, get_or-replicate, get_or_past}
 use Rattle.std.proofs.lemmas.List.Filters.{length-filter_both}
 use Rattle.std.proofs.lemmas.Slice.Eq.{bytes_eq-Decides}
@@ -21,6 +21,7 @@ use Rattle.transcript_log.specs.Schedule.{survivors as survivors_of}
 use Rattle.transcript_log.proofs.ScheduleLemmas.{is_announced-from_sent, is_announcement_sent-from_taken, present-from_taken}
 use Rattle.tick_run.specs.Progress.{KeepSets}
 use Rattle.tick_run.specs.Meters.{AreMembers, IsKept, IsMeter, is_answer}
+use Rattle.tick_run.proofs.RangeLemmas.{lt-other}
 use Rattle.tick_run.proofs.GroupLemmas.{told_survives, told-not_missing}
 
 -- ---- a new meter
@@ -36,9 +37,9 @@ new-is s n past g i floor is = record {
   number = refl;
   floor = is;
   notes = length-replicate n blank;
-  read = λ r early in_plan present. absurd (omega arith);
+  read = λ r here. ap (λ (note : Note). is_some note.members) (note_at-new i floor n r) ∙ sym (and_left (nat_lt r 0) (s.present g r i) (le-ltb r 0 (omega arith)));
   members = λ r. subst (λ (note : Note). AreMembers (members_of s g r) note.members) (sym (note_at-new i floor n r)) tt;
-  kept = λ r. subst (λ (note : Note). IsKept s past g r note.kept) (sym (note_at-new i floor n r)) tt;
+  kept = λ r. subst (λ (note : Note). IsKept s past g r i note.kept) (sym (note_at-new i floor n r)) tt;
 }
 
 -- ---- a round that is read
@@ -55,24 +56,25 @@ members-kept : (o : Option (List ℕ)) (set : List ℕ) → AreMembers set o →
 members-kept None set is = refl
 members-kept (Some old) set is = is
 
-pub read-marked : (s : Shape) (n t : ℕ) (past : List Event) (g i : ℕ) (m : MeterView) → t < n → IsMeter s n t past g i m → IsMeter s n (t + 1) past g i (marked m t (members_of s g t))
-read-marked s n t past g i m in_plan is =
+pub read-marked : (s : Shape) (n t : ℕ) (past : List Event) (g i : ℕ) (m : MeterView) → t < n → s.present g t i ≡ true → IsMeter s n t past g i m → IsMeter s n (t + 1) past g i (marked m t (members_of s g t))
+read-marked s n t past g i m in_plan present is =
     let set : List ℕ = members_of s g t in
     let fits : t < length m.notes = omega (arith, is.notes) in
     record {
       number = by_mark (λ x. x.meter ≡ m.meter) m t set refl refl ∙ is.number;
       floor = by_mark (λ x. x.floor ≡ m.floor) m t set refl refl ∙ is.floor;
       notes = by_mark (λ x. length x.notes ≡ length m.notes) m t set refl (length-set m.notes t (record { members = Some set; kept = (note_at m t).kept })) ∙ is.notes;
-      read = λ r early here present. ⊎_elim
-          (λ same. subst (λ q. is_some (note_at (marked m t set) q).members ≡ true) (sym same) (ap is_some (members-marked m t set fits) ∙ is_some-marked (note_at m t).members set))
-          (λ other. ap (λ (note : Note). is_some note.members) (note_at-marked_other m t r set other) ∙ is.read r (omega arith) here present)
+      read = λ r here. ⊎_elim
+          (λ same. subst (λ q. is_some (note_at (marked m t set) q).members ≡ (nat_lt q (t + 1) && s.present g q i)) (sym same)
+          (ap is_some (members-marked m t set fits) ∙ is_some-marked (note_at m t).members set ∙ sym (and_from (nat_lt t (t + 1)) (s.present g t i) (lt-ltb t (t + 1) (omega arith)) present)))
+          (λ other. ap (λ (note : Note). is_some note.members) (note_at-marked_other m t r set other) ∙ is.read r here ∙ ap (λ b. b && s.present g r i) (lt-other t r other))
           (cases_eq r t);
       members = λ r. ⊎_elim
           (λ same. subst (λ q. AreMembers (members_of s g q) (note_at (marked m t set) q).members) (sym same)
           (subst (AreMembers set) (sym (members-marked m t set fits)) (members-kept (note_at m t).members set (is.members t))))
           (λ other. subst (λ (note : Note). AreMembers (members_of s g r) note.members) (sym (note_at-marked_other m t r set other)) (is.members r))
           (cases_eq r t);
-      kept = λ r. subst (IsKept s past g r) (sym (kept_set-marked m t r set fits)) (is.kept r);
+      kept = λ r. subst (IsKept s past g r i) (sym (kept_set-marked m t r set fits)) (is.kept r);
     }
 
 -- where it has no reading at the tick it has nothing to read
@@ -81,9 +83,11 @@ read-none s n t past g i m none is = record {
   number = is.number;
   floor = is.floor;
   notes = is.notes;
-  read = λ r early here present. ⊎_elim
-      (λ same. absurd (none (omega arith) (ap (λ q. s.present g q i) (sym same) ∙ present)))
-      (λ other. is.read r (omega arith) here present)
+  read = λ r here. ⊎_elim
+      (λ same.
+      let absent : s.present g r i ≡ false = ap (λ q. s.present g q i) same ∙ false_from_ne_true (s.present g t i) (none (omega arith)) in
+      is.read r here ∙ and_right (nat_lt r t) (s.present g r i) absent ∙ sym (and_right (nat_lt r (t + 1)) (s.present g r i) absent))
+      (λ other. is.read r here ∙ ap (λ b. b && s.present g r i) (lt-other t r other))
       (cases_eq r t);
   members = is.members;
   kept = is.kept;
@@ -101,9 +105,11 @@ stays s n t before after g i m sets is = record {
   kept = λ r. still r (kept_set m r) (is.kept r);
 }
   where
-    still : (r : ℕ) (o : Option (List ℕ)) → IsKept s before g r o → IsKept s after g r o
+    still : (r : ℕ) (o : Option (List ℕ)) → IsKept s before g r i o → IsKept s after g r i o
     still r None kept = tt
-    still r (Some set) kept = let same = sets g r kept.0 in (same.0, kept.1 ∙ sym same.1)
+    still r (Some set) kept =
+        let same = sets.sets g r (is_announced-from_sent s g r i before (is_announcement_sent-from_taken s g r i before kept.0)) in
+        (sets.taken g r i kept.0, kept.1 ∙ sym same.1)
 
 -- ---- a round that is heard of
 
@@ -148,7 +154,7 @@ no-refusal s n t past g r i m is in_plan early told =
     let many : ℕ = survivors ms set in
     let present : s.present g r i ≡ true = present-from_taken s g r i past (told_survives s g r i past told) in
     let announced : is_announced s g r past ≡ true = is_announced-from_sent s g r i past (is_announcement_sent-from_taken s g r i past told) in
-    let members : (note_at m r).members ≡ Some ms = known (note_at m r).members ms (is.read r early in_plan present) (is.members r) in
+    let members : (note_at m r).members ≡ Some ms = known (note_at m r).members ms (is.read r in_plan ∙ and_from (nat_lt r t) (s.present g r i) (lt-ltb r t early) present) (is.members r) in
     let alive : is_member m.meter set ≡ false = ap (λ j. is_member j set) is.number ∙ told-not_missing s g r i past told in
     let thick : nat_lt many m.floor ≡ false = ap (nat_lt many) is.floor ∙ not_thin s g r past announced in
     let last : Option Why = if nat_lt many m.floor then Some (Thin many) else None in
@@ -168,7 +174,7 @@ told-answers s n t past g r i m after said is in_plan early told hears = by said
 
     other : (kept : List ℕ) → kept_set m r ≡ Some kept → bytes_eq kept (missing s g r past) ≡ false → ⊥
     other kept has differs =
-        let same : IsKept s past g r (Some kept) = subst (IsKept s past g r) has (is.kept r) in
+        let same : IsKept s past g r i (Some kept) = subst (IsKept s past g r i) has (is.kept r) in
         false≢true (sym differs ∙ (bytes_eq-Decides kept (missing s g r past)).1 same.1)
 
     by : (said : Heard) → Hears m r (missing s g r past) said after → is_answer said ≡ true
@@ -181,9 +187,9 @@ told-answers s n t past g r i m after said is in_plan early told hears = by said
     by (Refused (Thin k)) h = absurd (false≢true (ap is_some (sym none ∙ h.0)))
 
 -- a meter that hears of an announced set keeps no other
-pub heard-is : (s : Shape) (n t : ℕ) (past : List Event) (g r i : ℕ) (m after : MeterView) (said : Heard) → IsMeter s n t past g i m → is_announced s g r past ≡ true
+pub heard-is : (s : Shape) (n t : ℕ) (past : List Event) (g r i : ℕ) (m after : MeterView) (said : Heard) → IsMeter s n t past g i m → is_announcement_taken s g r i past ≡ true
     → Hears m r (missing s g r past) said after → IsMeter s n t past g i after
-heard-is s n t past g r i m after said is announced hears = by said hears
+heard-is s n t past g r i m after said is told hears = by said hears
   where
     keeps : r < length m.notes → IsMeter s n t past g i (keeping m r (missing s g r past))
     keeps fits =
@@ -193,19 +199,19 @@ heard-is s n t past g r i m after said is announced hears = by said hears
           number = is.number;
           floor = is.floor;
           notes = length-set m.notes r new ∙ is.notes;
-          read = λ q early here present. ⊎_elim
-              (λ same. subst (λ x. is_some (note_at (keeping m r set) x).members ≡ true) (sym same)
-              (ap (λ (note : Note). is_some note.members) (note_at-same m r new fits) ∙ subst (λ x. is_some (note_at m x).members ≡ true) same (is.read q early here present)))
-              (λ other. ap (λ (note : Note). is_some note.members) (note_at-keeping_other m r q set other) ∙ is.read q early here present)
-              (cases_eq q r);
+          read = λ q here. ⊎_elim
+              (λ same. subst (λ x. is_some (note_at (keeping m r set) x).members ≡ is_some (note_at m x).members) (sym same) (ap (λ (note : Note). is_some note.members) (note_at-same m r new fits)))
+              (λ other. ap (λ (note : Note). is_some note.members) (note_at-keeping_other m r q set other))
+              (cases_eq q r)
+              ∙ is.read q here;
           members = λ q. ⊎_elim
               (λ same. subst (λ x. AreMembers (members_of s g x) (note_at (keeping m r set) x).members) (sym same)
               (subst (λ (note : Note). AreMembers (members_of s g r) note.members) (sym (note_at-same m r new fits)) (is.members r)))
               (λ other. subst (λ (note : Note). AreMembers (members_of s g q) note.members) (sym (note_at-keeping_other m r q set other)) (is.members q))
               (cases_eq q r);
           kept = λ q. ⊎_elim
-              (λ same. subst (λ x. IsKept s past g x (kept_set (keeping m r set) x)) (sym same) (subst (IsKept s past g r) (sym (kept_set-keeping_same m r set fits)) (announced, refl)))
-              (λ other. subst (λ (note : Note). IsKept s past g q note.kept) (sym (note_at-keeping_other m r q set other)) (is.kept q))
+              (λ same. subst (λ x. IsKept s past g x i (kept_set (keeping m r set) x)) (sym same) (subst (IsKept s past g r i) (sym (kept_set-keeping_same m r set fits)) (told, refl)))
+              (λ other. subst (λ (note : Note). IsKept s past g q i note.kept) (sym (note_at-keeping_other m r q set other)) (is.kept q))
               (cases_eq q r);
         }
 

@@ -21,7 +21,7 @@ use Rattle.transcript_log.specs.declared.Event.{Event}
 use Rattle.transcript_log.specs.Events.{same_kind}
 use Rattle.transcript_log.specs.Tables.{Readings}
 use Rattle.run_rows.specs.Ticks.{Clock, clock_of, tag_of}
-use Rattle.transcript_log.specs.Schedule.{Shape, shape_of_presence, members_of, missing, is_announced}
+use Rattle.transcript_log.specs.Schedule.{Shape, shape_of_presence, members_of, missing, is_announcement_taken}
 use Rattle.transcript_log.specs.Journal.{past_of}
 use Rattle.group_book.specs.Books.{BookView, shape_of, past}
 use Rattle.tick_run.specs.declared.meters.Meters.{Meters}
@@ -45,7 +45,7 @@ use Rattle.tick_run.proofs.GroupLemmas.{told-place}
 pub read-one : (s : Shape) (n t : ℕ) (past : List Event) (g i : ℕ) (m : MeterView) (has : Bool) → t < n → has ≡ s.present g t i → IsMeter s n t past g i m
     → IsMeter s n (t + 1) past g i (if has then marked m t (members_of s g t) else m)
 read-one s n t past g i m has in_plan same is =
-    cond_both has (marked m t (members_of s g t)) m (IsMeter s n (t + 1) past g i) (λ _. read-marked s n t past g i m in_plan is)
+    cond_both has (marked m t (members_of s g t)) m (IsMeter s n (t + 1) past g i) (λ there. read-marked s n t past g i m in_plan (sym same ∙ there) is)
     (λ absent. read-none s n t past g i m (λ _ present. false≢true (sym absent ∙ same ∙ present)) is)
 
 -- a member that is there is in the set of members
@@ -179,10 +179,10 @@ meter-at b t m g i v meter are lt is below here = range_item (IsMeterOf b t g) (
 
 -- once one meter has heard of an announced set
 pub heard-meters : (b : BookView) (t : ℕ) (m : Meters) (g i r : ℕ) (v : Vec MeterView Global) (meter after : MeterView) (said : Heard) → AreMeters b t m → g < length m.groups.items → v ≡ get_or m.groups.items g v
-    → i < length v.items → meter ≡ get_or v.items i meter → is_announced (shape_of b) g r (past b) ≡ true → Hears meter r (missing (shape_of b) g r (past b)) said after
+    → i < length v.items → meter ≡ get_or v.items i meter → is_announcement_taken (shape_of b) g r i (past b) ≡ true → Hears meter r (missing (shape_of b) g r (past b)) said after
     → AreMeters b t (record { groups = with_item m.groups g (with_item v i after) })
-heard-meters b t m g i r v meter after said are lt is below here announced hears =
-    let new : IsMeterOf b t g i after = heard-is (shape_of b) b.presence.plan.rounds t (past b) g r i meter after said (meter-at b t m g i v meter are lt is below here) announced hears in
+heard-meters b t m g i r v meter after said are lt is below here told hears =
+    let new : IsMeterOf b t g i after = heard-is (shape_of b) b.presence.plan.rounds t (past b) g r i meter after said (meter-at b t m g i v meter are lt is below here) told hears in
     let group : AreOfGroup b t g (slice_set v.items i after)
     = range_set (IsMeterOf b t g) (IsMeterOf b t g) 0 (size b.presence.plan.groups g) i v.items after (λ j z _ h. h) (subst (λ j. IsMeterOf b t g j after) (sym (zero-add i)) new) (group-at b t m g v are lt is) in
     record {

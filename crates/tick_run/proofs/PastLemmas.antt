@@ -61,23 +61,6 @@ announced-append s g r xs ys h =
     ap (λ b. b && reaches_floor s g r (past_of_entries (xs ++ ys))) (closed-append g r xs ys h ∙ sym h)
     ∙ ap (λ a. is_closed g r (past_of_entries xs) && nat_le (floor_of s g) (length a)) (survivors-append s g r xs ys h)
 
--- ---- announced sets
-
-sets-after : (s : Shape) (p rest : List Event) → KeepSets s p (after p rest)
-sets-after s p rest g r announced = (
-  after-keeps (λ q. is_announced s g r q ≡ true) (is_announced-more s g r) p rest announced,
-  missing-after s g r p rest (and_parts (is_closed g r p) (reaches_floor s g r p) announced).0,
-)
-
-pub sets-append : (s : Shape) (xs ys : List Entry) → KeepSets s (past_of_entries xs) (past_of_entries (xs ++ ys))
-sets-append s xs ys = subst (KeepSets s (past_of_entries xs)) (sym (past-append xs ys)) (sets-after s (past_of_entries xs) (events_of ys))
-
-pub sets-lines : (s : Shape) (journal added : List Line) → KeepSets s (past_of journal) (past_of (journal ++ added))
-sets-lines s journal added =
-    subst (KeepSets s (past_of journal))
-    (sym (ap reverse (map-append event_of journal added) ∙ reverse_aux-append (map event_of journal) (map event_of added) [] ∙ sym (after-reverse_aux (past_of journal) (map event_of added))))
-    (sets-after s (past_of journal) (map event_of added))
-
 -- ---- announcements heard
 
 announcement_taken-after : (s : Shape) (g r i : ℕ) (p rest : List Event) → is_announcement_taken s g r i p ≡ true → is_announcement_taken s g r i (after p rest) ≡ true
@@ -105,6 +88,26 @@ heard_after s g r i p (y ∷ ys) sent pos = step (is_take g r i Announcement (ev
 pub heard-append : (s : Shape) (g r i : ℕ) (xs ys : List Entry) → is_announcement_sent s g r i (past_of_entries xs) ≡ true
     → 0 < count_by (λ e. is_take g r i Announcement (event_of e.line)) ys → is_announcement_taken s g r i (past_of_entries (xs ++ ys)) ≡ true
 heard-append s g r i xs ys sent pos = subst (λ p. is_announcement_taken s g r i p ≡ true) (sym (past-append xs ys)) (heard_after s g r i (past_of_entries xs) ys sent pos)
+
+-- ---- announced sets
+
+sets-after : (s : Shape) (p rest : List Event) → KeepSets s p (after p rest)
+sets-after s p rest = record {
+  sets = λ g r announced. (
+    after-keeps (λ q. is_announced s g r q ≡ true) (is_announced-more s g r) p rest announced,
+    missing-after s g r p rest (and_parts (is_closed g r p) (reaches_floor s g r p) announced).0,
+  );
+  taken = λ g r i. announcement_taken-after s g r i p rest;
+}
+
+pub sets-append : (s : Shape) (xs ys : List Entry) → KeepSets s (past_of_entries xs) (past_of_entries (xs ++ ys))
+sets-append s xs ys = subst (KeepSets s (past_of_entries xs)) (sym (past-append xs ys)) (sets-after s (past_of_entries xs) (events_of ys))
+
+pub sets-lines : (s : Shape) (journal added : List Line) → KeepSets s (past_of journal) (past_of (journal ++ added))
+sets-lines s journal added =
+    subst (KeepSets s (past_of journal))
+    (sym (ap reverse (map-append event_of journal added) ∙ reverse_aux-append (map event_of journal) (map event_of added) [] ∙ sym (after-reverse_aux (past_of journal) (map event_of added))))
+    (sets-after s (past_of journal) (map event_of added))
 
 -- ---- what is due
 

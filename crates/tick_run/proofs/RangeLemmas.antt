@@ -69,11 +69,15 @@ upto-passed t k i lt = ap (λ b. if b then t + 1 else t) (lt-ltb i k lt)
 upto-ahead : (t k i : ℕ) → k ≤ i → upto t k i ≡ t
 upto-ahead t k i le = ap (λ b. if b then t + 1 else t) (le-ltb i k le)
 
-upto-other : (t k i : ℕ) → (i ≡ k → ⊥) → upto t k i ≡ upto t (k + 1) i
-upto-other t k i ne = ap (λ b. if b then t + 1 else t) (same (nat_lt i k) refl)
+-- what is not k is below k + 1 where it is below k
+pub lt-other : (k i : ℕ) → (i ≡ k → ⊥) → nat_lt i k ≡ nat_lt i (k + 1)
+lt-other k i ne = same (nat_lt i k) refl
   where
     same : (b : Bool) → nat_lt i k ≡ b → nat_lt i k ≡ nat_lt i (k + 1)
     same b is = grind (arith, nat_tests)
+
+upto-other : (t k i : ℕ) → (i ≡ k → ⊥) → upto t k i ≡ upto t (k + 1) i
+upto-other t k i ne = ap (λ b. if b then t + 1 else t) (lt-other k i ne)
 
 -- the first k of n items have R at t + 1, and the others have it at t
 pub record Upto {Y : Type 0} (R : ℕ → ℕ → Y → Type 0) (t k n : ℕ) (ys : List Y) : Type 0 where

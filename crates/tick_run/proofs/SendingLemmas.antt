@@ -85,17 +85,20 @@ goes-one readings m t book after script done waiting left lanes hung posts all f
     }
 
 pub sends_on-none : (readings : ReadingsView) (m : Masks) (t : ℕ) (xs : List Entry) → SendsOn readings m t [] xs xs
-sends_on-none readings m t xs = record { sent = sym (append-nil (sent_at xs t)); due = refl; still = λ f is. is; sets = λ g r announced. (announced, refl) }
+sends_on-none readings m t xs = record { sent = sym (append-nil (sent_at xs t)); due = refl; still = λ f is. is; sets = record { sets = λ g r announced. (announced, refl); taken = λ g r i told. told } }
 
 pub sends_on-more : (readings : ReadingsView) (m : Masks) (t : ℕ) (zs ts : List Tag) (xs ys ws : List Entry) → SendsOn readings m t zs xs ys → SendsOn readings m t ts ys ws → SendsOn readings m t (zs ++ ts) xs ws
 sends_on-more readings m t zs ts xs ys ws a b = record {
   sent = b.sent ∙ ap (λ l. l ++ ts) a.sent ∙ append_assoc (sent_at xs t) zs ts;
   due = b.due ∙ a.due;
   still = λ f is. b.still f (a.still f is);
-  sets = λ g r announced.
-      let first = a.sets g r announced in
-      let second = b.sets g r first.0 in
-      (second.0, second.1 ∙ first.1);
+  sets = record {
+    sets = λ g r announced.
+        let first = a.sets.sets g r announced in
+        let second = b.sets.sets g r first.0 in
+        (second.0, second.1 ∙ first.1);
+    taken = λ g r i told. b.sets.taken g r i (a.sets.taken g r i told);
+  };
 }
 
 -- ---- the fates

@@ -1,5 +1,5 @@
 -- The meters of a run: what each has read, and what it answers.
-use Rattle.std.specs.Prelude.{◌≡◌, ℕ, ◌<◌, Bool, true, false, List, length, All, Option, Some, None, is_some, slice_index_or, Vec}
+use Rattle.std.specs.Prelude.{◌≡◌, ℕ, ◌<◌, nat_lt, ◌&&◌, Bool, true, false, List, length, All, Option, Some, None, is_some, slice_index_or, Vec}
 use Rattle.std.specs.declared.alloc.Global.{Global}
 use Rattle.std.specs.List.{AllZip, range_with_len}
 use Rattle.group_plan.specs.Plans.{size}
@@ -11,7 +11,7 @@ use Rattle.meter_core.specs.declared.Heard.{Heard}
 use Rattle.meter_core.specs.declared.Heard.TheVariants.{Answer, AnswerAgain, Refused}
 use Rattle.transcript_log.specs.declared.Event.{Event}
 use Rattle.transcript_log.specs.Events.{same_kind}
-use Rattle.transcript_log.specs.Schedule.{Shape, members_of, floor_of, missing, is_announced, is_announcement_taken}
+use Rattle.transcript_log.specs.Schedule.{Shape, members_of, floor_of, missing, is_announcement_taken}
 use Rattle.group_book.specs.Books.{BookView, shape_of, past}
 use Rattle.tick_run.specs.declared.meters.Meters.{Meters}
 
@@ -20,19 +20,19 @@ abbrev pub AreMembers : List ℕ → Option (List ℕ) → Type 0
 AreMembers members None = Unit {0}
 AreMembers members (Some set) = set ≡ members
 
--- a set that is kept for a round is the one that was announced
-abbrev pub IsKept : Shape → List Event → ℕ → ℕ → Option (List ℕ) → Type 0
-IsKept s past g r None = Unit {0}
-IsKept s past g r (Some set) = (is_announced s g r past ≡ true) × (set ≡ missing s g r past)
+-- a set that meter i keeps for a round is the missing set, and its announcement was taken
+abbrev pub IsKept : Shape → List Event → ℕ → ℕ → ℕ → Option (List ℕ) → Type 0
+IsKept s past g r i None = Unit {0}
+IsKept s past g r i (Some set) = (is_announcement_taken s g r i past ≡ true) × (set ≡ missing s g r past)
 
--- meter i of group g in a run of n rounds: it has read those rounds below t in which it is present, and keeps announced sets alone
+-- meter i of group g in a run of n rounds: it has read exactly those rounds below t in which it is present, and keeps announced sets alone
 pub record IsMeter (s : Shape) (n t : ℕ) (past : List Event) (g i : ℕ) (m : MeterView) : Type 0 where
   pub number : m.meter ≡ i
   pub floor : m.floor ≡ floor_of s g
   pub notes : length m.notes ≡ n
-  pub read : (r : ℕ) → r < t → r < n → s.present g r i ≡ true → is_some (note_at m r).members ≡ true
+  pub read : (r : ℕ) → r < n → is_some (note_at m r).members ≡ (nat_lt r t && s.present g r i)
   pub members : (r : ℕ) → AreMembers (members_of s g r) (note_at m r).members
-  pub kept : (r : ℕ) → IsKept s past g r (kept_set m r)
+  pub kept : (r : ℕ) → IsKept s past g r i (kept_set m r)
 
 -- the same of the book's plan after its past, before the readings of tick t are sent
 abbrev pub IsMeterOf : BookView → ℕ → ℕ → ℕ → MeterView → Type 0

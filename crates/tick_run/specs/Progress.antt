@@ -49,9 +49,10 @@ HadEffect s past _ = Unit {0}
 abbrev pub past_of_entries : List Entry → List Event
 past_of_entries entries = reverse (events_of entries)
 
--- what was announced by one past is announced by the other, with the same missing set
-abbrev pub KeepSets : Shape → List Event → List Event → Type 0
-KeepSets s before after = (g r : ℕ) → is_announced s g r before ≡ true → (is_announced s g r after ≡ true) × (missing s g r after ≡ missing s g r before)
+-- what was announced or taken by one past is so by the other, with the same missing set
+pub record KeepSets (s : Shape) (before after : List Event) : Type 0 where
+  pub sets : (g r : ℕ) → is_announced s g r before ≡ true → (is_announced s g r after ≡ true) × (missing s g r after ≡ missing s g r before)
+  pub taken : (g r i : ℕ) → is_announcement_taken s g r i before ≡ true → is_announcement_taken s g r i after ≡ true
 
 -- these entries are those of a tick run before moment m: all Takes of the ticks below `taken`, all Closes and Ends of the ticks
 -- below `closed`, and all Sends of the ticks below `sent`

@@ -58,7 +58,7 @@ returns-clause-meters c = λ t are.
     let below : tag.meter < length v.items = omega (arith, told-meter b u u m tag c.requires.meters told, group-long b u m tag.group v c.requires.meters within c.index_mut.ensures.value) in
     let found = c.in-Some.ensures in
     let hears = subst (λ (set : List ℕ). Hears c.index_mut-meter.result.now tag.round set c.hear.result c.hear.new.self) found.1 c.hear.ensures in
-    heard-meters b t m tag.group tag.meter tag.round v c.index_mut-meter.result.now c.hear.new.self c.hear.result are within c.index_mut.ensures.value below c.index_mut-meter.ensures.value found.0 hears
+    heard-meters b t m tag.group tag.meter tag.round v c.index_mut-meter.result.now c.hear.new.self c.hear.result are within c.index_mut.ensures.value below c.index_mut-meter.ensures.value told.taken hears
 
 pub returns-clause-answered : goal.returns-clause-answered
 returns-clause-answered c =
