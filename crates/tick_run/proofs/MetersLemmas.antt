@@ -5,7 +5,7 @@ use Rattle.std.specs.Vec.{with_item}
 use Rattle.std.specs.declared.alloc.Global.{Global}
 use mathlib.Core.Path.{fun_ext}
 use Rattle.std.specs.List.{AllZip, range_with_len, filter, flat_map, list_any}
-use Rattle.std.proofs.lemmas.Bool.{false≢true, and_from, and_parts, ltb-true, cases_eq, eq-eqb, or_left, or_right, cond_both}
+use Rattle.std.proofs.lemmas.Bool.{false≢true, and_from, and_parts, ltb-true, cases_eq, eq-eqb, or_left, or_right}
 use Rattle.std.proofs.lemmas.List.{get_or-set_same, get_or-set_other}
 use Rattle.missing_round.specs.Masks.{Masks}
 use Rattle.missing_round.specs.Sets.{is_member as is_in}
@@ -34,23 +34,31 @@ use Rattle.tick_run.proofs.PastLemmas.{sets-lines}
 use Rattle.tick_run.proofs.FrameSteps.{past_of-lines}
 use Rattle.tick_run.specs.OnTheWay.{same_tag}
 use Rattle.tick_run.specs.TickFrames.{was_taken, reading_frame, answer_frame, announcements_at, frames_due, AreHeard}
-use Rattle.tick_run.specs.Meters.{IsMeter, IsMeterOf, AreOfGroup, IsGroup, AreMeters, is_answer, is_announcement, IsTold, CanHearAll, HasKept, HaveHeard}
-use Rattle.tick_run.proofs.RangeLemmas.{range_long, range_item, range_weaker, range_set}
+use Rattle.tick_run.specs.Meters.{IsMeter, IsMeterOf, AreOfGroup, IsGroup, AreMeters, is_answer, is_announcement, IsTold, CanHearAll, HasKept}
+use Rattle.tick_run.proofs.RangeLemmas.{range_long, range_item, range_weaker, range_set, Upto, upto-at, upto-more, upto-pass}
 use Rattle.tick_run.proofs.MeterLemmas.{read-marked, read-none, stays, heard-is, kept-now, kept-still}
 use Rattle.tick_run.proofs.GroupLemmas.{told-place}
 
 -- ---- a round that is read
 
--- what a meter is at tick t + 1, where it is marked if it has a reading
-pub read-one : (s : Shape) (n t : ℕ) (past : List Event) (g i : ℕ) (m : MeterView) (has : Bool) → t < n → has ≡ s.present g t i → IsMeter s n t past g i m
-    → IsMeter s n (t + 1) past g i (if has then marked m t (members_of s g t) else m)
-read-one s n t past g i m has in_plan same is =
-    cond_both has (marked m t (members_of s g t)) m (IsMeter s n (t + 1) past g i) (λ there. read-marked s n t past g i m in_plan (sym same ∙ there) is)
-    (λ absent. read-none s n t past g i m (λ _ present. false≢true (sym absent ∙ same ∙ present)) is)
-
 -- a member that is there is in the set of members
 pub member-in : (plan : PlanView) (g r i : ℕ) → i < size plan.groups g → is_member plan.groups g r i ≡ true → is_in i (members plan.groups g r) ≡ true
 member-in plan g r i below is = is_member-picked (is_member plan.groups g r) 0 (size plan.groups g) i (omega arith) (omega arith) ∙ is
+
+-- the meters of a group, once one more is marked
+pub group-marked : (b : BookView) (t g k : ℕ) (meters : List MeterView) (meter after : MeterView) (set : List ℕ) → t < b.presence.plan.rounds → (shape_of b).present g t k ≡ true → set ≡ members_of (shape_of b) g t
+    → meter ≡ get_or meters k meter → k < length meters → after ≡ marked (get_or meters k meter) t set → Upto (λ u. IsMeterOf b u g) t k (size b.presence.plan.groups g) meters
+    → Upto (λ u. IsMeterOf b u g) t (k + 1) (size b.presence.plan.groups g) (slice_set meters k after)
+group-marked b t g k meters meter after set in_plan present members is lt mark so_far =
+    let was : IsMeterOf b t g k meter = upto-at (λ u. IsMeterOf b u g) t k (size b.presence.plan.groups g) meters meter is lt so_far in
+    let now : after ≡ marked meter t (members_of (shape_of b) g t) = mark ∙ ap (λ m. marked m t set) (sym is) ∙ ap (marked meter t) members in
+    upto-more (λ u. IsMeterOf b u g) t k (size b.presence.plan.groups g) meters after (subst (IsMeterOf b (t + 1) g k) (sym now) (read-marked (shape_of b) b.presence.plan.rounds t (past b) g k meter in_plan present was)) so_far
+
+-- one more has nothing to read
+pub group-passed : (b : BookView) (t g k : ℕ) (meters : List MeterView) → (shape_of b).present g t k ≡ false → Upto (λ u. IsMeterOf b u g) t k (size b.presence.plan.groups g) meters
+    → Upto (λ u. IsMeterOf b u g) t (k + 1) (size b.presence.plan.groups g) meters
+group-passed b t g k meters absent so_far =
+    upto-pass (λ u. IsMeterOf b u g) t k (size b.presence.plan.groups g) meters (λ m is. read-none (shape_of b) b.presence.plan.rounds t (past b) g k m (λ _ present. false≢true (sym absent ∙ present)) is) so_far
 
 -- in no round there is nothing to read
 pub read-over : (b : BookView) (t : ℕ) (m : Meters) → b.presence.plan.rounds ≤ t → AreMeters b t m → AreMeters b (t + 1) m

@@ -1,8 +1,8 @@
 -- What holds of each item of a list and its number.
-use Rattle.std.proofs.Common.{◌≡◌, ℕ, zero, suc, ◌+◌, ◌<◌, ◌≤◌, Bool, List, [], ◌∷◌, ◌++◌, length, get_or, refl, sym, ap, ◌∙◌, subst, arith, zero-add}
+use Rattle.std.proofs.Common.{◌≡◌, ℕ, zero, suc, ◌+◌, ◌<◌, ◌≤◌, Bool, List, [], ◌∷◌, ◌++◌, length, get_or, refl, sym, ap, ◌∙◌, subst, arith, zero-add, ⊎_elim}
 use Rattle.std.specs.Prelude.{nat_lt, if◌then◌else◌, slice_set}
 use Rattle.std.specs.List.{AllZip, range_with_len}
-use Rattle.std.proofs.lemmas.Bool.{lt-ltb, le-ltb}
+use Rattle.std.proofs.lemmas.Bool.{cases_eq, lt-ltb, le-ltb}
 use Rattle.std.proofs.lemmas.Bool.Decides.{nat_tests}
 
 -- the place of an item beside a range
@@ -102,6 +102,17 @@ upto-more R t k n ys y here so_far = record {
       (subst (λ i. R (upto t (k + 1) i) i y) (sym (zero-add k)) (subst (λ u. R u k y) (sym (upto-passed t (k + 1) k (omega arith))) here))
       so_far.each;
 }
+
+-- an item that needs no change
+pub upto-pass : {Y : Type 0} (R : ℕ → ℕ → Y → Type 0) (t k n : ℕ) (ys : List Y) → ((y : Y) → R t k y → R (t + 1) k y) → Upto R t k n ys → Upto R t (k + 1) n ys
+upto-pass {Y} R t k n ys pass so_far = record { each = range_weaker (λ i. R (upto t k i) i) (λ i. R (upto t (k + 1) i) i) 0 n ys (λ i y low high is. step i y is) so_far.each }
+  where
+    step : (i : ℕ) (y : Y) → R (upto t k i) i y → R (upto t (k + 1) i) i y
+    step i y is = ⊎_elim
+        (λ same. subst (λ u. R u i y) (sym (upto-passed t (k + 1) i (omega arith)))
+        (subst (λ j. R (t + 1) j y) (sym same) (pass y (subst (λ j. R t j y) same (subst (λ u. R u i y) (upto-ahead t k i (omega arith)) is)))))
+        (λ ne. subst (λ u. R u i y) (upto-other t k i ne) is)
+        (cases_eq i k)
 
 pub upto-all : {Y : Type 0} (R : ℕ → ℕ → Y → Type 0) (t k n : ℕ) (ys : List Y) → n ≤ k → Upto R t k n ys → AllZip (R (t + 1)) (range_with_len 0 n) ys
 upto-all R t k n ys over so_far = range_weaker (λ i. R (upto t k i) i) (R (t + 1)) 0 n ys (λ i y low high is. subst (λ u. R u i y) (upto-passed t k i (omega arith)) is) so_far.each

@@ -1,10 +1,8 @@
 //! The meters of a run: each reads its rounds, and answers at most one missing set in each.
 
-ghost use Rattle.std.specs.Prelude.{◌≡◌, ◌+◌, ◌<◌, ◌≤◌, ℕ, true, IfOk, OnOk, length, filter, if◌then◌else◌};
-ghost use Rattle.missing_round.specs.Sets.{is_member};
+ghost use Rattle.std.specs.Prelude.{◌≡◌, ◌+◌, ◌<◌, ◌≤◌, ℕ, true, IfOk, OnOk, length, filter};
 ghost use Rattle.group_plan.specs.Plans.{floor_of};
 ghost use Rattle.group_plan.specs.declared.Tag.{Tag};
-ghost use Rattle.meter_core.specs.Meters.{marked};
 ghost use Rattle.tick_run.specs.Meters.{AreOfGroup, AreMeters, is_answer, is_announcement, CanHear, CanHearAll, HasKept, HaveHeard};
 
 use group_book::Book;
@@ -45,17 +43,6 @@ fn new_group(alloc: Global, book: &Book, group: u16) -> Result<Vec<Meter>, Alloc
     Ok(meters)
 }
 
-/// Marks the round as read by the meter, where it has a reading.
-fn read_one(meter: &mut Meter, has_reading: bool, round: u32, members: &MeterSet)
-    requires round { round < length meter.old.notes }
-    requires member { has_reading ≡ true → is_member meter.old.meter members.now ≡ true }
-    ensures { meter.new ≡ (if has_reading then marked meter.old round members.now else meter.old) }
-{
-    if has_reading {
-        meter.mark_read(round, members);
-    }
-}
-
 /// Marks the round as read by each meter of the group that has a reading in it.
 fn read_group(meters: &mut [Meter], book: &Book, group: u16, round: u32)
     requires group { group < length book.now.presence.plan.groups }
@@ -65,8 +52,9 @@ fn read_group(meters: &mut [Meter], book: &Book, group: u16, round: u32)
 {
     let members = members(book.plan(), group, round);
     for meter in 0..book.plan().meters(group) {
-        let has_reading = book.presence().has(group, round, meter as u8);
-        read_one(&mut meters[meter as usize], has_reading, round, &members);
+        if book.presence().has(group, round, meter as u8) {
+            meters[meter as usize].mark_read(round, &members);
+        }
     }
 }
 

@@ -1,24 +1,24 @@
-use Rattle.std.proofs.Common.{◌≡◌, ◌<◌, ◌≤◌, ◌+◌, ap, sym, subst, ◌∙◌, true, List, ℕ, length, arith}
-use Rattle.std.specs.Prelude.{nat_lt, slice_index_or, if◌then◌else◌}
+use Rattle.std.proofs.Common.{◌≡◌, ◌<◌, ◌≤◌, ◌+◌, ap, sym, subst, ◌∙◌, true, ℕ, length, arith}
+use Rattle.std.specs.Prelude.{nat_lt}
 use Rattle.std.proofs.lemmas.Bool.{and_from, lt-ltb}
 use Rattle.missing_round.specs.Sets.{is_member as is_in}
 use Rattle.group_plan.specs.Plans.{PlanView, size, members, is_member}
 use Rattle.group_plan.specs.Tables.{PresenceView, is_present}
-use Rattle.meter_core.specs.Meters.{MeterView, marked}
+use Rattle.meter_core.specs.Meters.{MeterView}
 use Rattle.transcript_log.proofs.MemberLemmas.{is_member-below}
-use Rattle.group_book.specs.Books.{shape_of, past}
 use Rattle.tick_run.specs.Meters.{IsMeterOf}
-use Rattle.tick_run.proofs.RangeLemmas.{upto-none, upto-within, upto-at, upto-more, upto-all}
-use Rattle.tick_run.proofs.MetersLemmas.{read-one, member-in}
+use Rattle.tick_run.proofs.RangeLemmas.{Upto, upto-none, upto-within, upto-at, upto-all}
+use Rattle.tick_run.proofs.MetersLemmas.{member-in, group-marked, group-passed}
 use Rattle.tick_run.proofs.meters.read_group.Goals as goal
+use Rattle.tick_run.proofs.meters.read_group.Goals.{then-has, else-has}
 
 pub loop-meter-init : goal.loop-meter-init
 loop-meter-init c =
     let b = c.args.book.now in
     upto-none (λ t. IsMeterOf b t c.args.group) c.args.round (size b.presence.plan.groups c.args.group) c.args.meters.now c.requires.meters
 
-pub has-has_reading-requires : goal.has-has_reading-requires
-has-has_reading-requires c =
+pub has-requires : goal.has-requires
+has-requires c =
     let plan = c.args.book.now.presence.plan in
     let g = c.args.group in
     let k = c.loop-meter.meter in
@@ -34,8 +34,8 @@ bounds-meters-meter c =
     let end = c.meters-meter-end.ensures.meters ∙ ap (λ (p : PlanView). size p.groups g) c.plan-2.ensures in
     upto-within (λ t. IsMeterOf b t g) c.args.round c.loop-meter.meter (size plan.groups g) c.meters-meter-end.result c.loop-meter.meters c.loop-meter.invariant end c.loop-meter-test.true
 
-pub read_one-requires-clause-round : goal.read_one-requires-clause-round
-read_one-requires-clause-round c =
+pub mark_read-requires-clause-round : goal.mark_read-requires-clause-round
+mark_read-requires-clause-round c =
     let b = c.args.book.now in
     let plan = b.presence.plan in
     let g = c.args.group in
@@ -46,8 +46,8 @@ read_one-requires-clause-round c =
     let is = upto-at (λ t. IsMeterOf b t g) t k (size plan.groups g) c.loop-meter.meters c.index-meters-meter.result c.index-meters-meter.is within c.loop-meter.invariant in
     subst (λ (m : MeterView). t < length m.notes) c.index-meters-meter.is (omega (arith, c.requires.round, is.notes))
 
-pub read_one-requires-clause-member : goal.read_one-requires-clause-member
-read_one-requires-clause-member c = λ has.
+pub mark_read-requires-clause-member : goal.mark_read-requires-clause-member
+mark_read-requires-clause-member c =
     let b = c.args.book.now in
     let plan = b.presence.plan in
     let g = c.args.group in
@@ -56,7 +56,7 @@ read_one-requires-clause-member c = λ has.
     let end = c.meters-meter-end.ensures.meters ∙ ap (λ (p : PlanView). size p.groups g) c.plan-2.ensures in
     let within = upto-within (λ t. IsMeterOf b t g) t k (size plan.groups g) c.meters-meter-end.result c.loop-meter.meters c.loop-meter.invariant end c.loop-meter-test.true in
     let is = upto-at (λ t. IsMeterOf b t g) t k (size plan.groups g) c.loop-meter.meters c.index-meters-meter.result c.index-meters-meter.is within c.loop-meter.invariant in
-    let member : is_member plan.groups g t k ≡ true = sym (ap (λ (p : PresenceView). is_member p.plan.groups g t k) c.presence.ensures) ∙ c.has-has_reading.ensures.member has in
+    let member : is_member plan.groups g t k ≡ true = sym (ap (λ (p : PresenceView). is_member p.plan.groups g t k) c.presence.ensures) ∙ c.has.ensures.member c.if-has.true in
     ap (λ (i : ℕ). is_in i c.members-members.result) (sym (ap (λ (m : MeterView). m.meter) c.index-meters-meter.is) ∙ is.number)
     ∙ ap (is_in k) (c.members-members.ensures ∙ ap (λ (p : PlanView). members p.groups g t) c.plan.ensures)
     ∙ member-in plan g t k (is_member-below plan.groups g t k member) member
@@ -68,17 +68,16 @@ loop-meter-preserved c =
     let g = c.args.group in
     let t = c.args.round in
     let k = c.loop-meter.meter in
-    let has = c.has-has_reading.result in
-    let old = slice_index_or c.loop-meter.meters k c.index-meters-meter.result in
+    let meters = c.loop-meter.meters in
     let end = c.meters-meter-end.ensures.meters ∙ ap (λ (p : PlanView). size p.groups g) c.plan-2.ensures in
-    let within = upto-within (λ t. IsMeterOf b t g) t k (size plan.groups g) c.meters-meter-end.result c.loop-meter.meters c.loop-meter.invariant end c.loop-meter-test.true in
-    let is = upto-at (λ t. IsMeterOf b t g) t k (size plan.groups g) c.loop-meter.meters c.index-meters-meter.result c.index-meters-meter.is within c.loop-meter.invariant in
-    let was = subst (IsMeterOf b t g k) c.index-meters-meter.is is in
+    let within = upto-within (λ t. IsMeterOf b t g) t k (size plan.groups g) c.meters-meter-end.result meters c.loop-meter.invariant end c.loop-meter-test.true in
     let set = c.members-members.ensures ∙ ap (λ (p : PlanView). members p.groups g t) c.plan.ensures in
-    let present = c.has-has_reading.ensures.present ∙ ap (λ (p : PresenceView). is_present p.table g t k) c.presence.ensures in
-    upto-more (λ t. IsMeterOf b t g) t k (size plan.groups g) c.loop-meter.meters c.read_one.new.meter
-    (subst (IsMeterOf b (t + 1) g k) (sym (c.read_one.ensures ∙ ap (λ (l : List ℕ). if has then marked old t l else old) set)) (read-one (shape_of b) plan.rounds t (past b) g k old has c.requires.round present was))
-    c.loop-meter.invariant
+    let present = sym (c.has.ensures.present ∙ ap (λ (p : PresenceView). is_present p.table g t k) c.presence.ensures) in
+    elim c.if-has.branch [
+      | then-has w ↦ subst (Upto (λ t. IsMeterOf b t g) t (k + 1) (size plan.groups g)) (sym w.meters-is)
+          (group-marked b t g k meters w.index-meters-meter.result w.mark_read.new.self c.members-members.result c.requires.round (present ∙ w.if-has.true) set w.index-meters-meter.is within w.mark_read.ensures c.loop-meter.invariant)
+      | else-has w ↦ subst (Upto (λ t. IsMeterOf b t g) t (k + 1) (size plan.groups g)) (sym w.meters-is) (group-passed b t g k meters (present ∙ w.if-has.false) c.loop-meter.invariant)
+    ]
 
 pub returns : goal.returns
 returns c =

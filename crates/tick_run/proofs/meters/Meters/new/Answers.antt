@@ -2,7 +2,6 @@ use Rattle.std.proofs.Common.{◌+◌, sym, subst, List, ℕ, Vec, zero-add}
 use Rattle.std.specs.declared.alloc.Global.{Global}
 use Rattle.std.specs.List.{AllZip, range_with_len}
 use Rattle.meter_core.specs.Meters.{MeterView}
-use Rattle.group_book.specs.Books.{shape_of, past}
 use Rattle.tick_run.specs.Meters.{IsGroup}
 use Rattle.tick_run.proofs.RangeLemmas.{range_push}
 use Rattle.tick_run.proofs.meters.Meters.new.Goals as goal

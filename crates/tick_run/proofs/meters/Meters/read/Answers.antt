@@ -1,9 +1,6 @@
-use Rattle.std.proofs.Common.{◌≡◌, ◌+◌, ◌<◌, ◌≤◌, ap, sym, subst, ◌∙◌, List, ℕ, Vec, length, arith}
+use Rattle.std.proofs.Common.{◌≡◌, ◌+◌, ◌<◌, ◌≤◌, ap, sym, subst, ◌∙◌, length, arith}
 use Rattle.std.specs.Vec.{with_items}
-use Rattle.std.specs.declared.alloc.Global.{Global}
 use Rattle.group_plan.specs.Plans.{PlanView, IsWithinLimits}
-use Rattle.meter_core.specs.Meters.{MeterView}
-use Rattle.group_book.specs.Books.{shape_of, past}
 use Rattle.tick_run.specs.Meters.{AreOfGroup, IsGroup}
 use Rattle.std.proofs.lemmas.List.{with_items_is}
 use Rattle.tick_run.proofs.RangeLemmas.{upto-none, upto-long, upto-at, upto-more, upto-all}
