@@ -9,10 +9,11 @@ use Rattle.std.proofs.lemmas.List.FromFn.{fill_by_all}
 use Rattle.group_plan.specs.declared.plan.members.Span.{Span}
 use Rattle.group_plan.specs.Plans.{Group, IsWithinLimits, PlanView, Rounds, floor_or, name_or, size, size_or, span_of, span_or}
 use Rattle.group_plan.specs.NewPlans.{group_of, plan_of, stated, whole}
-use Rattle.group_plan.specs.Spans.{group_with, is_of, rounds_given, rounds_of, with_spans}
+use Rattle.group_plan.specs.Spans.{group_with, is_of, rounds_given, with_spans}
 use Rattle.transcript_text.specs.Spelling.{is_partial, span_at, spans_below, stated_spans}
 use Rattle.transcript_text.specs.Heads.{AreStated, comes_after, meters_at, span_fits}
 use Rattle.transcript_text.proofs.Choices.{test_of}
+use Rattle.transcript_text.proofs.SpanWalk.{given_first, given_next}
 
 -- the stated spans of n meters of group g, from meter i on
 abbrev row : PlanView → ℕ → ℕ → ℕ → List Span
@@ -96,14 +97,6 @@ whole_is plan g i h = by_test (((span_of plan.groups g i).from == 0) && ((span_o
         ap (λ a. made a (span_of plan.groups g i).until) from ∙ ap (λ b. made 0 b) until
     by_test false t h = absurd cc
 
-given_at : (rounds g i : ℕ) (s : Span) (ss : List Span) → is_of g i s ≡ true → rounds_given rounds (s ∷ ss) g i ≡ rounds_of s
-unfolding rounds_given
-given_at rounds g i s ss t = rw t refl
-
-given_on : (rounds g i : ℕ) (s : Span) (ss : List Span) → is_of g i s ≡ false → rounds_given rounds (s ∷ ss) g i ≡ rounds_given rounds ss g i
-unfolding rounds_given
-given_on rounds g i s ss t = rw t refl
-
 -- spans of other meters give nothing
 given_past : (plan : PlanView) (more : List Span) (a b g i n : ℕ) → ((j : ℕ) → i ≤ j → is_of a b (span_at plan g j) ≡ false)
     → rounds_given plan.rounds (row plan g i n ++ more) a b ≡ rounds_given plan.rounds more a b
@@ -112,7 +105,7 @@ given_past plan more a b g i (suc n) other = by_test (is_partial plan.rounds (sp
   where
     by_test : (t : Bool) → rounds_given plan.rounds (row plan g (i + 1) n ++ more) a b ≡ rounds_given plan.rounds more a b
         → rounds_given plan.rounds (cond t (span_at plan g i ∷ row plan g (i + 1) n) (row plan g (i + 1) n) ++ more) a b ≡ rounds_given plan.rounds more a b
-    by_test true ih = given_on plan.rounds a b (span_at plan g i) (row plan g (i + 1) n ++ more) (other i (omega arith)) ∙ ih
+    by_test true ih = given_next plan.rounds a b (span_at plan g i) (row plan g (i + 1) n ++ more) (other i (omega arith)) ∙ ih
     by_test false ih = ih
 
 -- a meter gets its own span, or all rounds where no span is given
@@ -127,13 +120,13 @@ given_here plan more g b i (suc n) le lt none = by_place (i == b) refl (is_parti
     by_place true e true t ih =
         let same : i ≡ b = grind (arith, nat_tests, e) in
         let own : is_of g b (span_at plan g i) ≡ true = grind (arith, nat_tests, e) in
-        given_at plan.rounds g b (span_at plan g i) (row plan g (i + 1) n ++ more) own ∙ ap (span_of plan.groups g) same
+        given_first plan.rounds g b (span_at plan g i) (row plan g (i + 1) n ++ more) own ∙ ap (span_of plan.groups g) same
     by_place true e false t ih =
         let same : i ≡ b = grind (arith, nat_tests, e) in
         given_past plan more g b g (i + 1) n (λ j l. grind (arith, nat_tests, e, l)) ∙ none ∙ sym (whole_is plan g i t) ∙ ap (span_of plan.groups g) same
     by_place false e true t ih =
         let other : is_of g b (span_at plan g i) ≡ false = grind (arith, nat_tests, e) in
-        given_on plan.rounds g b (span_at plan g i) (row plan g (i + 1) n ++ more) other ∙ ih (grind (arith, nat_tests, e, le))
+        given_next plan.rounds g b (span_at plan g i) (row plan g (i + 1) n ++ more) other ∙ ih (grind (arith, nat_tests, e, le))
     by_place false e false t ih = ih (grind (arith, nat_tests, e, le))
 
 -- later groups give nothing

@@ -41,11 +41,11 @@ none_given rounds g i (s ∷ ss) h j lt f =
     let later : at_or_after s.group (s.meter + 1) g i ≡ false = grind (arith, nat_tests, lt, f.0) in
     rw no (none_given rounds g i ss s.group (s.meter + 1) later f.2)
 
-given_first : (rounds g i : ℕ) (s : Span) (ss : List Span) → is_of g i s ≡ true → rounds_given rounds (s ∷ ss) g i ≡ rounds_of s
+pub given_first : (rounds g i : ℕ) (s : Span) (ss : List Span) → is_of g i s ≡ true → rounds_given rounds (s ∷ ss) g i ≡ rounds_of s
 unfolding rounds_given
 given_first rounds g i s ss t = rw t refl
 
-given_next : (rounds g i : ℕ) (s : Span) (ss : List Span) → is_of g i s ≡ false → rounds_given rounds (s ∷ ss) g i ≡ rounds_given rounds ss g i
+pub given_next : (rounds g i : ℕ) (s : Span) (ss : List Span) → is_of g i s ≡ false → rounds_given rounds (s ∷ ss) g i ≡ rounds_given rounds ss g i
 unfolding rounds_given
 given_next rounds g i s ss t = rw t refl
 
