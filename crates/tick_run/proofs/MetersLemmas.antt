@@ -164,22 +164,29 @@ can-hear_all b t m tags heard are = record {
 -- ---- hearing
 
 -- the meter of a tag that was told has a place
-pub told-meter : (b : BookView) (u t : ℕ) (m : Meters) (tag : Tag) → AreMeters b u m → IsTold b t tag → tag.meter < size b.presence.plan.groups tag.group
-told-meter b u t m tag are told =
+told-meter : (b : BookView) (t : ℕ) (m : Meters) (tag : Tag) → AreMeters b t m → IsTold b t tag → tag.meter < size b.presence.plan.groups tag.group
+told-meter b t m tag are told =
     let plan : PlanView = b.presence.plan in
     ltb-true tag.meter (size plan.groups tag.group) (and_parts (nat_lt tag.round plan.rounds) (nat_lt tag.meter (size plan.groups tag.group)) (told-place b.presence tag.group tag.round tag.meter (past b) are.table told.round told.taken)).1
 
-pub told-group : (b : BookView) (u t : ℕ) (m : Meters) (tag : Tag) → AreMeters b u m → IsTold b t tag → tag.group < length b.presence.plan.groups
-told-group b u t m tag are told = group-lt b.presence.plan.groups tag.group tag.meter (told-meter b u t m tag are told)
+pub told-group : (b : BookView) (t : ℕ) (m : Meters) (tag : Tag) → AreMeters b t m → IsTold b t tag → tag.group < length b.presence.plan.groups
+told-group b t m tag are told = group-lt b.presence.plan.groups tag.group tag.meter (told-meter b t m tag are told)
 
 pub groups-long : (b : BookView) (t : ℕ) (m : Meters) → AreMeters b t m → length m.groups.items ≡ length b.presence.plan.groups
 groups-long b t m are = range_long (IsGroup b t) 0 (length b.presence.plan.groups) m.groups.items are.groups
 
-pub group-at : (b : BookView) (t : ℕ) (m : Meters) (g : ℕ) (v : Vec MeterView Global) → AreMeters b t m → g < length m.groups.items → v ≡ get_or m.groups.items g v → IsGroup b t g v
+group-at : (b : BookView) (t : ℕ) (m : Meters) (g : ℕ) (v : Vec MeterView Global) → AreMeters b t m → g < length m.groups.items → v ≡ get_or m.groups.items g v → IsGroup b t g v
 group-at b t m g v are lt is = range_item (IsGroup b t) (length b.presence.plan.groups) g m.groups.items v is lt are.groups
 
-pub group-long : (b : BookView) (t : ℕ) (m : Meters) (g : ℕ) (v : Vec MeterView Global) → AreMeters b t m → g < length m.groups.items → v ≡ get_or m.groups.items g v → length v.items ≡ size b.presence.plan.groups g
+group-long : (b : BookView) (t : ℕ) (m : Meters) (g : ℕ) (v : Vec MeterView Global) → AreMeters b t m → g < length m.groups.items → v ≡ get_or m.groups.items g v → length v.items ≡ size b.presence.plan.groups g
 group-long b t m g v are lt is = range_long (IsMeterOf b t g) 0 (size b.presence.plan.groups g) v.items (group-at b t m g v are lt is)
+
+-- it stands among the meters
+pub told-within : (b : BookView) (t : ℕ) (m : Meters) (tag : Tag) → AreMeters b t m → IsTold b t tag → tag.group < length m.groups.items
+told-within b t m tag are told = omega (arith, told-group b t m tag are told, groups-long b t m are)
+
+pub told-below : (b : BookView) (t : ℕ) (m : Meters) (tag : Tag) (v : Vec MeterView Global) → AreMeters b t m → IsTold b t tag → v ≡ get_or m.groups.items tag.group v → tag.meter < length v.items
+told-below b t m tag v are told is = omega (arith, told-meter b t m tag are told, group-long b t m tag.group v are (told-within b t m tag are told) is)
 
 pub meter-at : (b : BookView) (t : ℕ) (m : Meters) (g i : ℕ) (v : Vec MeterView Global) (meter : MeterView) → AreMeters b t m → g < length m.groups.items → v ≡ get_or m.groups.items g v → i < length v.items → meter ≡ get_or v.items i meter
     → IsMeterOf b t g i meter

@@ -1,11 +1,11 @@
-use Rattle.std.proofs.Common.{◌<◌, sym, subst, ◌∙◌, List, ℕ, length, arith}
+use Rattle.std.proofs.Common.{sym, subst, ◌∙◌, List, ℕ, length, arith}
 use Rattle.std.specs.Prelude.{nat_lt}
 use Rattle.std.proofs.lemmas.Bool.{false≢true, and_from, lt-ltb}
 use Rattle.meter_core.specs.Meters.{Hears}
 use Rattle.transcript_log.proofs.ScheduleLemmas.{is_announced-from_sent, is_announcement_sent-from_taken}
 use Rattle.group_book.specs.Books.{shape_of, past}
 use Rattle.tick_run.proofs.MeterLemmas.{told-answers}
-use Rattle.tick_run.proofs.MetersLemmas.{told-meter, told-group, groups-long, group-long, meter-at, heard-meters, heard-kept_now, heard-kept_still}
+use Rattle.tick_run.proofs.MetersLemmas.{told-group, told-within, told-below, meter-at, heard-meters, heard-kept_now, heard-kept_still}
 use Rattle.tick_run.proofs.meters.Meters.hear.Goals as goal
 
 pub announced-requires : goal.announced-requires
@@ -14,7 +14,7 @@ announced-requires c =
     let plan = c.args.book.now.presence.plan in
     let told = c.requires.told (sym c.is_announcement.ensures ∙ c.if-not-is_announcement.false) in
     and_from (nat_lt tag.group (length plan.groups)) (nat_lt tag.round plan.rounds)
-    (lt-ltb tag.group (length plan.groups) (told-group c.args.book.now c.requires.until c.requires.until c.args.self.now tag c.requires.meters told)) (lt-ltb tag.round plan.rounds told.round)
+    (lt-ltb tag.group (length plan.groups) (told-group c.args.book.now c.requires.until c.args.self.now tag c.requires.meters told)) (lt-ltb tag.round plan.rounds told.round)
 
 pub returns-in_default-clause-answered : goal.returns-in_default-clause-answered
 returns-in_default-clause-answered c =
@@ -35,16 +35,12 @@ returns-in_default-clause-heard c = λ is.
 pub index_mut-requires : goal.index_mut-requires
 index_mut-requires c =
     let told = c.requires.told (sym c.is_announcement.ensures ∙ c.if-not-is_announcement.false) in
-    omega (arith, told-group c.args.book.now c.requires.until c.requires.until c.args.self.now c.args.tag c.requires.meters told, groups-long c.args.book.now c.requires.until c.args.self.now c.requires.meters)
+    omega (arith, told-within c.args.book.now c.requires.until c.args.self.now c.args.tag c.requires.meters told)
 
 pub index_mut-meter-requires : goal.index_mut-meter-requires
 index_mut-meter-requires c =
-    let b = c.args.book.now in
-    let u = c.requires.until in
-    let m = c.args.self.now in
     let told = c.requires.told (sym c.is_announcement.ensures ∙ c.if-not-is_announcement.false) in
-    let within : c.args.tag.group < length m.groups.items = omega (arith, told-group b u u m c.args.tag c.requires.meters told, groups-long b u m c.requires.meters) in
-    omega (arith, told-meter b u u m c.args.tag c.requires.meters told, group-long b u m c.args.tag.group c.index_mut.result.now c.requires.meters within c.index_mut.ensures.value)
+    omega (arith, told-below c.args.book.now c.requires.until c.args.self.now c.args.tag c.index_mut.result.now c.requires.meters told c.index_mut.ensures.value)
 
 pub returns-clause-meters : goal.returns-clause-meters
 returns-clause-meters c = λ t are.
@@ -54,8 +50,8 @@ returns-clause-meters c = λ t are.
     let tag = c.args.tag in
     let v = c.index_mut.result.now in
     let told = c.requires.told (sym c.is_announcement.ensures ∙ c.if-not-is_announcement.false) in
-    let within : tag.group < length m.groups.items = omega (arith, told-group b u u m tag c.requires.meters told, groups-long b u m c.requires.meters) in
-    let below : tag.meter < length v.items = omega (arith, told-meter b u u m tag c.requires.meters told, group-long b u m tag.group v c.requires.meters within c.index_mut.ensures.value) in
+    let within = told-within b u m tag c.requires.meters told in
+    let below = told-below b u m tag v c.requires.meters told c.index_mut.ensures.value in
     let found = c.in-Some.ensures in
     let hears = subst (λ (set : List ℕ). Hears c.index_mut-meter.result.now tag.round set c.hear.result c.hear.new.self) found.1 c.hear.ensures in
     heard-meters b t m tag.group tag.meter tag.round v c.index_mut-meter.result.now c.hear.new.self c.hear.result are within c.index_mut.ensures.value below c.index_mut-meter.ensures.value told.taken hears
@@ -69,8 +65,8 @@ returns-clause-answered c =
     let v = c.index_mut.result.now in
     let is = sym c.is_announcement.ensures ∙ c.if-not-is_announcement.false in
     let told = c.requires.told is in
-    let within : tag.group < length m.groups.items = omega (arith, told-group b u u m tag c.requires.meters told, groups-long b u m c.requires.meters) in
-    let below : tag.meter < length v.items = omega (arith, told-meter b u u m tag c.requires.meters told, group-long b u m tag.group v c.requires.meters within c.index_mut.ensures.value) in
+    let within = told-within b u m tag c.requires.meters told in
+    let below = told-below b u m tag v c.requires.meters told c.index_mut.ensures.value in
     let found = c.in-Some.ensures in
     let hears = subst (λ (set : List ℕ). Hears c.index_mut-meter.result.now tag.round set c.hear.result c.hear.new.self) found.1 c.hear.ensures in
     let meter = meter-at b u m tag.group tag.meter v c.index_mut-meter.result.now c.requires.meters within c.index_mut.ensures.value below c.index_mut-meter.ensures.value in
@@ -86,8 +82,8 @@ returns-clause-heard c = λ is.
     let tag = c.args.tag in
     let v = c.index_mut.result.now in
     let told = c.requires.told is in
-    let within : tag.group < length m.groups.items = omega (arith, told-group b u u m tag c.requires.meters told, groups-long b u m c.requires.meters) in
-    let below : tag.meter < length v.items = omega (arith, told-meter b u u m tag c.requires.meters told, group-long b u m tag.group v c.requires.meters within c.index_mut.ensures.value) in
+    let within = told-within b u m tag c.requires.meters told in
+    let below = told-below b u m tag v c.requires.meters told c.index_mut.ensures.value in
     let found = c.in-Some.ensures in
     let hears = subst (λ (set : List ℕ). Hears c.index_mut-meter.result.now tag.round set c.hear.result c.hear.new.self) found.1 c.hear.ensures in
     let meter = meter-at b u m tag.group tag.meter v c.index_mut-meter.result.now c.requires.meters within c.index_mut.ensures.value below c.index_mut-meter.ensures.value in
@@ -102,8 +98,8 @@ returns-clause-kept c = λ other kept.
     let tag = c.args.tag in
     let v = c.index_mut.result.now in
     let told = c.requires.told (sym c.is_announcement.ensures ∙ c.if-not-is_announcement.false) in
-    let within : tag.group < length m.groups.items = omega (arith, told-group b u u m tag c.requires.meters told, groups-long b u m c.requires.meters) in
-    let below : tag.meter < length v.items = omega (arith, told-meter b u u m tag c.requires.meters told, group-long b u m tag.group v c.requires.meters within c.index_mut.ensures.value) in
+    let within = told-within b u m tag c.requires.meters told in
+    let below = told-below b u m tag v c.requires.meters told c.index_mut.ensures.value in
     let found = c.in-Some.ensures in
     let hears = subst (λ (set : List ℕ). Hears c.index_mut-meter.result.now tag.round set c.hear.result c.hear.new.self) found.1 c.hear.ensures in
     heard-kept_still b m tag other v c.index_mut-meter.result.now c.hear.new.self c.hear.result within c.index_mut.ensures.value below c.index_mut-meter.ensures.value hears kept
