@@ -12,7 +12,8 @@ use Rattle.group_plan.specs.declared.Tag.{Tag}
 use Rattle.group_plan.specs.Plans.{size, is_place, members}
 use Rattle.group_plan.specs.Plans.{is_member as is_member_of_group}
 use Rattle.group_plan.specs.Tables.{PresenceView}
-use Rattle.group_plan.proofs.TableLemmas.{in_place, entry_outside}
+use Rattle.group_plan.proofs.MeterNumbers.{in_place}
+use Rattle.group_plan.proofs.TableLemmas.{entry_outside}
 use Rattle.meter_frames.specs.declared.Frame.{Frame}
 use Rattle.meter_frames.specs.Frames.{FitsKind}
 use Rattle.round_machine.specs.declared.Verdict.{Verdict}

@@ -6,5 +6,4 @@ pub mod BookLemmas
 pub mod CallLemmas
 pub mod PlainLines
 pub mod StartLemmas
-pub mod CopyLemmas
 pub mod TableLemmas

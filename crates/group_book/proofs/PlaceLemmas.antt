@@ -8,8 +8,7 @@ use Rattle.group_plan.specs.declared.Kind.TheVariants.{Reading, Announcement, An
 use Rattle.group_plan.specs.declared.Tag.{Tag}
 use Rattle.group_plan.specs.Plans.{PlanView, is_place}
 use Rattle.group_plan.specs.Places.{place_at, places}
-use Rattle.group_plan.proofs.MeterNumbers.{group-lt, place_at-lt, same_place}
-use Rattle.group_plan.proofs.TableLemmas.{in_place}
+use Rattle.group_plan.proofs.MeterNumbers.{group-lt, in_place, place_at-lt, same_place}
 use Rattle.transcript_log.specs.Events.{is_tag}
 use Rattle.meter_frames.specs.declared.Frame.{Frame}
 use Rattle.group_book.specs.Places.{is_round, all_rounds, page_at, kind_number, all_tags, frame_at}

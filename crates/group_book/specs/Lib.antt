@@ -1,7 +1,6 @@
 pub mod Places
 pub mod Pages
 pub mod Start
-pub mod Copies
 pub mod Books
 pub mod BookParts
 pub mod Replay

@@ -11,7 +11,7 @@ ghost use Rattle.group_book.specs.Replay.{IsJournal, IsPage};
 ghost use Rattle.group_book.specs.Tables.{IsTranscriptUnder, IsOutcomeUnder};
 ghost use Rattle.group_book.specs.BookParts.{IsOther, IsOtherSet, HasSetOf};
 
-use crate::copies::{copy_of_frames, copy_of_lines, copy_of_pages, copy_of_presence};
+use crate::copies::{copy_of_frames, copy_of_lines, copy_of_pages};
 use crate::lines::{add_close, add_end, add_send, add_take};
 use crate::page::Page;
 use crate::places::{frame_at, is_round, page_at};
@@ -33,7 +33,7 @@ pub struct Book {
     presence: Presence,
     /// The rounds, one after another by groups.
     pages: Vec<Page>,
-    /// The posted frames, one kind after another.
+    /// The posted frames, one kind after another and in each by places.
     frames: Vec<Option<Frame>>,
     journal: Vec<Line>,
 }
@@ -61,7 +61,7 @@ impl Book {
             alloc,
             pages: first_pages(alloc, plan)?,
             frames: no_frames(alloc, plan)?,
-            presence: copy_of_presence(alloc, presence)?,
+            presence: presence.try_copy()?,
             journal: Vec::new(alloc),
         })
     }
@@ -113,7 +113,7 @@ impl Book {
     {
         Ok(Book {
             alloc: self.alloc,
-            presence: copy_of_presence(self.alloc, &self.presence)?,
+            presence: self.presence.try_copy()?,
             pages: copy_of_pages(self.alloc, &self.pages)?,
             frames: copy_of_frames(self.alloc, &self.frames)?,
             journal: copy_of_lines(self.alloc, &self.journal)?,

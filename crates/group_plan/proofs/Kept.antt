@@ -1,8 +1,7 @@
 -- What the parts of a plan say of it.
 use Rattle.std.proofs.Common.{◌≡◌, ℕ, zero, suc, List, [], ◌∷◌, replicate, ◌+◌, ◌<◌, ◌≤◌, length, take, drop, get_or, map, refl, sym, ap, ◌∙◌, subst, ◌*◌, arith}
-use Rattle.std.specs.Prelude.{true, nat_lt, slice_get, Option, Some, None}
+use Rattle.std.specs.Prelude.{true, slice_get, Option, Some, None}
 use Rattle.std.proofs.lemmas.List.{get_or-take, get_or-drop, get_or_default, get_or-replicate, length-take, length-replicate}
-use Rattle.std.proofs.lemmas.Bool.{and_parts, ltb-true}
 use Rattle.std.proofs.lemmas.Bool.Decides.{nat_tests}
 use Rattle.std.proofs.Math.Nat.{mul-le-mul_right}
 use Rattle.group_plan.specs.Plans.{Rounds, Group, PlanView, size, size_or, is_place, span_of, span_or, is_member_of, holds, all_meters, IsWithinLimits}
@@ -14,7 +13,7 @@ use Rattle.group_plan.specs.PlanParts.{plan, KeepsPlan, AreSpans, groups_of}
 use Rattle.group_plan.specs.PlanStarts.{AreStarts}
 use Rattle.group_plan.proofs.Groups.{stated-groups_of, groups_of-whole, group_at, groups_of-at, length-groups_of, all_meters-groups_of, start-groups_of}
 use Rattle.group_plan.proofs.Limits.{limits, right_rounds, are_right, head, none, stated-at, past}
-use Rattle.group_plan.proofs.MeterNumbers.{group-lt, meter_at-lt, place_at-lt}
+use Rattle.group_plan.proofs.MeterNumbers.{group-lt, in_place, meter_at-lt, place_at-lt}
 
 -- what is stated of the groups
 pub stated_is : (p : Inside) → KeepsPlan p → map stated (plan p).groups ≡ p.groups.items
@@ -98,13 +97,8 @@ start_read p now keeps is g i v lt at =
     let zero_default : get_or p.starts.items g v ≡ get_or p.starts.items g 0 = get_or_default p.starts.items g v 0 (omega (arith, within, keeps.starts.long)) in
     ap (λ n. n + i) (at ∙ zero_default ∙ start_is p now keeps is g within)
 
-pub in_place : (now : PlanView) (g r i : ℕ) → is_place now g r i ≡ true → (r < now.rounds) × (i < size now.groups g)
-in_place now g r i is =
-    let both = and_parts (nat_lt r now.rounds) (nat_lt i (size now.groups g)) is in
-    (ltb-true r now.rounds both.0, ltb-true i (size now.groups g) both.1)
-
--- the number of a place, from that of its meter
-pub small_place : (now : PlanView) (g r i : ℕ) → IsWithinLimits now → is_place now g r i ≡ true → (meter_at now.groups g i * now.rounds ≤ 131072) × (meter_at now.groups g i * now.rounds + r < 131072)
+-- the number of a place, from that of its round
+pub small_place : (now : PlanView) (g r i : ℕ) → IsWithinLimits now → is_place now g r i ≡ true → (r * all_meters now.groups ≤ 131072) × (r * all_meters now.groups + meter_at now.groups g i < 131072)
 small_place now g r i within is =
     let both = in_place now g r i is in
     let lt = place_at-lt now g r i both.0 both.1 in

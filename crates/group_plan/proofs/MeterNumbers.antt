@@ -1,10 +1,11 @@
 -- Numbers of meters and places: within their count, and no two alike.
-use Rattle.std.proofs.Common.{◌≡◌, ℕ, zero, suc, ◌/◌, ◌%◌, ◌<◌, List, [], ◌∷◌, length, take, refl, sym, ap, ◌∙◌, inl, inr, arith}
-use Rattle.std.proofs.lemmas.Bool.{cases_lt}
+use Rattle.std.proofs.Common.{◌≡◌, ℕ, zero, suc, ◌/◌, ◌%◌, ◌<◌, List, [], ◌∷◌, length, take, refl, sym, ap, ◌∙◌, inl, inr, arith, mul_comm}
+use Rattle.std.specs.Prelude.{true, nat_lt}
+use Rattle.std.proofs.lemmas.Bool.{and_parts, cases_lt, ltb-true}
 use Rattle.std.proofs.lemmas.Nat.{div-mul-add, mod-mul-add, mul-add-lt}
 use Rattle.std.proofs.lemmas.List.Sums.{sum_by-cons}
 use Rattle.std.proofs.lemmas.Option.{slice_get_past}
-use Rattle.group_plan.specs.Plans.{Group, PlanView, size, size_or, all_meters}
+use Rattle.group_plan.specs.Plans.{Group, PlanView, size, size_or, is_place, all_meters}
 use Rattle.group_plan.specs.Places.{meter_at, place_at, places}
 
 -- a group with a meter is there
@@ -18,8 +19,16 @@ meter_at-lt (x ∷ groups) zero i lt = omega (arith, lt, sum_by-cons (λ (y : Gr
 meter_at-lt (x ∷ groups) (suc g) i lt =
     omega (arith, meter_at-lt groups g i lt, sum_by-cons (λ (y : Group). length y.spans) x groups, sum_by-cons (λ (y : Group). length y.spans) x (take g groups))
 
+-- a place has a round and a meter of the plan
+pub in_place : (plan : PlanView) (g r i : ℕ) → is_place plan g r i ≡ true → (r < plan.rounds) × (i < size plan.groups g)
+in_place plan g r i is =
+    let both = and_parts (nat_lt r plan.rounds) (nat_lt i (size plan.groups g)) is in
+    (ltb-true r plan.rounds both.0, ltb-true i (size plan.groups g) both.1)
+
 pub place_at-lt : (plan : PlanView) (g r i : ℕ) → r < plan.rounds → i < size plan.groups g → place_at plan g r i < places plan
-place_at-lt plan g r i round meter = mul-add-lt (meter_at plan.groups g i) plan.rounds r (all_meters plan.groups) (meter_at-lt plan.groups g i meter) round
+place_at-lt plan g r i round meter =
+    rw (mul_comm plan.rounds (all_meters plan.groups))
+    (mul-add-lt r (all_meters plan.groups) (meter_at plan.groups g i) plan.rounds round (meter_at-lt plan.groups g i meter))
 
 pub record SameMeter (g i h j : ℕ) : Type 0 where
   pub group : g ≡ h
@@ -42,9 +51,12 @@ pub record SamePlace (g r i h q j : ℕ) : Type 0 where
 -- no two places have one number
 pub same_place : (plan : PlanView) (g r i h q j : ℕ) → r < plan.rounds → i < size plan.groups g → q < plan.rounds → j < size plan.groups h → place_at plan g r i ≡ place_at plan h q j → SamePlace g r i h q j
 same_place plan g r i h q j round meter round2 meter2 e =
+    let all = all_meters plan.groups in
     let m = meter_at plan.groups g i in
     let n = meter_at plan.groups h j in
-    let meters = sym (div-mul-add m plan.rounds r round) ∙ ap (λ k. k / plan.rounds) e ∙ div-mul-add n plan.rounds q round2 in
-    let rounds = sym (mod-mul-add m plan.rounds r round) ∙ ap (λ k. k % plan.rounds) e ∙ mod-mul-add n plan.rounds q round2 in
+    let m_in = meter_at-lt plan.groups g i meter in
+    let n_in = meter_at-lt plan.groups h j meter2 in
+    let rounds = sym (div-mul-add r all m m_in) ∙ ap (λ k. k / all) e ∙ div-mul-add q all n n_in in
+    let meters = sym (mod-mul-add r all m m_in) ∙ ap (λ k. k % all) e ∙ mod-mul-add q all n n_in in
     let both = same_meter plan.groups g i h j meter meter2 meters in
     record { group = both.group; round = rounds; meter = both.meter }

@@ -1,15 +1,15 @@
 -- Tables over the places of a plan.
 use Rattle.std.proofs.Common.{◌≡◌, ◌≢◌, ℕ, zero, suc, ◌^◌, ◌<◌, Bool, true, false, List, [], ◌∷◌, length, map, set, replicate, get_or, refl, sym, ap, ◌∙◌, subst, inl, inr, arith, length-set, get_or-set_same, get_or-set_other}
-use Rattle.std.specs.Prelude.{◌==◌, ◌&&◌, nat_lt, Option, Some, None, is_some, IfSome}
+use Rattle.std.specs.Prelude.{◌==◌, ◌&&◌, Option, Some, None, is_some, IfSome}
 use Rattle.std.specs.List.{range_with_len}
-use Rattle.std.proofs.lemmas.Bool.{and_parts, cases_lt, cases_Bool, ltb-true, lt-ltb, eqb-true, eq-eqb, false≢true}
+use Rattle.std.proofs.lemmas.Bool.{and_parts, cases_lt, cases_Bool, lt-ltb, eqb-true, eq-eqb, false≢true}
 use Rattle.std.proofs.lemmas.List.{get_or_default, get_or_past, get_or-replicate, length-replicate, length-map, ext_get_or}
 use Rattle.std.proofs.lemmas.List.FromFn.{length-map-range_with_len, get_or-map-range_with_len}
 use Rattle.group_plan.specs.Plans.{PlanView, size, is_place, is_member, IsWithinLimits}
 use Rattle.group_plan.specs.Places.{place_at, places}
 use Rattle.group_plan.specs.Tables.{Table, entry, table_of, IsTable, reading, IsReadingTable, ReadingsView, absent, is_same_place, PutsReading, is_present, IsPresenceTable, PresenceView, presence_of}
 use Rattle.group_plan.specs.TableParts.{kept_table, KeepsReadings, KeepsPresence}
-use Rattle.group_plan.proofs.MeterNumbers.{group-lt, place_at-lt, same_place}
+use Rattle.group_plan.proofs.MeterNumbers.{group-lt, in_place, place_at-lt, same_place}
 
 -- ---- maps
 
@@ -27,11 +27,6 @@ get_or-map f (x ∷ xs) zero d = refl
 get_or-map f (x ∷ xs) (suc i) d = get_or-map f xs i d
 
 -- ---- the table of a function
-
-pub in_place : (plan : PlanView) (g r i : ℕ) → is_place plan g r i ≡ true → (r < plan.rounds) × (i < size plan.groups g)
-in_place plan g r i is =
-    let both = and_parts (nat_lt r plan.rounds) (nat_lt i (size plan.groups g)) is in
-    (ltb-true r plan.rounds both.0, ltb-true i (size plan.groups g) both.1)
 
 pub entry-table_of : {X : Type 0} (plan : PlanView) (f : ℕ → ℕ → ℕ → X) (d : X) (g r i : ℕ) → is_place plan g r i ≡ true → entry d (table_of plan f) g r i ≡ f g r i
 unfolding table_of
@@ -229,7 +224,7 @@ keeps_put plan kept g r i value keeps is small member = record {
 
 -- ---- presence
 
-pub presence_table : (plan : PlanView) (kept : List Bool) → KeepsPresence plan kept → IsPresenceTable plan (kept_table false plan kept)
+presence_table : (plan : PlanView) (kept : List Bool) → KeepsPresence plan kept → IsPresenceTable plan (kept_table false plan kept)
 presence_table plan kept keeps = record {
   shape = is_table-table_of plan (λ g r i. get_or kept (place_at plan g r i) false);
   of_members = λ g r i present. elim (cases_Bool (is_place plan g r i)) [
@@ -237,6 +232,9 @@ presence_table plan kept keeps = record {
     | inr out ↦ absurd (false≢true (sym (outside false plan kept g r i out) ∙ present))
   ];
 }
+
+pub table_of_presence : (now : PresenceView) (plan : PlanView) (kept : List Bool) → KeepsPresence plan kept → ◌≡◌ {A = PresenceView} (record { plan = plan; table = kept_table false plan kept }) now → IsPresenceTable now.plan now.table
+table_of_presence now plan kept keeps view = subst (λ v. IsPresenceTable v.plan v.table) view (presence_table plan kept keeps)
 
 pub presence_is : (plan : PlanView) (kept : List (Option ℕ)) → kept_table false plan (map is_some kept) ≡ map (map (map is_some)) (kept_table None plan kept)
 presence_is plan kept =
@@ -309,3 +307,11 @@ present_is now plan copy kept present view same is =
 
 pub present_keeps : (plan copy : PlanView) (kept : List (Option ℕ)) (present : List Bool) → KeepsReadings plan kept → copy ≡ plan → present ≡ map is_some kept → KeepsPresence copy present
 present_keeps plan copy kept present keeps same is = subst (λ p. KeepsPresence p present) (sym same) (subst (KeepsPresence plan) (sym is) (keeps_presence plan kept keeps))
+
+pub copy_is : (now : PresenceView) (plan copy : PlanView) (kept same : List Bool) → ◌≡◌ {A = PresenceView} (record { plan = plan; table = kept_table false plan kept }) now → copy ≡ plan → same ≡ kept → ◌≡◌ {A = PresenceView} (record { plan = copy; table = kept_table false copy same }) now
+copy_is now plan copy kept same view plans items =
+    let seen : PlanView → List Bool → PresenceView = λ p k. record { plan = p; table = kept_table false p k } in
+    ap (λ p. seen p same) plans ∙ ap (seen plan) items ∙ view
+
+pub copy_keeps : (plan copy : PlanView) (kept same : List Bool) → KeepsPresence plan kept → copy ≡ plan → same ≡ kept → KeepsPresence copy same
+copy_keeps plan copy kept same keeps plans items = subst (λ p. KeepsPresence p same) (sym plans) (subst (KeepsPresence plan) (sym items) keeps)

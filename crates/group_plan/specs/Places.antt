@@ -1,4 +1,4 @@
--- Numbers of meters and of places, counted from 0: meters group by group, places meter by meter.
+-- Numbers of meters and of places, counted from 0: meters group by group, places round by round.
 use Rattle.std.specs.Prelude.{ℕ, ◌+◌, ◌*◌, List, take}
 use Rattle.group_plan.specs.Plans.{Group, PlanView, all_meters}
 
@@ -8,7 +8,7 @@ meter_at groups g i = all_meters (take g groups) + i
 
 -- the number of a place
 abbrev pub place_at : PlanView → ℕ → ℕ → ℕ → ℕ
-place_at plan g r i = meter_at plan.groups g i * plan.rounds + r
+place_at plan g r i = r * all_meters plan.groups + meter_at plan.groups g i
 
 -- how many places a plan has
 abbrev pub places : PlanView → ℕ

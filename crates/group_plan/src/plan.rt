@@ -420,13 +420,13 @@ impl Plan {
         self.starts[group] + meter
     }
 
-    /// The number of a place, counted from 0, meter by meter.
+    /// The number of a place, counted from 0, round by round and in each by meters.
     pub fn place_at(&self, group: u16, round: u32, meter: u8) -> usize
         requires { IsTrue (is_place self.now group round meter) }
         ensures at { result ≡ place_at self.now group round meter }
         ensures within { result < places self.now }
     {
-        self.meter_at(group, meter) * self.rounds as usize + round as usize
+        round as usize * self.spans.len() + self.meter_at(group, meter)
     }
 
     /// How many places the plan has.
@@ -434,7 +434,7 @@ impl Plan {
         ensures all { result ≡ places self.now }
         ensures limits { IsWithinLimits self.now }
     {
-        self.spans.len() * self.rounds as usize
+        self.rounds as usize * self.spans.len()
     }
 
     /// An equal plan.

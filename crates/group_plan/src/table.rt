@@ -98,6 +98,12 @@ fn presence_of(alloc: Global, values: &[Option<u64>]) -> Result<Vec<bool>, Alloc
     values.iter().map(|value| value.is_some()).collect(alloc)
 }
 
+fn copy_of_present(present: &Vec<bool>) -> Result<Vec<bool>, AllocError>
+    ensures { IfOk result (λ copy. copy.items ≡ present.now.items) }
+{
+    present.clone()
+}
+
 impl Presence {
     /// The places that have a reading.
     pub fn of(alloc: Global, readings: &Readings) -> Result<Presence, AllocError>
@@ -124,5 +130,16 @@ impl Presence {
         ensures member { IsTrue result → IsTrue (is_member self.now.plan.groups group round meter) }
     {
         self.present[self.plan.place_at(group, round, meter)]
+    }
+
+    /// An equal presence.
+    pub fn try_copy(&self) -> Result<Presence, AllocError>
+        ensures presence { IfOk result (λ presence. presence ≡ self.now) }
+        ensures table { IsPresenceTable self.now.plan self.now.table }
+    {
+        Ok(Presence {
+            plan: self.plan.try_copy()?,
+            present: copy_of_present(&self.present)?,
+        })
     }
 }

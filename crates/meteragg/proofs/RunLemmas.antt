@@ -5,8 +5,8 @@ use mathlib.Core.Path.{fun_ext}
 use Rattle.std.proofs.lemmas.Bool.{cases_Bool, false≢true}
 use Rattle.group_plan.specs.Plans.{PlanView, Group, is_place, is_member, IsWithinLimits}
 use Rattle.group_plan.specs.Tables.{Table, ReadingsView, reading, IsReadingTable, is_present, PresenceView, presence_of}
-use Rattle.group_plan.proofs.TableLemmas.{in_place, entry_outside}
-use Rattle.group_plan.proofs.MeterNumbers.{group-lt}
+use Rattle.group_plan.proofs.TableLemmas.{entry_outside}
+use Rattle.group_plan.proofs.MeterNumbers.{group-lt, in_place}
 use Rattle.link_lanes.specs.Lanes.{Meaning, Slot}
 use Rattle.mask_stream.specs.KeyStreams.{streams}
 use Rattle.transcript_log.specs.declared.Event.{Event}

@@ -8,8 +8,8 @@ use Rattle.std.proofs.lemmas.Nat.{div-mul-add, mod-mul-add, mul-add-lt}
 use Rattle.std.proofs.lemmas.Bool.Decides.{nat_tests}
 use Rattle.group_plan.specs.Plans.{PlanView, size, is_member, is_place}
 use Rattle.group_plan.specs.Tables.{IsTable, PutsReading, ReadingsView, Table, absent, is_same_place, reading, table_of}
-use Rattle.group_plan.proofs.TableLemmas.{entry-table_of, in_place, is_table-table_of, same_tables}
-use Rattle.group_plan.proofs.MeterNumbers.{group-lt}
+use Rattle.group_plan.proofs.TableLemmas.{entry-table_of, is_table-table_of, same_tables}
+use Rattle.group_plan.proofs.MeterNumbers.{group-lt, in_place}
 use Rattle.plan_files.specs.Faults.{in_row}
 use Rattle.plan_files.specs.Filling.{FillsRow}
 use Rattle.plan_files.specs.Readings.{fields_fault, reading_at, reading_in, reading_of, readings_by, row_fault, rows_due, rows_fault}

@@ -1,7 +1,8 @@
 use Rattle.std.proofs.Common.{sym, ap, ◌∙◌, get_or, arith}
 use Rattle.std.specs.Prelude.{slice_get}
 use Rattle.group_plan.specs.Plans.{holds}
-use Rattle.group_plan.proofs.Kept.{all_is, span_is, in_place, is_member-or}
+use Rattle.group_plan.proofs.Kept.{all_is, span_is, is_member-or}
+use Rattle.group_plan.proofs.MeterNumbers.{in_place}
 use Rattle.group_plan.proofs.plan.Plan.is_member.Goals as goal
 
 pub index-requires : goal.index-requires
