@@ -1,7 +1,7 @@
 -- Accepted files are done.
-use Rattle.std.proofs.Common.{◌≡◌, ◌≤◌, ◌<◌, ◌⊎◌, ℕ, Bool, false, List, length, refl, sym, ap, ◌∙◌, subst, inl, inr, arith, Result, Ok, Err}
+use Rattle.std.proofs.Common.{◌≡◌, ◌≤◌, ◌⊎◌, ℕ, false, List, length, refl, sym, ap, ◌∙◌, subst, inl, inr, arith, Result, Ok, Err}
 use Rattle.std.specs.Prelude.{Option, Some}
-use Rattle.desk_outside.specs.Desk.{View, Held, Holds, IsLonger, Rose, one_more}
+use Rattle.desk_outside.specs.Desk.{View, Held, Holds, IsLonger, Rose}
 use Rattle.link_lanes.specs.Lanes.{Meaning}
 use Rattle.link_lanes.specs.Fits.{hung_by}
 use Rattle.link_lanes.specs.declared.cupboard.RackError.{RackError}
@@ -14,7 +14,6 @@ use Rattle.meteragg.specs.Words.{RunNames, Command, Run}
 use Rattle.meteragg.specs.Calls.{most_bytes, EndsAtFetch}
 use Rattle.meteragg.specs.Ends.{fetched_by, IsRead, BothRead, RefusesLane, RefusesReadings, RunEnds, Ends}
 use Rattle.meteragg.specs.Outcomes.{status_of, IsFault}
-use Rattle.meteragg.specs.Runs.{Values, AreValues}
 use Rattle.meteragg.specs.Accepted.{IsAccepted, AcceptedIsDone}
 
 -- the bytes are those that a name holds

@@ -1,11 +1,11 @@
 -- How `run` ends, from how its parts do.
-use Rattle.std.proofs.Common.{◌≡◌, ◌⊎◌, List, ℕ, inl, inr, subst}
+use Rattle.std.proofs.Common.{◌≡◌, List, ℕ, inl, inr, subst}
 use Rattle.desk_outside.specs.Desk.{View}
 use Rattle.link_lanes.specs.Lanes.{Meaning}
 use Rattle.meteragg.specs.declared.outcome.Outcome.{Outcome}
 use Rattle.meteragg.specs.declared.outcome.Outcome.TheVariants.{Done, NoMemory, BadWords, CannotRead, TooLong, CannotWrite, CannotPrint, BadPlan, BadReadings, BadLane}
 use Rattle.meteragg.specs.Words.{RunNames}
-use Rattle.meteragg.specs.Ends.{IsRead, BothRead, PutsEnd, Ran, RunEnds, after_files}
+use Rattle.meteragg.specs.Ends.{IsRead, BothRead, PutsEnd, RunEnds, after_files}
 use Rattle.meteragg.specs.Fetches.{Unread}
 use Rattle.meteragg.specs.Runs.{Texts, Makes}
 

@@ -1,20 +1,19 @@
 -- From what the crates below say of a run to what the program says of it.
-use Rattle.std.proofs.Common.{◌≡◌, ℕ, zero, suc, ◌^◌, ◌<◌, ◌≤◌, ◌+◌, Bool, true, false, not, List, [], ◌∷◌, length, map, get_or, refl, sym, ap, ◌∙◌, subst, inl, inr, arith, Result, Ok, Err}
+use Rattle.std.proofs.Common.{◌≡◌, ℕ, zero, suc, ◌^◌, ◌<◌, ◌≤◌, ◌+◌, Bool, true, false, not, List, [], ◌∷◌, length, map, get_or, refl, sym, ap, ◌∙◌, subst, inl, inr, arith, Ok, Err}
 use Rattle.std.specs.Prelude.{Option, Some, None, is_some, unwrap_or, if◌then◌else◌, reverse, count_by}
 use mathlib.Core.Path.{fun_ext}
 use Rattle.std.proofs.lemmas.Bool.{cases_Bool, false≢true}
-use Rattle.group_plan.specs.Plans.{PlanView, Group, is_place, is_member, IsWithinLimits}
+use Rattle.group_plan.specs.Plans.{PlanView, Group, is_place, IsWithinLimits}
 use Rattle.group_plan.specs.Tables.{Table, ReadingsView, reading, IsReadingTable, is_present, PresenceView, presence_of}
 use Rattle.group_plan.proofs.TableLemmas.{entry_outside}
 use Rattle.group_plan.proofs.MeterNumbers.{group-lt, in_place}
 use Rattle.link_lanes.specs.Lanes.{Meaning, Slot}
 use Rattle.mask_stream.specs.KeyStreams.{streams}
-use Rattle.transcript_log.specs.declared.Event.{Event}
 use Rattle.transcript_log.specs.declared.Line.{Line}
 use Rattle.transcript_log.specs.declared.Entry.{Entry}
 use Rattle.transcript_log.specs.Events.{event_of, events_of, lines_of}
-use Rattle.transcript_log.specs.Schedule.{Shape, shape_of_presence, survivors, Outcome, Running, EndedThin, Published, Unpublished, outcome, is_ended, is_announced, is_published, is_opened, all_taken, lacking}
-use Rattle.transcript_log.specs.Tables.{Readings, Masks, reading_at, plain_sum, IsOfPlan, IsBounded}
+use Rattle.transcript_log.specs.Schedule.{Shape, shape_of_presence, survivors, Running, EndedThin, Published, Unpublished, is_ended, is_announced, is_published, is_opened, all_taken, lacking}
+use Rattle.transcript_log.specs.Tables.{Readings, Masks, plain_sum, IsOfPlan, IsBounded}
 use Rattle.transcript_log.specs.Transcript.{Contents, shape_of_readings, contents_of_tables, transcript}
 use Rattle.transcript_log.specs.Frames.{contents_of_lines}
 use Rattle.transcript_log.specs.Journal.{past_of}
@@ -23,14 +22,13 @@ use Rattle.totals_report.specs.Texts.{rows_text}
 use Rattle.totals_report.specs.Reports.{report_row, group_rows, report_rows, report_text, summary_text}
 use Rattle.std.specs.List.{range_with_len}
 use Rattle.transcript_log.proofs.JournalLemmas.{total_of_journal}
-use Rattle.run_rows.specs.Ticks.{Clock, clock_of, IsRunPlan, IsTickRun, HaveDelays, posts_of}
+use Rattle.run_rows.specs.Ticks.{Clock, clock_of, IsRunPlan, IsTickRun, posts_of}
 use Rattle.run_rows.specs.Report.{Row, row, row_of, fate_at, outcome_row}
 use Rattle.run_rows.specs.Summary.{Summary, all_rows, summary, summary_of_lines, summary_of_posts, is_sending, is_taking}
 use Rattle.run_rows.specs.Posts.{posts_by_lanes}
-use Rattle.run_rows.specs.Runs.{IsRun, IsReported}
+use Rattle.run_rows.specs.Runs.{IsReported}
 use Rattle.run_rows.proofs.RunLemmas.{reported}
 use Rattle.run_rows.proofs.PostLemmas.{posts_are}
-use Rattle.ideal_masks.specs.Isolation.{Isolated}
 use Rattle.pair_keys.specs.Keys.{Keys}
 use Rattle.link_lanes.specs.Fits.{hung_by}
 use Rattle.plan_files.specs.declared.fault.FileError.{FileError}
@@ -46,7 +44,7 @@ use Rattle.transcript_text.specs.Transcripts.{TranscriptView}
 use Rattle.transcript_text.specs.Spelling.{transcript_text}
 use Rattle.totals_report.specs.Books.{row_in as book_row, summary_in as book_summary}
 use Rattle.tick_run.specs.Finished.{IsFinished}
-use Rattle.meteragg.specs.Runs.{Values, AreValues, IsRunOf, row_in, Texts, AreTexts, Makes}
+use Rattle.meteragg.specs.Runs.{Values, IsRunOf, row_in, Texts, AreTexts, Makes}
 use Rattle.meteragg.specs.RunTexts.{AreTextsOf, TextsEnd}
 use Rattle.meteragg.specs.declared.texts.Refusal.TheVariants.{Readings as ReadingsRefusal}
 use Rattle.ideal_masks.proofs.Isolation.{isolated}

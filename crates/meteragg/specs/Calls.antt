@@ -1,5 +1,5 @@
 -- The fetches of a command, in the order of its names.
-use Rattle.std.specs.Prelude.{◌≡◌, ◌⊎◌, ◌^◌, ℕ, Bool, true, false, List, [], ◌∷◌}
+use Rattle.std.specs.Prelude.{◌≡◌, ◌⊎◌, ◌^◌, ℕ, Bool, false, List, [], ◌∷◌}
 use Rattle.desk_outside.specs.Desk.{View, Fetched, after_step}
 
 -- the most bytes that a file may have

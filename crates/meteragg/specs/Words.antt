@@ -1,7 +1,7 @@
 -- The words of the command line, without the program's name.
-use Rattle.std.specs.Prelude.{ℕ, nat_le, Bool, true, false, ◌&&◌, ◌||◌, not, List, [], ◌∷◌, Option, Some, None, if◌then◌else◌, codes}
+use Rattle.std.specs.Prelude.{ℕ, Bool, true, false, ◌&&◌, ◌||◌, not, List, [], ◌∷◌, Option, Some, None, if◌then◌else◌, codes}
 use Rattle.std.specs.Str.{bytes_eq}
-use Rattle.plan_files.specs.Fields.{number_below}
+use Rattle.field_texts.specs.Numbers.{number_of, within}
 use Rattle.meteragg.specs.declared.words.RunFiles.{RunFiles}
 
 -- the names of the files of `run`
@@ -34,14 +34,9 @@ are_names (name ∷ names) = is_name name && not (has_name name names) && are_na
 
 -- ---- numbers
 
--- the number, where it is not less than this
-abbrev pub at_least : ℕ → Option ℕ → Option ℕ
-at_least least None = None
-at_least least (Some n) = if nat_le least n then Some n else None
-
 -- 1 to 16 workers
 abbrev pub workers_of : List ℕ → Option ℕ
-workers_of word = at_least 1 (number_below 17 word)
+workers_of word = within 1 17 (number_of word)
 
 -- ---- commands
 

@@ -2,7 +2,7 @@
 ghost use Rattle.std.specs.Prelude.{◌≡◌, ◌≤◌, ℕ, None, Some, IfSome, MatchOption, map, string_bytes};
 ghost use Rattle.meteragg.specs.Words.{Run, command_of, has_name, are_names, names_of, names_of_run, workers_of};
 
-use plan_files::number;
+use field_texts::read_number_within;
 
 /// The number of workers where the words name none.
 const USUAL_WORKERS: u32 = 4;
@@ -52,10 +52,8 @@ fn workers(word: &str) -> Option<u32>
     ensures value { result ≡ workers_of word.now }
     ensures few { IfSome result (λ n. (1 ≤ n) × (n ≤ 16)) }
 {
-    match number(word.as_bytes(), MOST_WORKERS) {
-        Some(workers) if workers >= 1 => Some(workers as u32),
-        _ => None,
-    }
+    let workers = read_number_within(word.as_bytes(), 1, MOST_WORKERS + 1)?;
+    Some(workers as u32)
 }
 
 // The files of `run`, where the words are its own and four names.

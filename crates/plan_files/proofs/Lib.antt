@@ -1,5 +1,4 @@
 pub mod AllRecords
-pub mod FieldLemmas
 pub mod FormLemmas
 pub mod GatherLemmas
 pub mod MissingLemmas

@@ -1,5 +1,4 @@
 pub mod Faults
-pub mod Fields
 pub mod Filling
 pub mod Gathering
 pub mod MissingKeys

@@ -2,11 +2,13 @@
 use Rattle.std.specs.Cmp.Lexicographic.{pointwise}
 use Rattle.std.specs.Prelude.{ℕ, ◌^◌, ◌==◌, if◌then◌else◌, Bool, List, [], ◌∷◌, codes, length, bytes_eq, slice_index_or, Option, Some, None, Result, Ok, Err}
 use Rattle.std.specs.List.{list_all}
+use Rattle.std.specs.Result.{result_ok}
+use Rattle.field_texts.specs.Numbers.{number_of, within}
 use Rattle.group_plan.specs.Names.{is_name}
 use Rattle.group_plan.specs.declared.plan.GroupPlan.{GroupPlan}
+use Rattle.hex.specs.Hex.{decode_sized}
 use Rattle.link_lanes.specs.ArgBytes.{is_arg_byte}
 use Rattle.plan_files.specs.Faults.{◌>>=◌}
-use Rattle.plan_files.specs.Fields.{key_of, number_below}
 use Rattle.plan_files.specs.declared.entry.Entry.{Entry}
 use Rattle.plan_files.specs.declared.entry.Entry.TheVariants as entry
 use Rattle.plan_files.specs.declared.fault.FileCause.{FileCause}
@@ -34,11 +36,11 @@ has_fields count fields = if length fields == count then Ok tt else Err cause.Fi
 
 -- a number below 2^32
 unfoldable pub number_in : List (List ℕ) → ℕ → Result ℕ FileCause
-number_in fields place = or_cause cause.Number (number_below (2 ^ 32) (text fields place))
+number_in fields place = or_cause cause.Number (within 0 (2 ^ 32) (number_of (text fields place)))
 
 -- a key of 64 hexadecimal digits of either case
 unfoldable pub key_in : List (List ℕ) → ℕ → Result (List ℕ) FileCause
-key_in fields place = or_cause cause.Hex (key_of (text fields place))
+key_in fields place = or_cause cause.Hex (result_ok (decode_sized (text fields place) 32))
 
 -- a name of 1 to 16 letters, digits, `_` or `-`
 unfoldable pub name_in : List (List ℕ) → ℕ → Result (List ℕ) FileCause

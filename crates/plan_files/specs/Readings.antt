@@ -2,10 +2,10 @@
 use Rattle.std.specs.Prelude.{◌≡◌, ℕ, ◌+◌, ◌*◌, ◌/◌, ◌%◌, ◌^◌, ◌==◌, ◌&&◌, not, nat_lt, if◌then◌else◌, Bool, false, List, [], ◌∷◌, length, drop, bytes_eq, slice_index_or, Option, Some, None, Result, Ok, Err}
 use Rattle.std.specs.Option.{option_map, option_or}
 use Rattle.std.specs.Result.{result_err}
+use Rattle.field_texts.specs.Numbers.{number_of, within}
 use Rattle.group_plan.specs.Plans.{PlanView, size, name_of, is_member}
 use Rattle.group_plan.specs.Tables.{ReadingsView, table_of}
 use Rattle.plan_files.specs.Faults.{ButMemory, in_row, unless}
-use Rattle.plan_files.specs.Fields.{number_below}
 use Rattle.plan_files.specs.Rows.{file_rows}
 use Rattle.plan_files.specs.declared.fault.FileCause.{FileCause}
 use Rattle.plan_files.specs.declared.fault.FileCause.TheVariants as cause
@@ -19,7 +19,7 @@ within_range (Some n) = if nat_lt n (2 ^ 40) then Ok (Some n) else Err cause.Ran
 -- what a field says: an empty one is an absent reading
 unfoldable pub reading_of : Bool → List ℕ → Result (Option ℕ) FileCause
 reading_of member text =
-    if length text == 0 then Ok None else if member then within_range (number_below (2 ^ 64) text) else Err cause.NotMember
+    if length text == 0 then Ok None else if member then within_range (number_of text) else Err cause.NotMember
 
 -- the first fault among the fields of group g in round r, of which the first is meter i's
 unfoldable pub fields_fault : PlanView → (g r i : ℕ) → List (List ℕ) → Option FileCause
@@ -35,7 +35,7 @@ is_number n (Some m) = m == n
 -- whether a row is group g's in round r: it starts with the group's name and the round
 unfoldable pub is_row_of : PlanView → (g r : ℕ) → List (List ℕ) → Bool
 is_row_of plan g r fields =
-    bytes_eq (slice_index_or fields 0 []) (name_of plan.groups g) && is_number r (number_below (2 ^ 32) (slice_index_or fields 1 []))
+    bytes_eq (slice_index_or fields 0 []) (name_of plan.groups g) && is_number r (within 0 (2 ^ 32) (number_of (slice_index_or fields 1 [])))
 
 -- the first fault of the row that should be group g's in round r
 unfoldable pub row_fault : PlanView → (g r : ℕ) → List (List ℕ) → Option FileCause

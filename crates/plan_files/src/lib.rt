@@ -3,7 +3,6 @@
 
 mod entry;
 mod fault;
-mod fields;
 mod gathering;
 mod head;
 pub mod laws;
@@ -13,7 +12,6 @@ mod row;
 mod table;
 
 pub use fault::{FileCause, FileError};
-pub use fields::number;
 pub use plan::{PlanFile, read_plan};
 pub use readings::read_readings;
 

@@ -8,17 +8,15 @@ ghost use Rattle.plan_files.specs.Readings.{ReadingsEnd, fields_fault, is_row_of
 ghost use Rattle.plan_files.specs.Filling.{FillsRow};
 
 use crate::fault::{FileCause, FileError, NO_MEMORY};
-use crate::fields::number;
+use crate::row::number_field;
 use crate::table::{field, rows};
 use csv::ByteRecord;
+use field_texts::read_number;
 use group_plan::{Plan, Readings};
 use std::alloc::Global;
 
 /// The largest reading, in watt-hours.
 const MOST_READING: u64 = (1 << 40) - 1;
-
-/// The largest number of a round.
-const MOST_ROUND: u64 = (1 << 32) - 1;
 
 /// The reading that a field says, of a member of the round or of a meter that is none.
 #[tactic(auto, unfolding(crate::specs::Readings::reading_of))]
@@ -33,7 +31,7 @@ fn reading(text: &[u8], is_member: bool) -> Result<Option<u64>, FileCause>
     if !is_member {
         return Err(FileCause::NotMember);
     }
-    match number(text, u64::MAX) {
+    match read_number(text) {
         None => Err(FileCause::Number),
         Some(reading) if reading > MOST_READING => Err(FileCause::Range),
         Some(reading) => Ok(Some(reading)),
@@ -41,7 +39,7 @@ fn reading(text: &[u8], is_member: bool) -> Result<Option<u64>, FileCause>
 }
 
 /// Whether the row starts with the group's name and the round.
-#[tactic(auto, unfolding(crate::specs::Readings::is_row_of))]
+#[tactic(auto, unfolding(crate::specs::Readings::is_row_of, crate::specs::PlanRows::number_in))]
 fn is_row_of(plan: &Plan, group: u16, round: u32, row: &ByteRecord) -> bool
     requires { group < length plan.now.groups }
     ensures { result ≡ is_row_of plan.now group round (fields_of row.now) }
@@ -50,9 +48,9 @@ fn is_row_of(plan: &Plan, group: u16, round: u32, row: &ByteRecord) -> bool
     if field(row, 0) != name.bytes() {
         return false;
     }
-    match number(field(row, 1), MOST_ROUND) {
-        Some(number) => number == u64::from(round),
-        None => false,
+    match number_field(row, 1) {
+        Ok(number) => number == round,
+        Err(_) => false,
     }
 }
 

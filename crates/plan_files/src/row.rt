@@ -1,16 +1,17 @@
-//! What the fields of a row of a plan file may hold.
+//! What the fields of a row may hold.
 ghost use Rattle.std.specs.Prelude.{◌≡◌};
 ghost use Rattle.csv.specs.Records.{fields_of};
 ghost use Rattle.plan_files.specs.PlanRows.{has_fields, key_in, name_in, number_in, starts_with};
 
 use crate::fault::FileCause;
-use crate::fields::{key, number};
 use crate::table::field;
 use csv::ByteRecord;
+use field_texts::read_number_within;
 use group_plan::Name;
+use hex::FromHex;
 
-/// The largest number of a plan file.
-const MOST_NUMBER: u64 = (1 << 32) - 1;
+/// The bound of all numbers but readings.
+const NUMBER_BOUND: u64 = 1 << 32;
 
 /// Whether the row's first field is this word.
 pub fn starts_with(row: &ByteRecord, word: &[u8]) -> bool
@@ -35,20 +36,20 @@ pub fn check_fields(row: &ByteRecord, count: usize) -> Result<(), FileCause>
 pub fn number_field(row: &ByteRecord, place: usize) -> Result<u32, FileCause>
     ensures { result ≡ number_in (fields_of row.now) place }
 {
-    match number(field(row, place), MOST_NUMBER) {
+    match read_number_within(field(row, place), 0, NUMBER_BOUND) {
         Some(number) => Ok(number as u32),
         None => Err(FileCause::Number),
     }
 }
 
-/// The key in the field at a place.
+/// The key of 64 hexadecimal digits of either case in the field at a place.
 #[tactic(auto, unfolding(crate::specs::PlanRows::key_in))]
 pub fn key_field(row: &ByteRecord, place: usize) -> Result<[u8; 32], FileCause>
     ensures { result ≡ key_in (fields_of row.now) place }
 {
-    match key(field(row, place)) {
-        Some(key) => Ok(key),
-        None => Err(FileCause::Hex),
+    match <[u8; 32] as FromHex>::from_hex(field(row, place)) {
+        Ok(key) => Ok(key),
+        Err(_) => Err(FileCause::Hex),
     }
 }
 

@@ -1,6 +1,6 @@
 //! The two batches of a tick: its Takes, and its Closes and Ends.
 
-ghost use Rattle.std.specs.Prelude.{◌≡◌, ◌++◌, ◌-◌, ◌≤◌, ◌<◌, List, [], ◌∷◌, length, map, All, IfOk, OnOk, if◌then◌else◌};
+ghost use Rattle.std.specs.Prelude.{◌≡◌, ◌++◌, ◌-◌, ◌≤◌, ◌<◌, List, [], ◌∷◌, length, map, All, Some, None, IfOk, OnOk, if◌then◌else◌};
 ghost use Rattle.transcript_log.specs.declared.Event.{Event};
 ghost use Rattle.transcript_log.specs.declared.Event.TheVariants.{Take};
 ghost use Rattle.transcript_text.specs.Transcripts.{last_tick_from, FitsLine};
@@ -131,38 +131,15 @@ pub(crate) fn take_copies<R: Threads + Wait + Sync, G: Gate>(
     commit_batch(rt, alloc, run, &batch, tick, workers, gate)
 }
 
-/// Adds the Close of the round that is due so many ticks after it began.
-fn add_close(
-    group: u16,
-    tick: u32,
-    window: u32,
-    rounds: u32,
-    batch: &mut Vec<Parcel>,
-) -> Result<(), AllocError>
-    ensures { OnOk result (batch.new.items ≡ batch.old.items ++ (if is_due rounds window tick then CloseParcel group (tick - window) ∷ [] else [])) }
+/// The round of which the window ends at the tick.
+fn due_round(rounds: u32, window: u32, tick: u32) -> Option<u32>
+    ensures { result ≡ (if is_due rounds window tick then Some (tick - window) else None) }
 {
     if window <= tick && tick - window < rounds {
-        let round = tick - window;
-        batch.push(Parcel::Close { group, round })?;
+        Some(tick - window)
+    } else {
+        None
     }
-    Ok(())
-}
-
-/// Adds the End of the round that is due so many ticks after it began.
-fn add_end(
-    group: u16,
-    tick: u32,
-    window: u32,
-    rounds: u32,
-    batch: &mut Vec<Parcel>,
-) -> Result<(), AllocError>
-    ensures { OnOk result (batch.new.items ≡ batch.old.items ++ (if is_due rounds window tick then EndParcel group (tick - window) ∷ [] else [])) }
-{
-    if window <= tick && tick - window < rounds {
-        let round = tick - window;
-        batch.push(Parcel::End { group, round })?;
-    }
-    Ok(())
 }
 
 /// Adds what is due at the tick in a group.
@@ -172,8 +149,13 @@ fn add_calls(plan: &Plan, group: u16, tick: u32, batch: &mut Vec<Parcel>) -> Res
     let rounds = plan.rounds();
     let closes = plan.w1();
     let ends = closes + plan.w2();
-    add_close(group, tick, closes, rounds, batch)?;
-    add_end(group, tick, ends, rounds, batch)
+    if let Some(round) = due_round(rounds, closes, tick) {
+        batch.push(Parcel::Close { group, round })?;
+    }
+    if let Some(round) = due_round(rounds, ends, tick) {
+        batch.push(Parcel::End { group, round })?;
+    }
+    Ok(())
 }
 
 /// The Closes and Ends that are due at the tick.

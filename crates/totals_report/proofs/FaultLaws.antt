@@ -4,7 +4,7 @@ use Rattle.std.specs.Prelude.{bytes_eq}
 use Rattle.std.specs.List.{join_with_byte, onto_first}
 use Rattle.std.proofs.lemmas.List.Elements.{All-cons, All-nil}
 use Rattle.std.proofs.lemmas.Slice.Eq.{bytes_eq-Decides}
-use Rattle.link_lanes.specs.Texts.{parts}
+use Rattle.field_texts.specs.Parts.{parts}
 use Rattle.totals_report.specs.declared.row.ReportRow.{ReportRow}
 use Rattle.totals_report.specs.declared.row.ReportError.{ReportError}
 use Rattle.totals_report.specs.declared.row.ReportError.TheVariants.{Line, Memory}
@@ -13,11 +13,11 @@ use Rattle.transcript_text.specs.Spelling.{ended}
 use Rattle.totals_report.specs.Texts.{heading, lines_text, row_line, rows_text}
 use Rattle.totals_report.specs.Reading.{Gives, before, no_rest, row_of, rows_below, rows_from, rows_of_text}
 use Rattle.totals_report.specs.Faults.{Begins, IsFirstFault, ReadEnds}
-use Rattle.totals_report.proofs.CutLemmas.{parts_some}
+use Rattle.field_texts.proofs.Cutting.{parts_some}
 use Rattle.totals_report.proofs.RowLaws.{line_clean, line_fields, row_again, row_back}
 use Rattle.totals_report.proofs.ReportLaws.{lines_cons, report_back}
-use Rattle.totals_report.proofs.SetLaws.{pick}
-use Rattle.totals_report.proofs.TextLemmas.{AllClean, clean, joined_parts, parts_at, parts_clean}
+use Rattle.field_texts.proofs.Choices.{pick}
+use Rattle.field_texts.proofs.TextLaws.{AllClean, clean, joined_parts, parts_at, parts_clean}
 
 -- ---- the parts of a text have no mark
 

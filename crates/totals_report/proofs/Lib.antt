@@ -1,12 +1,5 @@
-pub mod PlusLemmas
-pub mod CutLemmas
-pub mod NumberLemmas
-pub mod SetLemmas
 pub mod RowLemmas
 pub mod LineLemmas
-pub mod NumberLaws
-pub mod TextLemmas
-pub mod SetLaws
 pub mod RowLaws
 pub mod ReportLaws
 pub mod FaultLaws

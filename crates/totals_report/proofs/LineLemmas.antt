@@ -1,11 +1,11 @@
 -- Lines read one after another.
 use Rattle.std.proofs.Common.{◌≡◌, ◌<◌, ◌+◌, ℕ, true, false, List, [], ◌∷◌, ◌++◌, length, refl, ap, arith, sym, ◌∙◌, Option, Some, None, Result, Ok, Err, append_assoc, append-nil, if◌then◌else◌}
 use Rattle.std.specs.Prelude.{bytes_eq}
-use Rattle.link_lanes.specs.Texts.{parts}
+use Rattle.field_texts.specs.Parts.{parts}
 use Rattle.totals_report.specs.declared.row.ReportRow.{ReportRow}
 use Rattle.totals_report.specs.Texts.{heading}
 use Rattle.totals_report.specs.Reading.{before, no_rest, row_of, rows_from, rows_below, rows_of_text}
-use Rattle.totals_report.proofs.CutLemmas.{parts_some}
+use Rattle.field_texts.proofs.Cutting.{parts_some}
 
 -- these rows before what more there is
 abbrev pub onto : List ReportRow → Result (List ReportRow) ℕ → Result (List ReportRow) ℕ

@@ -4,16 +4,16 @@ use Rattle.std.specs.Prelude.{bytes_eq, IfOk}
 use Rattle.std.specs.List.{join_with_byte}
 use Rattle.std.proofs.lemmas.List.Elements.{All-cons, All-nil}
 use Rattle.std.proofs.lemmas.Slice.Eq.{bytes_eq-Decides}
-use Rattle.link_lanes.specs.Texts.{parts}
+use Rattle.field_texts.specs.Parts.{parts}
 use Rattle.totals_report.specs.declared.row.ReportRow.{ReportRow}
 use Rattle.totals_report.specs.Rows.{AreRows, IsRow}
 use Rattle.totals_report.specs.Texts.{heading, lines_text, row_line, rows_text}
 use Rattle.totals_report.specs.Reading.{before, no_rest, row_of, rows_below, rows_from, rows_of_text}
-use Rattle.totals_report.proofs.CutLemmas.{parts_some}
+use Rattle.field_texts.proofs.Cutting.{parts_some}
 use Rattle.totals_report.proofs.LineLemmas.{heading_read, opens}
 use Rattle.totals_report.proofs.RowLaws.{line_clean, line_fields, row_again, row_back}
-use Rattle.totals_report.proofs.SetLaws.{pick}
-use Rattle.totals_report.proofs.TextLemmas.{joined_parts, parts_at}
+use Rattle.field_texts.proofs.Choices.{pick}
+use Rattle.field_texts.proofs.TextLaws.{joined_parts, parts_at}
 
 pub lines_cons : (row : ReportRow) (rows : List ReportRow) → lines_text (row ∷ rows) ≡ row_line row ++ 10 ∷ lines_text rows
 unfolding lines_text

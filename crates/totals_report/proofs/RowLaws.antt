@@ -1,27 +1,29 @@
 -- A line that is written is read, and a line that is read was written so.
-use Rattle.std.proofs.Common.{◌≡◌, ◌<◌, ◌-◌, ◌^◌, ◌==◌, ◌&&◌, nat_le, ℕ, Bool, true, false, List, [], ◌∷◌, length, refl, sym, ap, subst, ◌∙◌, arith, Option, Some, None, inl, inr, IsTrue}
+use Rattle.std.proofs.Common.{◌≡◌, ◌<◌, ◌==◌, ◌&&◌, nat_le, ℕ, Bool, true, false, List, [], ◌∷◌, length, refl, sym, ap, subst, ◌∙◌, arith, Option, Some, None, inl, inr, IsTrue}
 use Rattle.std.specs.Prelude.{codes, bytes_eq}
 use Rattle.std.specs.List.{list_all}
 use Rattle.std.specs.Option.{option_map}
 use Rattle.std.proofs.lemmas.Bool.Decides.{nat_tests}
-use Rattle.std.proofs.lemmas.Slice.Eq.{bytes_eq-Decides}
 use Rattle.group_plan.specs.Names.{is_name, is_name_byte}
-use Rattle.link_lanes.specs.Texts.{number, parts}
+use Rattle.field_texts.specs.Numbers.{number_of, within}
+use Rattle.field_texts.specs.Parts.{parts}
 use Rattle.totals_report.specs.declared.row.ReportRow.{ReportRow}
 use Rattle.totals_report.specs.declared.row.RowOutcome.{RowOutcome}
 use Rattle.totals_report.specs.declared.row.RowOutcome.TheVariants.{Total, Lacking, Thin, Running}
 use Rattle.totals_report.specs.Rows.{IsRow, IsSmallTotal}
 use Rattle.totals_report.specs.Texts.{fields_of, outcome_word, row_line, total_text}
-use Rattle.totals_report.specs.Reading.{name_of, outcome_of, row_of, set_of, without_total}
-use Rattle.totals_report.proofs.NumberLaws.{number_again, number_back}
-use Rattle.totals_report.proofs.SetLaws.{bound, pick, set_again, set_back, set_clean}
-use Rattle.totals_report.proofs.TextLemmas.{AllClean, clean, clean-decimal, clean-joined, joined_parts, parts_joined}
+use Rattle.totals_report.specs.Reading.{◌>>=◌, name_of, outcome_of, row_of, without_total}
+use Rattle.field_texts.specs.Sets.{set_of}
+use Rattle.field_texts.proofs.NumberLaws.{number_again, number_back, within_again, within_back}
+use Rattle.field_texts.proofs.SetLaws.{clean_text, rising_set, set_again, set_back, set_rising}
+use Rattle.field_texts.proofs.Choices.{is_word, pick}
+use Rattle.field_texts.proofs.TextLaws.{AllClean, clean, clean_decimal, clean_joined, joined_parts, parts_joined}
 
 -- ---- forth
 
 outcome_again : (outcome : RowOutcome) → IsSmallTotal outcome → outcome_of (outcome_word outcome) (total_text outcome) ≡ Some outcome
 unfolding outcome_of
-outcome_again (Total total) small = let n = number_again 0 (2 ^ 64 - 1) total (omega arith) (omega (arith, small)) (omega arith) in rw n refl
+outcome_again (Total total) small = let n = number_again total small in rw n refl
 outcome_again Lacking small = refl
 outcome_again Thin small = refl
 outcome_again Running small = refl
@@ -29,9 +31,9 @@ outcome_again Running small = refl
 pub row_again : (row : ReportRow) → IsRow row → row_of (fields_of row) ≡ Some row
 unfolding row_of
 row_again row is =
-    let round = number_again 0 4095 row.round (omega arith) (omega (arith, is.round)) (omega arith) in
-    let survivors = number_again 0 256 row.survivors (omega arith) is.survivors (omega arith) in
-    let missing = set_again row.missing is.missing in
+    let round = within_again 0 4096 row.round (omega arith) is.round (omega arith) in
+    let survivors = within_again 0 257 row.survivors (omega arith) (omega (arith, is.survivors)) (omega arith) in
+    let missing = set_again 256 row.missing (omega arith) (set_rising 256 row.missing is.missing is.missing.small) in
     let outcome = outcome_again row.outcome is.total in
     rw (is.named, round, survivors, missing, outcome) refl
 
@@ -65,7 +67,7 @@ word_clean mark low Thin = grind (arith, nat_tests)
 word_clean mark low Running = grind (arith, nat_tests)
 
 total_clean : (mark : ℕ) (outcome : RowOutcome) → mark < 48 → IsSmallTotal outcome → clean mark (total_text outcome) ≡ true
-total_clean mark (Total total) low small = clean-decimal mark total low small
+total_clean mark (Total total) low small = clean_decimal mark total low small
 total_clean mark Lacking low small = refl
 total_clean mark Thin low small = refl
 total_clean mark Running low small = refl
@@ -73,8 +75,8 @@ total_clean mark Running low small = refl
 pub row_clean : (mark : ℕ) (row : ReportRow) → mark < 48 → is_name_byte mark ≡ false → (43 == mark) ≡ false → (45 == mark) ≡ false → IsRow row → AllClean mark (fields_of row)
 row_clean mark row low apart plus dash is =
     let name = both (nat_le 1 (length row.name) && nat_le (length row.name) 16) (list_all is_name_byte row.name) is.named in
-    all_six (name_clean mark row.name apart name.1) (clean-decimal mark row.round low (omega (arith, is.round))) (clean-decimal mark row.survivors low (omega (arith, is.survivors)))
-    (set_clean mark row.missing low plus dash is.missing) (word_clean mark low row.outcome) (total_clean mark row.outcome low is.total)
+    all_six (name_clean mark row.name apart name.1) (clean_decimal mark row.round low (omega (arith, is.round))) (clean_decimal mark row.survivors low (omega (arith, is.survivors)))
+    (clean_text mark 256 row.missing low plus dash (omega arith) is.missing.small) (word_clean mark low row.outcome) (total_clean mark row.outcome low is.total)
   where
     all_six : {a b c d e f : Type 0} → a → b → c → d → e → f → a × (b × (c × (d × (e × (f × Unit {0})))))
     all_six a b c d e f = (a, (b, (c, (d, (e, (f, tt))))))
@@ -87,12 +89,14 @@ line_fields row is = parts_joined 44 row.name _ (row_clean 44 row (omega arith) 
 -- a row's line has no newline
 pub line_clean : (row : ReportRow) → IsRow row → clean 10 (row_line row) ≡ true
 unfolding row_line
-line_clean row is = clean-joined 10 44 (fields_of row) refl (row_clean 10 row (omega arith) refl refl refl is)
+line_clean row is = clean_joined 10 44 (fields_of row) refl (row_clean 10 row (omega arith) refl refl refl is)
 
 -- ---- back
 
-is_word : (text word : List ℕ) → bytes_eq text word ≡ true → text ≡ word
-is_word text word h = (bytes_eq-Decides text word).0 h
+-- a step that gave something
+bound : {A B : Type 0} (first : Option A) (next : A → Option B) (y : B) → (first >>= next) ≡ Some y → (x : A) × (first ≡ Some x) × (next x ≡ Some y)
+bound (Some x) next y h = (x, refl, h)
+bound None next y h = absurd cc
 
 name_back : (text name : List ℕ) → name_of text ≡ Some name → (text ≡ name) × IsTrue (is_name name)
 name_back text name h = elim (pick (is_name text) (Some text) None (Some name) h) [
@@ -108,12 +112,12 @@ mapped : {A B : Type 0} (f : A → B) (o : Option A) (y : B) → option_map f o 
 mapped f None y h = absurd cc
 mapped f (Some x) y h = (x, refl, cc)
 
-total_back : (word total : List ℕ) (outcome : RowOutcome) → word ≡ codes "total" → option_map Total (number 0 (2 ^ 64 - 1) total) ≡ Some outcome → IsRead word total outcome
+total_back : (word total : List ℕ) (outcome : RowOutcome) → word ≡ codes "total" → option_map Total (number_of total) ≡ Some outcome → IsRead word total outcome
 total_back word total outcome w h =
-    let m = mapped Total (number 0 (2 ^ 64 - 1) total) outcome h in
-    let n = number_back 0 (2 ^ 64 - 1) m.0 total (omega arith) m.1 in
+    let m = mapped Total (number_of total) outcome h in
+    let n = number_back total m.0 m.1 in
     let P : RowOutcome → Type 0 = IsRead word total in
-    subst P m.2 (w, n.0, omega (arith, n.2))
+    subst P m.2 (w, n.0, n.1)
 
 word_back : (word total : List ℕ) (plain outcome : RowOutcome) → word ≡ outcome_word plain → total_text plain ≡ [] → IsSmallTotal plain → without_total plain total ≡ Some outcome → IsRead word total outcome
 word_back word total plain outcome w none small h = elim (pick (bytes_eq total []) (Some plain) None (Some outcome) h) [
@@ -151,18 +155,18 @@ six_back : (name round survivors missing outcome total : List ℕ) (row : Report
 unfolding row_of
 six_back name round survivors missing outcome total row h =
     let a = bound (name_of name) _ row h in
-    let b = bound (number 0 4095 round) _ row a.2 in
-    let d = bound (number 0 256 survivors) _ row b.2 in
-    let e = bound (set_of missing) _ row d.2 in
+    let b = bound (within 0 4096 (number_of round)) _ row a.2 in
+    let d = bound (within 0 257 (number_of survivors)) _ row b.2 in
+    let e = bound (set_of 256 missing) _ row d.2 in
     let f = bound (outcome_of outcome total) _ row e.2 in
     let same : record { name = a.0; round = b.0; survivors = d.0; missing = e.0; outcome = f.0 } ≡ row = cc in
     let named = name_back name a.0 a.1 in
-    let rounds = number_back 0 4095 b.0 round (omega arith) b.1 in
-    let counted = number_back 0 256 d.0 survivors (omega arith) d.1 in
-    let set = set_back missing e.0 e.1 in
+    let rounds = within_back 0 4096 b.0 round b.1 in
+    let counted = within_back 0 257 d.0 survivors d.1 in
+    let set = set_back 256 missing e.0 e.1 in
     let read = outcome_back outcome total f.0 f.1 in
     let P : ReportRow → Type 0 = IsOfRow (name ∷ round ∷ survivors ∷ missing ∷ outcome ∷ total ∷ []) in
-    subst P same (six named.0 rounds.0 counted.0 set.0 read.0 read.1, record { named = named.1; round = omega (arith, rounds.2); survivors = counted.2; missing = set.1; total = read.2 })
+    subst P same (six named.0 rounds.0 counted.0 set.0 read.0 read.1, record { named = named.1; round = rounds.2; survivors = omega (arith, counted.2); missing = rising_set 256 e.0 (omega arith) set.1; total = read.2 })
 
 fields_back : (texts : List (List ℕ)) (row : ReportRow) → row_of texts ≡ Some row → IsOfRow texts row
 unfolding row_of

@@ -1,8 +1,10 @@
 -- The rows that a text spells, line by line, or the first line that is not of the form.
-use Rattle.std.specs.Prelude.{◌≡◌, ℕ, ◌+◌, ◌-◌, ◌^◌, if◌then◌else◌, List, [], ◌∷◌, codes, bytes_eq, Option, None, Some, Result, Ok, Err, ⊤}
+use Rattle.std.specs.Prelude.{◌≡◌, ℕ, ◌+◌, if◌then◌else◌, List, [], ◌∷◌, codes, bytes_eq, Option, None, Some, Result, Ok, Err, ⊤}
 use Rattle.std.specs.Option.{option_map}
 use Rattle.group_plan.specs.Names.{is_name}
-use Rattle.link_lanes.specs.Texts.{number, parts}
+use Rattle.field_texts.specs.Numbers.{number_of, within}
+use Rattle.field_texts.specs.Sets.{set_of}
+use Rattle.field_texts.specs.Parts.{parts}
 use Rattle.totals_report.specs.declared.row.ReportRow.{ReportRow}
 use Rattle.totals_report.specs.declared.row.RowOutcome.{RowOutcome}
 use Rattle.totals_report.specs.declared.row.RowOutcome.TheVariants.{Total, Lacking, Thin, Running}
@@ -21,18 +23,6 @@ None >>= next = None
 abbrev pub name_of : List ℕ → Option (List ℕ)
 name_of text = if is_name text then Some text else None
 
--- meters below 256 that ascend from `low` on
-unfoldable pub ascending : ℕ → List (List ℕ) → Option (List ℕ)
-ascending low [] = Some []
-ascending low (text ∷ texts) = do
-  meter ← number low 255 text
-  others ← ascending (meter + 1) texts
-  Some (meter ∷ others)
-
--- the set of meters that a text spells
-unfoldable pub set_of : List ℕ → Option (List ℕ)
-set_of text = if bytes_eq text (codes "-") then Some [] else ascending 0 (parts 43 text)
-
 -- an outcome that has no number beside its word
 abbrev pub without_total : RowOutcome → List ℕ → Option RowOutcome
 without_total outcome total = if bytes_eq total [] then Some outcome else None
@@ -40,7 +30,7 @@ without_total outcome total = if bytes_eq total [] then Some outcome else None
 -- the outcome of its word and what stands beside it
 unfoldable pub outcome_of : List ℕ → List ℕ → Option RowOutcome
 outcome_of word total =
-    if bytes_eq word (codes "total") then option_map Total (number 0 (2 ^ 64 - 1) total) else
+    if bytes_eq word (codes "total") then option_map Total (number_of total) else
     if bytes_eq word (codes "none") then without_total Lacking total else
     if bytes_eq word (codes "thin") then without_total Thin total else
     if bytes_eq word (codes "open") then without_total Running total else None
@@ -51,9 +41,9 @@ outcome_of word total =
 unfoldable pub row_of : List (List ℕ) → Option ReportRow
 row_of (name ∷ round ∷ survivors ∷ missing ∷ outcome ∷ total ∷ []) = do
   name ← name_of name
-  round ← number 0 4095 round
-  survivors ← number 0 256 survivors
-  missing ← set_of missing
+  round ← within 0 4096 (number_of round)
+  survivors ← within 0 257 (number_of survivors)
+  missing ← set_of 256 missing
   outcome ← outcome_of outcome total
   Some (record { name = name; round = round; survivors = survivors; missing = missing; outcome = outcome })
 row_of _ = None

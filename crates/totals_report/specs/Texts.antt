@@ -1,7 +1,8 @@
 -- The text of a list of rows: a heading, and one line for each row.
 use Rattle.std.specs.Prelude.{ℕ, List, [], ◌∷◌, ◌++◌, codes, decimal}
 use Rattle.std.specs.List.{flat_map}
-use Rattle.transcript_text.specs.Spelling.{ended, joined, numbers_text}
+use Rattle.field_texts.specs.Sets.{numbers_text}
+use Rattle.transcript_text.specs.Spelling.{ended, joined}
 use Rattle.totals_report.specs.declared.row.ReportRow.{ReportRow}
 use Rattle.totals_report.specs.declared.row.RowOutcome.{RowOutcome}
 use Rattle.totals_report.specs.declared.row.RowOutcome.TheVariants.{Total, Lacking, Thin, Running}

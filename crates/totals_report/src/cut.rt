@@ -1,20 +1,7 @@
-//! Texts cut at a byte.
-ghost use Rattle.totals_report.specs.Cutting.{Cuts, SplitsRow};
+//! The fields of a line.
+ghost use Rattle.totals_report.specs.Cutting.{SplitsRow};
 
-/// What stands before the first such byte, and what stands after it.
-#[tactic(auto, using(crate::proofs::CutLemmas::cut_none))]
-pub(crate) fn cut(mark: u8, text: &[u8]) -> Option<(&[u8], &[u8])>
-    ensures { Cuts mark text.now result }
-{
-    let mut end = 0;
-    while end < text.len() {
-        if text[end] == mark {
-            return Some((&text[..end], &text[end + 1..]));
-        }
-        end += 1;
-    }
-    None
-}
+use field_texts::cut;
 
 /// The six fields of a row, as they are written.
 #[derive(Drop)]

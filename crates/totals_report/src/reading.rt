@@ -1,75 +1,20 @@
 //! Rows read from the text of a report.
-ghost use Rattle.std.specs.Prelude.{◌≡◌, ◌≤◌, List, IfSome};
-ghost use Rattle.link_lanes.specs.Texts.{number, parts};
+ghost use Rattle.std.specs.Prelude.{◌≡◌, List};
+ghost use Rattle.field_texts.specs.Parts.{parts};
 ghost use Rattle.totals_report.specs.declared.row.ReportRow.{ReportRow};
 ghost use Rattle.totals_report.specs.Rows.{AreRows};
 ghost use Rattle.totals_report.specs.Texts.{rows_text};
-ghost use Rattle.totals_report.specs.Reading.{set_of, outcome_of, without_total, row_of, rows_from, rows_of_text, Gives};
+ghost use Rattle.totals_report.specs.Reading.{outcome_of, without_total, row_of, rows_from, rows_of_text, Gives};
 ghost use Rattle.totals_report.specs.Faults.{ReadEnds};
 
-use crate::cut::{cut, split_row};
+use crate::cut::split_row;
 use crate::row::{Report, ReportError, ReportRow, RowOutcome};
+use field_texts::{cut, read_number, read_number_within, read_set};
 use group_plan::Name;
-use missing_round::MeterSet;
 use std::alloc::Global;
 
 /// The first line of a report.
 const HEADING: &[u8] = b"group,round,survivors,missing,outcome,total";
-
-/// The number from `low` to `high` that the text spells.
-#[tactic(auto, using(crate::proofs::NumberLemmas::number_empty, crate::proofs::NumberLemmas::number_zero, crate::proofs::NumberLemmas::number_start, crate::proofs::NumberLemmas::number_step, crate::proofs::NumberLemmas::number_stop, crate::proofs::NumberLemmas::number_large, crate::proofs::NumberLemmas::number_small, crate::proofs::NumberLemmas::number_end))]
-fn number(text: &[u8], low: u64, high: u64) -> Option<u64>
-    ensures value { result ≡ number low high text.now }
-    ensures range { IfSome result (λ n. (low ≤ n) × (n ≤ high)) }
-{
-    if text.is_empty() {
-        return None;
-    }
-    if text.len() > 1 && text[0] == b'0' {
-        return None;
-    }
-    let mut value = 0u64;
-    for digit in text {
-        if !digit.is_ascii_digit() {
-            return None;
-        }
-        value = value
-            .checked_mul(10)?
-            .checked_add(u64::from(*digit - b'0'))?;
-        if value > high {
-            return None;
-        }
-    }
-    if value < low {
-        return None;
-    }
-    Some(value)
-}
-
-/// The set of meters that the text spells.
-#[tactic(auto, using(crate::proofs::SetLemmas::none_ahead, crate::proofs::SetLemmas::set_bad, crate::proofs::SetLemmas::set_last), unfolding(crate::specs::Reading::set_of))]
-fn set(text: &[u8]) -> Option<MeterSet>
-    ensures { result ≡ set_of text.now }
-{
-    let mut set = MeterSet::empty();
-    if text == b"-".as_slice() {
-        return Some(set);
-    }
-    let mut low = 0u64;
-    let mut rest = text;
-    while let Some((part, after)) = cut(b'+', rest) {
-        let Some(meter) = number(part, low, 255) else {
-            return None;
-        };
-        set = set.with(meter as u8);
-        low = meter + 1;
-        rest = after;
-    }
-    let Some(meter) = number(rest, low, 255) else {
-        return None;
-    };
-    Some(set.with(meter as u8))
-}
 
 /// The outcome of this word, with this text beside it.
 #[tactic(auto, unfolding(crate::specs::Reading::outcome_of))]
@@ -77,7 +22,7 @@ fn outcome(word: &[u8], total: &[u8]) -> Option<RowOutcome>
     ensures { result ≡ outcome_of word.now total.now }
 {
     if word == b"total".as_slice() {
-        let total = number(total, 0, u64::MAX)?;
+        let total = read_number(total)?;
         return Some(RowOutcome::Total(total));
     }
     if word == b"none".as_slice() {
@@ -110,9 +55,9 @@ fn row(line: &[u8]) -> Option<ReportRow>
 {
     let fields = split_row(line)?;
     let name = Name::new(fields.name)?;
-    let round = number(fields.round, 0, 4095)?;
-    let survivors = number(fields.survivors, 0, 256)?;
-    let missing = set(fields.missing)?;
+    let round = read_number_within(fields.round, 0, 4096)?;
+    let survivors = read_number_within(fields.survivors, 0, 257)?;
+    let missing = read_set(fields.missing, 256)?;
     let outcome = outcome(fields.outcome, fields.total)?;
     Some(ReportRow {
         name,

@@ -1,39 +1,17 @@
 //! Reports and summaries as text.
 ghost use Rattle.std.specs.Prelude.{◌≡◌, ◌++◌, ◌∷◌, [], decimal, IfOk, OnOk};
-ghost use Rattle.transcript_text.specs.Spelling.{joined, numbers_text};
+ghost use Rattle.field_texts.specs.Sets.{numbers_text};
+ghost use Rattle.transcript_text.specs.Spelling.{joined};
 ghost use Rattle.totals_report.specs.Texts.{outcome_word, total_text, row_line, rows_text};
 ghost use Rattle.totals_report.specs.Counts.{summary_of};
 ghost use Rattle.totals_report.specs.Reports.{summary_text};
 
 use crate::counts::Counts;
 use crate::row::{ReportRow, RowOutcome};
+use field_texts::{put_number, put_set};
 use group_plan::Name;
-use itoa::Buffer;
 use missing_round::MeterSet;
 use std::alloc::{AllocError, Global};
-
-fn put_number(out: &mut Vec<u8>, number: u64) -> Result<(), AllocError>
-    ensures { OnOk result (out.new.items ≡ out.old.items ++ decimal number) }
-{
-    let mut buffer = Buffer::new();
-    out.extend_from_slice(buffer.format(number).as_bytes())
-}
-
-#[tactic(auto, using(crate::proofs::PlusLemmas::plus_more))]
-fn put_set(out: &mut Vec<u8>, set: MeterSet) -> Result<(), AllocError>
-    ensures { OnOk result (out.new.items ≡ out.old.items ++ numbers_text set) }
-{
-    let mut members = set.members();
-    let Some(first) = members.next() else {
-        return out.extend_from_slice(b"-");
-    };
-    put_number(out, u64::from(first))?;
-    for meter in members {
-        out.extend_from_slice(b"+")?;
-        put_number(out, u64::from(meter))?;
-    }
-    Ok(())
-}
 
 // The word of an outcome and its total, parted by a comma.
 fn put_outcome(out: &mut Vec<u8>, outcome: RowOutcome) -> Result<(), AllocError>

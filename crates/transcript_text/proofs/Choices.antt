@@ -1,9 +1,7 @@
 -- What a step, a choice or a test that went well says.
-use Rattle.std.proofs.Common.{◌≡◌, ◌==◌, ◌&&◌, ℕ, Bool, true, false, if◌then◌else◌, List, [], ◌∷◌, length, refl, ap, arith, Option, Some, None, Result, Ok, Err, ◌⊎◌, inl, inr}
+use Rattle.std.proofs.Common.{◌≡◌, ◌==◌, ◌&&◌, ℕ, Bool, true, false, List, [], ◌∷◌, length, refl, ap, arith, Option, Some, None, Result, Ok, Err}
 use Rattle.std.specs.Option.{ok_or, option_map}
-use Rattle.std.specs.Str.{bytes_eq}
 use Rattle.std.proofs.lemmas.Bool.Decides.{nat_tests}
-use Rattle.std.proofs.lemmas.Slice.Eq.{bytes_eq-Decides}
 use Rattle.transcript_text.specs.Parts.{at}
 use Rattle.transcript_text.specs.Reading.{◌>>=◌}
 
@@ -18,13 +16,6 @@ ok_some (Some y) e x h = cc
 pub mapped : {A B E : Type 0} (f : A → B) (o : Option A) (e : E) (y : B) → ok_or (option_map f o) e ≡ Ok y → (x : A) × (o ≡ Some x) × (f x ≡ y)
 mapped f None e y h = absurd cc
 mapped f (Some x) e y h = (x, refl, cc)
-
-pub pick : {A : Type 0} (b : Bool) (x y z : A) → (if b then x else y) ≡ z → ((b ≡ true) × (x ≡ z)) ⊎ ((b ≡ false) × (y ≡ z))
-pick true x y z h = inl (refl, h)
-pick false x y z h = inr (refl, h)
-
-pub is_word : (text word : List ℕ) → bytes_eq text word ≡ true → text ≡ word
-is_word text word h = (bytes_eq-Decides text word).0 h
 
 pub test_of : (a b : Bool) → (a && b) ≡ true → (a ≡ true) × (b ≡ true)
 test_of true b h = (refl, h)

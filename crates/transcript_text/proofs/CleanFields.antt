@@ -21,10 +21,12 @@ use Rattle.transcript_log.specs.declared.Line.TheVariants.{Send, Take, Close, En
 use Rattle.transcript_log.specs.declared.Entry.{Entry}
 use Rattle.transcript_text.specs.declared.version.Version.{Version}
 use Rattle.transcript_text.specs.Transcripts.{Fits, FitsLine, HasPlace, HasRound, IsEntry, IsFate, IsLine}
-use Rattle.transcript_text.specs.Spelling.{closing_fields, ending_fields, fields_of, frame_bytes, kind_text, line_fields, numbers_text, verdict_text}
+use Rattle.field_texts.specs.Sets.{numbers_text}
+use Rattle.transcript_text.specs.Spelling.{closing_fields, ending_fields, fields_of, frame_bytes, kind_text, line_fields, verdict_text}
 use Rattle.transcript_text.proofs.Choices.{test_of}
-use Rattle.transcript_text.proofs.TextLaws.{AllClean, clean, clean_decimal}
-use Rattle.transcript_text.proofs.SetTexts.{clean_text, fate_small}
+use Rattle.field_texts.proofs.TextLaws.{AllClean, clean, clean_decimal}
+use Rattle.field_texts.proofs.SetLaws.{clean_text}
+use Rattle.transcript_text.proofs.FateTexts.{fate_small}
 use Rattle.transcript_text.proofs.FrameBytes.{clean_digits}
 use Rattle.transcript_text.proofs.EntryAgain.{IsSmall}
 

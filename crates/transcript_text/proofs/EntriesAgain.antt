@@ -7,14 +7,14 @@ use Rattle.group_plan.specs.Plans.{PlanView}
 use Rattle.transcript_log.specs.declared.Entry.{Entry}
 use Rattle.transcript_text.specs.declared.version.Version.{Version}
 use Rattle.transcript_text.specs.declared.fault.Row.TheVariants as row
-use Rattle.transcript_text.specs.Parts.{parts}
+use Rattle.field_texts.specs.Parts.{parts}
 use Rattle.transcript_text.specs.Transcripts.{Fits, IsEntry, NeverFalls}
 use Rattle.transcript_text.specs.Spelling.{ended, entries_text, entry_text, fields_of}
 use Rattle.transcript_text.specs.Reading.{after_row, before, entries_from, row_of}
 use Rattle.transcript_text.specs.ReadBack.{HasHead}
-use Rattle.transcript_text.proofs.NumberLaws.{number_again}
-use Rattle.transcript_text.proofs.TextLaws.{AllClean, clean, clean_append, clean_decimal, clean_joined, parts_at, parts_clean, parts_joined}
-use Rattle.transcript_text.proofs.Cutting.{parts_some}
+use Rattle.field_texts.proofs.NumberLaws.{number_again}
+use Rattle.field_texts.proofs.TextLaws.{AllClean, clean, clean_append, clean_decimal, clean_joined, parts_at, parts_clean, parts_joined}
+use Rattle.field_texts.proofs.Cutting.{parts_some}
 use Rattle.transcript_text.proofs.EntryLoop.{opens}
 use Rattle.transcript_text.proofs.EntryAgain.{IsSmall}
 use Rattle.transcript_text.proofs.LineAgain.{row_again}

@@ -13,11 +13,11 @@ use Rattle.transcript_text.specs.declared.fault.Row.TheVariants as row
 use Rattle.transcript_text.specs.declared.fault.RowFault.{RowFault}
 use Rattle.transcript_text.specs.declared.fault.ReadError.{ReadError}
 use Rattle.transcript_text.specs.declared.fault.ReadError.TheVariants as fault
-use Rattle.transcript_text.specs.Parts.{parts}
+use Rattle.field_texts.specs.Parts.{parts}
 use Rattle.transcript_text.specs.Transcripts.{Fits, IsEntry, NeverFalls}
 use Rattle.transcript_text.specs.Spelling.{ended, entries_text, entry_text, fields_of}
 use Rattle.transcript_text.specs.Reading.{after_row, before, entries_from, is_done, row_of}
-use Rattle.transcript_text.proofs.TextLaws.{joined_parts}
+use Rattle.field_texts.proofs.TextLaws.{joined_parts}
 use Rattle.transcript_text.proofs.EntryBack.{end_back, row_back}
 
 pub text_cons : (version : Version) (count : ℕ) (e : Entry) (es : List Entry) → entries_text version count (e ∷ es) ≡ entry_text version e ++ 10 ∷ entries_text version (count + 1) es

@@ -16,12 +16,14 @@ use Rattle.round_machine.specs.declared.Closing.TheVariants as closing
 use Rattle.transcript_log.specs.declared.Line.TheVariants.{Send, Take, Close}
 use Rattle.transcript_text.specs.declared.version.Version.{Version}
 use Rattle.transcript_text.specs.declared.fault.Row.TheVariants as row
-use Rattle.transcript_text.specs.Numbers.{number_of, within}
+use Rattle.field_texts.specs.Numbers.{number_of, within}
 use Rattle.transcript_text.specs.Transcripts.{FitsClosing, HasPlace, IsFate, IsLine, IsPlan}
-use Rattle.transcript_text.specs.Spelling.{closing_fields, fields_of, frame_bytes, kind_text, numbers_text, verdict_text}
+use Rattle.field_texts.specs.Sets.{numbers_text}
+use Rattle.transcript_text.specs.Spelling.{closing_fields, fields_of, frame_bytes, kind_text, verdict_text}
 use Rattle.transcript_text.specs.Reading.{closing_of, fate_of, kind_of, row_of, send_of, sent_of, tag_of, take_of, verdict_of}
-use Rattle.transcript_text.proofs.NumberLaws.{within_again}
-use Rattle.transcript_text.proofs.SetTexts.{fate_again, set_again, set_rising}
+use Rattle.field_texts.proofs.NumberLaws.{within_again}
+use Rattle.field_texts.proofs.SetLaws.{set_again, set_rising}
+use Rattle.transcript_text.proofs.FateTexts.{fate_again}
 
 kind_again : (k : Kind) → kind_of (kind_text k) ≡ Some k
 kind_again Reading = refl

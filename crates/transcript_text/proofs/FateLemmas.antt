@@ -3,11 +3,12 @@ use Rattle.std.proofs.Common.{◌≡◌, ◌∙◌, ◌<◌, ℕ, zero, suc, Lis
 use Rattle.link_lanes.specs.declared.FateError.{FateError}
 use Rattle.link_lanes.specs.declared.FateError.TheVariants.{Copies, Delay, Order}
 use Rattle.link_lanes.specs.Fates.{MakesFate}
-use Rattle.transcript_text.specs.Numbers.{number_of, within}
-use Rattle.transcript_text.specs.Parts.{parts}
+use Rattle.field_texts.specs.Numbers.{number_of, within}
+use Rattle.field_texts.specs.Parts.{parts}
 use Rattle.transcript_text.specs.Transcripts.{IsFate}
-use Rattle.transcript_text.specs.Reading.{ahead, delays_from, with_first}
-use Rattle.transcript_text.proofs.Cutting.{parts_some}
+use Rattle.field_texts.specs.Sets.{ahead, with_first}
+use Rattle.transcript_text.specs.Reading.{delays_from}
+use Rattle.field_texts.proofs.Cutting.{parts_some}
 
 -- what is a fate is made one
 pub is_fate : (delays : List ℕ) (e : FateError) → IsFate delays → MakesFate delays (Err e) → ⊥

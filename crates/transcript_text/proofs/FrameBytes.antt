@@ -16,8 +16,9 @@ use Rattle.transcript_text.specs.declared.version.Version.{Version}
 use Rattle.transcript_text.specs.declared.version.Version.TheVariants.{One, Two}
 use Rattle.transcript_text.specs.Spelling.{frame_bytes}
 use Rattle.transcript_text.specs.Reading.{frame_size}
-use Rattle.transcript_text.proofs.Choices.{is_word, test_of}
-use Rattle.transcript_text.proofs.TextLaws.{clean}
+use Rattle.field_texts.proofs.Choices.{is_word}
+use Rattle.transcript_text.proofs.Choices.{test_of}
+use Rattle.field_texts.proofs.TextLaws.{clean}
 
 -- ---- bytes
 

@@ -20,7 +20,7 @@ use Rattle.transcript_text.specs.declared.version.Version.{Version}
 use Rattle.transcript_text.specs.declared.version.Version.TheVariants.{One, Two}
 use Rattle.transcript_text.specs.Spelling.{frame_bytes}
 use Rattle.transcript_text.specs.Reading.{bytes_of, frame_of, frame_of_bytes, frame_of_some, if_written}
-use Rattle.transcript_text.proofs.Choices.{pick}
+use Rattle.field_texts.proofs.Choices.{pick}
 
 abbrev found : {E : Type 0} (broken : Option E) (o : Option Kind) (frame : Kind → Frame) → Option Frame
 found broken o frame = if is_some broken then None else option_map frame o

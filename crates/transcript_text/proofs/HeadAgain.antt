@@ -14,14 +14,14 @@ use Rattle.transcript_text.specs.declared.version.Version.{Version}
 use Rattle.transcript_text.specs.declared.version.Version.TheVariants.{One, Two}
 use Rattle.transcript_text.specs.declared.head.Start.{Start}
 use Rattle.transcript_text.specs.declared.head.HeadRow.TheVariants as row
-use Rattle.transcript_text.specs.Parts.{parts}
-use Rattle.transcript_text.specs.Numbers.{number_of, within}
+use Rattle.field_texts.specs.Parts.{parts}
+use Rattle.field_texts.specs.Numbers.{number_of, within}
 use Rattle.transcript_text.specs.Transcripts.{IsPlan}
 use Rattle.transcript_text.specs.Spelling.{ended, group_fields, groups_text, head_text, joined, member_fields, members_text, rounds_fields, stated_spans, title, windows_fields}
 use Rattle.transcript_text.specs.Heads.{AreStated, at_begin, has_version, head_from, head_of, head_row, plan_at, rounds_of, span_fits, start_of, title_of, unless_fault, windows_of}
 use Rattle.transcript_text.proofs.Choices.{test_of}
-use Rattle.transcript_text.proofs.NumberLaws.{within_again}
-use Rattle.transcript_text.proofs.TextLaws.{AllClean, clean, clean_decimal, clean_joined, parts_at, parts_joined}
+use Rattle.field_texts.proofs.NumberLaws.{within_again}
+use Rattle.field_texts.proofs.TextLaws.{AllClean, clean, clean_decimal, clean_joined, parts_at, parts_joined}
 use Rattle.transcript_text.proofs.HeadLoop.{begins, group_more, member_more, start_is}
 use Rattle.transcript_text.proofs.SpanFaults.{fitting}
 use Rattle.transcript_text.proofs.SpanAgain.{meters_stated, plan_again, stated_fit}

@@ -13,8 +13,9 @@ use Rattle.transcript_text.specs.declared.fault.ReadError.TheVariants as fault
 use Rattle.transcript_text.specs.Parts.{at}
 use Rattle.transcript_text.specs.Spelling.{group_fields, member_fields}
 use Rattle.transcript_text.specs.Heads.{group_row, head_number, head_row, is_two, member_row, name_of, span_fits}
-use Rattle.transcript_text.proofs.NumberLaws.{within_back}
-use Rattle.transcript_text.proofs.Choices.{bind_ok, is_word, long_of, ok_some, pick, spell_five, spell_four, spell_one, test_of}
+use Rattle.field_texts.proofs.NumberLaws.{within_back}
+use Rattle.field_texts.proofs.Choices.{is_word, pick}
+use Rattle.transcript_text.proofs.Choices.{bind_ok, long_of, ok_some, spell_five, spell_four, spell_one, test_of}
 
 pub number_back : (n m : ℕ) (text : List ℕ) → head_number n text ≡ Ok m → (text ≡ decimal m) × (m < 2 ^ 32)
 number_back n m text h = let w = within_back 0 (2 ^ 32) m text (ok_some _ _ _ h) in (w.0, w.2)

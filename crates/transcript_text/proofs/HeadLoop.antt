@@ -13,10 +13,10 @@ use Rattle.transcript_text.specs.declared.head.HeadRow.{HeadRow}
 use Rattle.transcript_text.specs.declared.head.HeadRow.TheVariants as row
 use Rattle.transcript_text.specs.declared.fault.ReadError.{ReadError}
 use Rattle.transcript_text.specs.declared.fault.ReadError.TheVariants as fault
-use Rattle.transcript_text.specs.Parts.{parts}
+use Rattle.field_texts.specs.Parts.{parts}
 use Rattle.transcript_text.specs.Reading.{Fails}
 use Rattle.transcript_text.specs.Heads.{AreStated, HeadRead, after_head_row, at_begin, head_from, head_row, last_span, next_line, plan_at, refused, rounds_of, span_fits, start_of, title_of, unless_fault, windows_of, with_rest}
-use Rattle.transcript_text.proofs.Cutting.{parts_some}
+use Rattle.field_texts.proofs.Cutting.{parts_some}
 use Rattle.transcript_text.proofs.HeadBack.{group_back, member_back}
 
 -- ---- the first three lines

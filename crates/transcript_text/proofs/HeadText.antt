@@ -19,12 +19,14 @@ use Rattle.transcript_text.specs.declared.head.HeadRow.{HeadRow}
 use Rattle.transcript_text.specs.declared.head.HeadRow.TheVariants as row
 use Rattle.transcript_text.specs.declared.fault.ReadError.{ReadError}
 use Rattle.transcript_text.specs.declared.fault.ReadError.TheVariants as fault
-use Rattle.transcript_text.specs.Parts.{at, parts}
+use Rattle.field_texts.specs.Parts.{parts}
+use Rattle.transcript_text.specs.Parts.{at}
 use Rattle.transcript_text.specs.Spelling.{ended, group_fields, groups_text, head_text, joined, member_fields, members_text, rounds_fields, start_text, stated_spans, title, windows_fields}
 use Rattle.transcript_text.specs.Heads.{AreStated, HeadRead, after_head_row, at_begin, has_version, head_from, head_number, head_of, head_row, is_two, next_line, plan_at, rounds_of, span_fits, start_of, title_of, two_numbers, unless_fault, windows_of, with_rest}
 use Rattle.transcript_text.specs.ReadBack.{HasHead}
-use Rattle.transcript_text.proofs.Choices.{bind_ok, is_word, long_of, pick, spell_one, spell_three, spell_two, test_of}
-use Rattle.transcript_text.proofs.TextLaws.{joined_parts}
+use Rattle.field_texts.proofs.Choices.{is_word, pick}
+use Rattle.transcript_text.proofs.Choices.{bind_ok, long_of, spell_one, spell_three, spell_two, test_of}
+use Rattle.field_texts.proofs.TextLaws.{joined_parts}
 use Rattle.transcript_text.proofs.HeadBack.{begin_back, group_back, member_back, number_back}
 use Rattle.transcript_text.proofs.SpanWalk.{spans_stated}
 

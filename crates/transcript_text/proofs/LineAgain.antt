@@ -23,11 +23,13 @@ use Rattle.transcript_text.specs.declared.version.Version.{Version}
 use Rattle.transcript_text.specs.declared.version.Version.TheVariants.{One, Two}
 use Rattle.transcript_text.specs.declared.fault.Row.TheVariants as row
 use Rattle.transcript_text.specs.Transcripts.{Fits, FitsClosing, FitsEnding, FitsLine, FitsTag, HasPlace, HasRound, IsEntry, IsFate, IsLine, IsWithin}
-use Rattle.transcript_text.specs.Spelling.{closing_fields, ending_fields, fields_of, frame_bytes, numbers_text}
+use Rattle.field_texts.specs.Sets.{numbers_text}
+use Rattle.transcript_text.specs.Spelling.{closing_fields, ending_fields, fields_of, frame_bytes}
 use Rattle.transcript_text.specs.Reading.{close_of, closing_of, end_of, ending_of, fitting, frame_of, frame_of_bytes, frame_of_some, frame_size, row_of, sent_of}
 use Rattle.transcript_text.specs.ReadBack.{HasHead}
-use Rattle.transcript_text.proofs.NumberLaws.{number_again, within_again}
-use Rattle.transcript_text.proofs.SetTexts.{all_within, set_again, set_rising}
+use Rattle.field_texts.proofs.NumberLaws.{number_again, within_again}
+use Rattle.field_texts.proofs.SetLaws.{set_again, set_rising}
+use Rattle.transcript_text.proofs.FateTexts.{all_within}
 use Rattle.transcript_text.proofs.FrameTexts.{bytes_again, frame_again, old_frame_again}
 use Rattle.transcript_text.proofs.FrameBytes.{not_void, spelled_bytes, spelled_length}
 use Rattle.transcript_text.proofs.EntryAgain.{IsSmall, closing_again, send_again, take_again, void_send_again}

@@ -3,12 +3,12 @@ use Rattle.std.proofs.Common.{◌≡◌, ◌∙◌, ℕ, List, ◌++◌, refl, a
 use Rattle.group_plan.specs.Plans.{PlanView}
 use Rattle.transcript_log.specs.declared.Entry.{Entry}
 use Rattle.transcript_text.specs.declared.version.Version.{Version}
-use Rattle.transcript_text.specs.Parts.{parts}
+use Rattle.field_texts.specs.Parts.{parts}
 use Rattle.transcript_text.specs.Transcripts.{IsPlan, IsTranscript}
 use Rattle.transcript_text.specs.Spelling.{head_text, text_of}
 use Rattle.transcript_text.specs.Reading.{entries_from}
 use Rattle.transcript_text.specs.Heads.{HeadRead, head_of}
-use Rattle.transcript_text.proofs.TextLaws.{joined_parts}
+use Rattle.field_texts.proofs.TextLaws.{joined_parts}
 use Rattle.transcript_text.proofs.HeadText.{head_is}
 use Rattle.transcript_text.proofs.EntriesBack.{entries_back, follow_are, follow_fit, follow_rise}
 

@@ -20,8 +20,9 @@ use Rattle.transcript_text.specs.declared.head.HeadRow.TheVariants as row
 use Rattle.transcript_text.specs.declared.head.Head.{Head}
 use Rattle.transcript_text.specs.declared.fault.ReadError.{ReadError}
 use Rattle.transcript_text.specs.declared.fault.ReadError.TheVariants as fault
-use Rattle.transcript_text.specs.Parts.{at, parts}
-use Rattle.transcript_text.specs.Numbers.{number_of, within}
+use Rattle.field_texts.specs.Parts.{parts}
+use Rattle.transcript_text.specs.Parts.{at}
+use Rattle.field_texts.specs.Numbers.{number_of, within}
 use Rattle.transcript_text.specs.Spelling.{is_partial, title}
 use Rattle.transcript_text.specs.Transcripts.{TranscriptView}
 use Rattle.transcript_text.specs.Reading.{◌>>=◌, Fails, entries_from}

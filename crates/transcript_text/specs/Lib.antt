@@ -2,7 +2,6 @@ pub mod Transcripts
 pub mod Spelling
 pub mod Writing
 pub mod Parts
-pub mod Numbers
 pub mod Reading
 pub mod Heads
 pub mod ReadBack

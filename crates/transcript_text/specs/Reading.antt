@@ -29,8 +29,10 @@ use Rattle.transcript_text.specs.declared.fault.RowFault.{RowFault}
 use Rattle.transcript_text.specs.declared.fault.RowFault.TheVariants as row_fault
 use Rattle.transcript_text.specs.declared.fault.ReadError.{ReadError}
 use Rattle.transcript_text.specs.declared.fault.ReadError.TheVariants as fault
-use Rattle.transcript_text.specs.Parts.{at, parts}
-use Rattle.transcript_text.specs.Numbers.{number_of, within}
+use Rattle.field_texts.specs.Parts.{parts}
+use Rattle.transcript_text.specs.Parts.{at}
+use Rattle.field_texts.specs.Numbers.{number_of, within}
+use Rattle.field_texts.specs.Sets.{set_of, with_first}
 
 -- a step after one that went well
 infixl 10 ◌>>=◌
@@ -53,25 +55,6 @@ verdict_of text =
 -- what stands where nothing is to be said
 abbrev pub dash_of : {A : Type 0} → A → List ℕ → Option A
 dash_of x text = if bytes_eq text (codes "-") then Some x else None
-
--- a list before what more is, if it is
-abbrev pub ahead : List ℕ → Option (List ℕ) → Option (List ℕ)
-ahead xs None = None
-ahead xs (Some ys) = Some (xs ++ ys)
-
--- a number before what follows it, if both are
-abbrev pub with_first : Option ℕ → (ℕ → Option (List ℕ)) → Option (List ℕ)
-with_first None rest = None
-with_first (Some x) rest = ahead (x ∷ []) (rest x)
-
--- numbers that ascend, from low on and below high
-unfoldable pub ascending : ℕ → ℕ → List (List ℕ) → Option (List ℕ)
-ascending low high [] = Some []
-ascending low high (p ∷ ps) = with_first (within low high (number_of p)) (λ x. ascending (x + 1) high ps)
-
--- a set of meters below high
-unfoldable pub set_of : ℕ → List ℕ → Option (List ℕ)
-set_of high text = if bytes_eq text (codes "-") then Some [] else ascending 0 high (parts 43 text)
 
 -- up to k delays that don't fall, from low on
 unfoldable pub delays_from : ℕ → ℕ → List (List ℕ) → Option (List ℕ)

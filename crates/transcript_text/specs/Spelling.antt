@@ -21,16 +21,12 @@ use Rattle.round_machine.specs.declared.Ending.TheVariants as ending
 use Rattle.transcript_log.specs.declared.Line.{Line}
 use Rattle.transcript_log.specs.declared.Line.TheVariants.{Send, Take, Close, End}
 use Rattle.transcript_log.specs.declared.Entry.{Entry}
+use Rattle.field_texts.specs.Sets.{numbers_text}
 use Rattle.transcript_text.specs.Transcripts.{TranscriptView}
 use Rattle.transcript_text.specs.declared.version.Version.{Version}
 use Rattle.transcript_text.specs.declared.version.Version.TheVariants.{One, Two}
 
 -- ---- parts of a line
-
--- numbers joined by `+`, or `-` where there is none
-abbrev pub numbers_text : List ℕ → List ℕ
-numbers_text [] = codes "-"
-numbers_text (x ∷ xs) = join_with_byte 43 (map decimal (x ∷ xs))
 
 -- the letter of a kind
 abbrev pub kind_text : Kind → List ℕ

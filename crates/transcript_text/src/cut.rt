@@ -1,33 +1,9 @@
-//! Texts cut at a byte.
+//! The fields of a line.
 ghost use Rattle.std.specs.Prelude.{◌≡◌, ◌<◌, ◌≤◌, length, MatchOption};
-ghost use Rattle.transcript_text.specs.Parts.{parts, at, Cuts, view, AreFields};
+ghost use Rattle.field_texts.specs.Parts.{parts, Cuts};
+ghost use Rattle.transcript_text.specs.Parts.{at, view, AreFields};
 
-use memchr::memchr;
-
-/// The text before the first `stop`, and that after it.
-#[tactic(auto, using(crate::proofs::Cutting::cut_none, crate::proofs::Cutting::cut_here))]
-pub(crate) fn cut(stop: u8, bytes: &[u8]) -> Option<(&[u8], &[u8])>
-    ensures { Cuts stop bytes.now result }
-{
-    let mut end = 0;
-    while end < bytes.len() {
-        if bytes[end] == stop {
-            return Some((&bytes[..end], &bytes[end + 1..]));
-        }
-        end += 1;
-    }
-    None
-}
-
-/// The same, for long texts.
-pub(crate) fn cut_far(stop: u8, bytes: &[u8]) -> Option<(&[u8], &[u8])>
-    ensures { Cuts stop bytes.now result }
-{
-    match memchr(stop, bytes) {
-        Some(end) => Some((&bytes[..end], &bytes[end + 1..])),
-        None => None,
-    }
-}
+use field_texts::cut;
 
 /// The fields of a line.
 #[derive(Drop)]

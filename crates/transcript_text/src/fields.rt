@@ -4,15 +4,15 @@ ghost use Rattle.std.specs.Option.{ok_or};
 ghost use Rattle.transcript_log.specs.Events.{same_kind, is_tag};
 ghost use Rattle.transcript_text.specs.declared.version.Version.TheVariants.{One, Two};
 ghost use Rattle.transcript_text.specs.declared.fault.RowFault.TheVariants.{Field};
-ghost use Rattle.transcript_text.specs.Numbers.{number_of, within};
-ghost use Rattle.transcript_text.specs.Parts.{parts};
+ghost use Rattle.field_texts.specs.Numbers.{number_of, within};
+ghost use Rattle.field_texts.specs.Parts.{parts};
 ghost use Rattle.transcript_text.specs.Transcripts.{IsFate};
-ghost use Rattle.transcript_text.specs.Reading.{ahead, kind_of, verdict_of, dash_of, set_of, fate_of, delays_from, bytes_of, frame_of_bytes, frame_of, is_within, fitting, sent_of, closing_of, ending_of};
+ghost use Rattle.field_texts.specs.Sets.{ahead, set_of};
+ghost use Rattle.transcript_text.specs.Reading.{kind_of, verdict_of, dash_of, fate_of, delays_from, bytes_of, frame_of_bytes, frame_of, is_within, fitting, sent_of, closing_of, ending_of};
 
 use crate::Version;
-use crate::cut::cut;
 use crate::fault::RowFault;
-use crate::number::{number, number_within};
+use field_texts::{cut, read_number, read_number_within, read_set};
 use group_plan::{Kind, Tag};
 use hex::FromHex;
 use link_lanes::Fate;
@@ -61,49 +61,16 @@ fn dash(text: &[u8]) -> Result<(), RowFault>
     }
 }
 
-/// The set that the text writes, of meters below `high`.
-#[tactic(auto, using(crate::proofs::SetLoop::set_last, crate::proofs::SetLoop::set_bad), unfolding(crate::specs::Reading::set_of))]
-fn set(high: u32, text: &[u8]) -> Option<MeterSet>
-    requires { high ≤ 256 }
-    ensures { result ≡ set_of high text.now }
-{
-    let mut set = MeterSet::empty();
-    if text == b"-".as_slice() {
-        return Some(set);
-    }
-    let mut low = 0u64;
-    let mut rest = text;
-    for _ in 0..256u16 {
-        match cut(b'+', rest) {
-            None => {
-                let Some(meter) = number_within(low, u64::from(high), rest) else {
-                    return None;
-                };
-                return Some(set.with(meter as u8));
-            }
-            Some((part, after)) => {
-                let Some(meter) = number_within(low, u64::from(high), part) else {
-                    return None;
-                };
-                set = set.with(meter as u8);
-                low = meter + 1;
-                rest = after;
-            }
-        }
-    }
-    None
-}
-
 #[tactic(auto, unfolding(crate::specs::Reading::closing_of))]
 pub(crate) fn closing(size: u32, word: &[u8], text: &[u8]) -> Result<Closing, RowFault>
     requires { size ≤ 256 }
     ensures { result ≡ closing_of size word.now text.now }
 {
     if word == b"announced".as_slice() {
-        let set = set(size, text).ok_or(RowFault::Field(6))?;
+        let set = read_set(text, size).ok_or(RowFault::Field(6))?;
         Ok(Closing::Announced(set))
     } else if word == b"thin".as_slice() {
-        let set = set(size, text).ok_or(RowFault::Field(6))?;
+        let set = read_set(text, size).ok_or(RowFault::Field(6))?;
         Ok(Closing::Thin(set))
     } else if word == b"already".as_slice() {
         dash(text)?;
@@ -119,10 +86,10 @@ pub(crate) fn ending(size: u32, word: &[u8], text: &[u8]) -> Result<Ending, RowF
     ensures { result ≡ ending_of size word.now text.now }
 {
     if word == b"total".as_slice() {
-        let total = number(text).ok_or(RowFault::Field(6))?;
+        let total = read_number(text).ok_or(RowFault::Field(6))?;
         Ok(Ending::Total(total))
     } else if word == b"none".as_slice() {
-        let set = set(size, text).ok_or(RowFault::Field(6))?;
+        let set = read_set(text, size).ok_or(RowFault::Field(6))?;
         Ok(Ending::Lacking(set))
     } else if word == b"thin".as_slice() {
         dash(text)?;
@@ -142,7 +109,7 @@ pub(crate) fn ending(size: u32, word: &[u8], text: &[u8]) -> Result<Ending, RowF
 fn delay(low: u8, text: &[u8]) -> Option<u8>
     ensures { result ≡ within low 17 (number_of text.now) }
 {
-    match number_within(u64::from(low), 17, text) {
+    match read_number_within(text, u64::from(low), 17) {
         Some(delay) => Some(delay as u8),
         None => None,
     }
@@ -327,7 +294,7 @@ fn is_tag(tag: Tag, other: Tag) -> bool
 }
 
 /// Whether each member is below `size`.
-#[tactic(auto, using(crate::proofs::SetLoop::all_within))]
+#[tactic(auto, using(crate::proofs::WithinLemmas::all_within))]
 fn is_within(size: u32, set: MeterSet) -> bool
     requires { size ≤ 256 }
     ensures { result ≡ is_within size set }

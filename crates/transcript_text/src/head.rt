@@ -4,16 +4,17 @@ ghost use Rattle.group_plan.specs.Spans.{span_fault, with_spans};
 ghost use Rattle.std.specs.List.{list_all};
 ghost use Rattle.std.specs.Option.{ok_or};
 ghost use Rattle.transcript_text.specs.declared.fault.ReadError.TheVariants.{Head as HeadFault};
-ghost use Rattle.transcript_text.specs.Parts.{parts, view, AreFields};
+ghost use Rattle.field_texts.specs.Parts.{parts};
+ghost use Rattle.transcript_text.specs.Parts.{view, AreFields};
 ghost use Rattle.transcript_text.specs.Spelling.{title};
 ghost use Rattle.transcript_text.specs.Heads.{head_number, title_of, rounds_of, windows_of, start_of, name_of, group_row, meters_at, comes_after, span_fits, member_row, is_two, head_row, has_version, plan_at, head_from, head_of, AreStated, at_begin, refused, GivesStart, GivesHead};
 ghost use Rattle.transcript_text.specs.Reading.{Gives};
 
-use crate::cut::{Fields, cut_far, split_fields};
+use crate::cut::{Fields, split_fields};
 use crate::fault::ReadError;
 use crate::head_writing::is_partial;
-use crate::number::number_within;
 use crate::version::Version;
+use field_texts::{cut_far, read_number_within};
 use group_plan::{GroupPlan, Name, Plan, PlanError, Span, SpanError};
 use std::alloc::Global;
 
@@ -44,7 +45,7 @@ pub(crate) struct Head<'a> {
 fn number(n: u64, text: &[u8]) -> Result<u32, ReadError>
     ensures { result ≡ head_number n text.now }
 {
-    let number = number_within(0, 1 << 32, text).ok_or(ReadError::Head(n))?;
+    let number = read_number_within(text, 0, 1 << 32).ok_or(ReadError::Head(n))?;
     Ok(number as u32)
 }
 

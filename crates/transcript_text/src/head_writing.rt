@@ -5,7 +5,8 @@ ghost use Rattle.group_plan.specs.NewPlans.{stated};
 ghost use Rattle.transcript_text.specs.declared.version.Version.TheVariants.{Two};
 ghost use Rattle.transcript_text.specs.Spelling.{ended, joined, rounds_fields, windows_fields, start_text, group_fields, groups_text, member_fields, members_text, is_partial, span_at, spans_below, stated_spans, head_text};
 
-use crate::writing::{put_number, put_two};
+use crate::writing::put_two;
+use field_texts::put_number;
 use group_plan::{GroupPlan, Plan, Span};
 use std::alloc::AllocError;
 

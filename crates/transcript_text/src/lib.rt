@@ -7,7 +7,6 @@ mod fields;
 mod head;
 mod head_writing;
 mod lines;
-mod number;
 mod reader;
 mod round_members;
 mod rows;

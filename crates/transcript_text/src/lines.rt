@@ -1,12 +1,12 @@
 //! The entries of a transcript, line by line.
 ghost use Rattle.std.specs.Prelude.{◌≡◌, ◌+◌, ◌-◌, ◌<◌, ◌^◌, length};
-ghost use Rattle.transcript_text.specs.Parts.{parts};
+ghost use Rattle.field_texts.specs.Parts.{parts};
 ghost use Rattle.transcript_text.specs.Reading.{Gives, in_line, entries_from};
 
-use crate::cut::cut_far;
 use crate::fault::{ReadError, Row, RowFault};
 use crate::rows::row;
 use crate::version::Version;
+use field_texts::cut_far;
 use group_plan::Plan;
 use meter_frames::Frame;
 use round_machine::{Closing, Ending, Verdict};

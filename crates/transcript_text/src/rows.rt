@@ -1,14 +1,15 @@
 //! The lines after the head.
 ghost use Rattle.std.specs.Prelude.{◌≡◌, []};
 ghost use Rattle.group_plan.specs.Plans.{size};
-ghost use Rattle.transcript_text.specs.Parts.{parts, view, AreFields};
+ghost use Rattle.field_texts.specs.Parts.{parts};
+ghost use Rattle.transcript_text.specs.Parts.{view, AreFields};
 ghost use Rattle.transcript_text.specs.Reading.{tick_of, group_of, round_of, tag_of, send_of, take_of, close_of, end_of, row_of};
 
 use crate::Version;
 use crate::cut::{Fields, split_fields};
 use crate::fault::{Row, RowFault};
 use crate::fields::{closing, ending, fate, kind, sent, verdict};
-use crate::number::{number, number_within};
+use field_texts::{read_number, read_number_within};
 use group_plan::{Plan, Tag};
 use link_lanes::Fate;
 use transcript_log::{Entry, Line};
@@ -17,8 +18,8 @@ fn tick(last: u32, fields: &Fields) -> Result<u32, RowFault>
     requires { AreFields fields.now }
     ensures { result ≡ tick_of last (view fields.now) }
 {
-    let tick = number_within(u64::from(last), 1 << 32, fields.get(0)).ok_or(RowFault::Field(1))?;
-    Ok(tick as u32)
+    let tick = read_number_within(fields.get(0), u64::from(last), 1 << 32);
+    Ok(tick.ok_or(RowFault::Field(1))? as u32)
 }
 
 fn group(plan: &Plan, fields: &Fields) -> Result<u16, RowFault>
@@ -26,7 +27,7 @@ fn group(plan: &Plan, fields: &Fields) -> Result<u16, RowFault>
     ensures { result ≡ group_of plan.now (view fields.now) }
 {
     let groups = plan.groups().len() as u64;
-    let group = number_within(0, groups, fields.get(2)).ok_or(RowFault::Field(3))?;
+    let group = read_number_within(fields.get(2), 0, groups).ok_or(RowFault::Field(3))?;
     Ok(group as u16)
 }
 
@@ -35,7 +36,7 @@ fn round(plan: &Plan, fields: &Fields) -> Result<u32, RowFault>
     ensures { result ≡ round_of plan.now (view fields.now) }
 {
     let rounds = u64::from(plan.rounds());
-    let round = number_within(0, rounds, fields.get(3)).ok_or(RowFault::Field(4))?;
+    let round = read_number_within(fields.get(3), 0, rounds).ok_or(RowFault::Field(4))?;
     Ok(round as u32)
 }
 
@@ -48,7 +49,7 @@ fn tag(plan: &Plan, fields: &Fields) -> Result<Tag, RowFault>
     let round = round(plan, fields)?;
     let kind = kind(fields.get(4)).ok_or(RowFault::Field(5))?;
     let meters = u64::from(plan.meters(group));
-    let meter = number_within(0, meters, fields.get(5)).ok_or(RowFault::Field(6))?;
+    let meter = read_number_within(fields.get(5), 0, meters).ok_or(RowFault::Field(6))?;
     Ok(Tag {
         group,
         round,
@@ -149,7 +150,7 @@ pub(crate) fn row(version: Version, plan: &Plan, last: u32, line: &[u8]) -> Resu
     };
     let kind = fields.get(1);
     if fields.count == 2 && fields.get(0) == b"end".as_slice() {
-        let count = number(kind).ok_or(RowFault::Field(2))?;
+        let count = read_number(kind).ok_or(RowFault::Field(2))?;
         Ok(Row::Last(count))
     } else if fields.count == 8 && kind == b"s".as_slice() {
         let entry = send(version, plan, last, &fields)?;

@@ -3,41 +3,18 @@ ghost use Rattle.std.specs.Prelude.{◌≡◌, ◌++◌, ◌∷◌, codes, decim
 ghost use Rattle.hex.specs.Hex.{encode_lower};
 ghost use Rattle.meter_frames.specs.Frames.{spelling, FitsKind};
 ghost use Rattle.transcript_text.specs.declared.version.Version.TheVariants.{Two};
-ghost use Rattle.transcript_text.specs.Spelling.{joined, numbers_text, verdict_text, tag_fields, sent_fields, closing_fields, ending_fields, entry_text, entries_text};
+ghost use Rattle.field_texts.specs.Sets.{numbers_text};
+ghost use Rattle.transcript_text.specs.Spelling.{joined, verdict_text, tag_fields, sent_fields, closing_fields, ending_fields, entry_text, entries_text};
 ghost use Rattle.transcript_text.specs.Writing.{IsWritable};
 
+use field_texts::{put_number, put_set};
 use group_plan::{Kind, Tag};
-use itoa::Buffer;
 use link_lanes::Fate;
 use meter_frames::{Frame, encode};
 use missing_round::MeterSet;
 use round_machine::{Closing, Ending, Verdict};
 use std::alloc::{AllocError, Global};
 use transcript_log::{Entry, Line};
-
-pub(crate) fn put_number(out: &mut Vec<u8>, number: u64) -> Result<(), AllocError>
-    ensures { OnOk result (out.new.items ≡ out.old.items ++ decimal number) }
-{
-    let mut buffer = Buffer::new();
-    out.extend_from_slice(buffer.format(number).as_bytes())
-}
-
-#[tactic(auto, using(crate::proofs::Plus::plus_more))]
-fn put_set(out: &mut Vec<u8>, set: MeterSet) -> Result<(), AllocError>
-    ensures { OnOk result (out.new.items ≡ out.old.items ++ numbers_text set) }
-{
-    let mut members = set.members();
-    let Some(first) = members.next() else {
-        out.push(b'-')?;
-        return Ok(());
-    };
-    put_number(out, u64::from(first))?;
-    for meter in members {
-        out.push(b'+')?;
-        put_number(out, u64::from(meter))?;
-    }
-    Ok(())
-}
 
 fn put_fate(out: &mut Vec<u8>, fate: Fate) -> Result<(), AllocError>
     ensures { OnOk result (out.new.items ≡ out.old.items ++ numbers_text fate) }

@@ -1,5 +1,5 @@
 use Rattle.std.proofs.Common.{length, ap, arith}
-use Rattle.totals_report.proofs.CutLemmas.{parts_some}
+use Rattle.field_texts.proofs.Cutting.{parts_some}
 use Rattle.totals_report.proofs.cut.split_row.Goals as goal
 
 pub returns-in-Some : goal.returns-in-Some

@@ -1,5 +1,5 @@
 use Rattle.std.proofs.Common.{◌≡◌, ◌≤◌, ◌+◌, length}
-use Rattle.link_lanes.specs.Texts.{parts}
+use Rattle.field_texts.specs.Parts.{parts}
 use Rattle.totals_report.specs.Reading.{rows_from}
 use Rattle.totals_report.proofs.LineLemmas.{onto}
 use Rattle.totals_report.proofs.reading.rows.Given as goal

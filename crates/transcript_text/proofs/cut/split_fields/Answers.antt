@@ -1,5 +1,5 @@
 use Rattle.std.proofs.Common.{rules, arith, sym, ◌∙◌, [], append-nil}
-use Rattle.transcript_text.specs.Parts.{parts}
+use Rattle.field_texts.specs.Parts.{parts}
 use Rattle.transcript_text.proofs.Cutting.{goes_on, long_parts}
 use Rattle.transcript_text.proofs.cut.split_fields.Goals as goal
 

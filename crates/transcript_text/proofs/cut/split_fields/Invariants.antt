@@ -1,5 +1,5 @@
 use Rattle.std.proofs.Common.{length, ◌≡◌, ◌++◌, map, take}
-use Rattle.transcript_text.specs.Parts.{parts}
+use Rattle.field_texts.specs.Parts.{parts}
 use Rattle.transcript_text.proofs.cut.split_fields.Given as goal
 
 abbrev pub invariant-loop-i : goal.invariant-loop-i

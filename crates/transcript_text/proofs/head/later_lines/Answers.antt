@@ -1,5 +1,5 @@
 use Rattle.std.proofs.Common.{rules, arith, sym, ap, ◌∙◌, ◌≡◌, ◌++◌, ◌∷◌, [], Ok, None}
-use Rattle.transcript_text.specs.Parts.{parts}
+use Rattle.field_texts.specs.Parts.{parts}
 use Rattle.transcript_text.proofs.Failing.{failed}
 use Rattle.transcript_text.proofs.HeadLoop.{begins, group_more, last_more, member_more, no_newline, row_wrong, stated_group, stated_member}
 use Rattle.transcript_text.proofs.head.later_lines.Goals as goal

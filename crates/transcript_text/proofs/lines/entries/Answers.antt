@@ -1,6 +1,6 @@
 use Rattle.std.proofs.Common.{rules, arith, sym, ◌∙◌, ◌≡◌, ap, Ok, Err, ◌++◌, ◌∷◌, []}
 use Rattle.std.proofs.lemmas.Bool.Decides.{nat_tests}
-use Rattle.transcript_text.specs.Parts.{parts}
+use Rattle.field_texts.specs.Parts.{parts}
 use Rattle.transcript_text.proofs.EntryLoop.{entry_more, count_wrong, more_after, all_read, row_wrong, no_end}
 use Rattle.transcript_text.proofs.Failing.{failed}
 use Rattle.transcript_text.proofs.lines.entries.Goals as goal

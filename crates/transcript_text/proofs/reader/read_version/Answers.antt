@@ -1,4 +1,4 @@
-use Rattle.transcript_text.specs.Parts.{parts}
+use Rattle.field_texts.specs.Parts.{parts}
 use Rattle.transcript_text.specs.Transcripts.{IsPlan}
 use Rattle.transcript_text.proofs.HeadText.{head_is}
 use Rattle.transcript_text.proofs.ReadLemmas.{entries_are, read_is_written}

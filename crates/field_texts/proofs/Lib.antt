@@ -1,0 +1,9 @@
+pub mod Choices
+pub mod Cutting
+pub mod Digits
+pub mod NumberLaws
+pub mod Plus
+pub mod SetLaws
+pub mod SetLoop
+pub mod SpelledLaws
+pub mod TextLaws

@@ -1,8 +1,0 @@
-use Rattle.std.proofs.Common.{length, ◌-◌, ◌≢◌, ◌<◌, ◌≤◌, ℕ, get_or}
-use Rattle.transcript_text.proofs.cut.cut.Given as goal
-
-abbrev pub invariant-loop-end : goal.invariant-loop-end
-invariant-loop-end l = record { inside : l.end ≤ length l.bytes; none : (k : ℕ) → k < l.end → get_or l.bytes k 0 ≢ l.stop }
-
-abbrev pub decreases-loop-end : goal.decreases-loop-end
-decreases-loop-end l = length l.bytes - l.end

@@ -1,8 +1,0 @@
-use Rattle.std.proofs.Common.{◌≡◌, ◌≤◌}
-use Rattle.transcript_text.specs.Parts.{parts}
-use Rattle.transcript_text.specs.Reading.{ahead, ascending, set_of}
-use Rattle.transcript_text.proofs.SetLoop.{Under}
-use Rattle.transcript_text.proofs.fields.set.Given as goal
-
-abbrev pub invariant-loop : goal.invariant-loop
-invariant-loop l = record { under : Under l.low l.set; turns : l.counter ≤ l.low; small : l.low ≤ 256; so_far : ahead l.set (ascending l.low l.high (parts 43 l.rest)) ≡ set_of l.high l.fn.text }
