@@ -35,6 +35,7 @@ abbrev pub is_made : (Event → Reply → Bool) → Judged → Mark → Bool
 is_made these (Accepted event) (Made reply) = these event reply
 is_made these _ _ = false
 
+-- there is a reply, and the event with it is one of these
 abbrev pub is_reply : (Event → Reply → Bool) → Event → Option Reply → Bool
 is_reply these event None = false
 is_reply these event (Some reply) = these event reply

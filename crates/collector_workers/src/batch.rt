@@ -61,7 +61,8 @@ fn mark_all<R: Wait>(
 }
 
 /// Commits the parcels of a shared book by workers, each with a pass of its own, and what they leave by the first pass, and
-/// answers the mark of each parcel.
+/// answers the mark of each parcel. `workers` is an upper bound: at most one thread works for each 256 parcels, but two where
+/// there are two parcels and two workers. Which passes were joined is not said.
 pub fn gather<R: Threads + Wait + Sync, G: Gate>(
     rt: &R,
     alloc: Global,
@@ -90,8 +91,9 @@ pub fn gather<R: Threads + Wait + Sync, G: Gate>(
     Ok(marks)
 }
 
-/// Adds a batch to a book by workers. Each accepted parcel adds a line, in some order; every parcel has its mark. At `Err`
-/// there was no memory.
+/// Adds a batch to a book by workers. Each accepted parcel adds a line, in some order; every parcel has its mark. `workers`
+/// is an upper bound: at most one thread works for each 256 parcels, but two where there are two parcels and two workers. At
+/// `Err` there was no memory.
 pub fn collect<R: Threads + Wait + Sync, G: Gate>(
     rt: &R,
     alloc: Global,

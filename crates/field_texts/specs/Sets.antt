@@ -5,12 +5,12 @@ use Rattle.std.specs.Str.{bytes_eq}
 use Rattle.field_texts.specs.Numbers.{number_of, within}
 use Rattle.field_texts.specs.Parts.{parts}
 
--- a list before what more is, if it is
+-- the list with these numbers in front, where there is one
 abbrev pub ahead : List ℕ → Option (List ℕ) → Option (List ℕ)
 ahead xs None = None
 ahead xs (Some ys) = Some (xs ++ ys)
 
--- a number before what follows it, if both are
+-- a number, then what follows it, where both are there
 abbrev pub with_first : Option ℕ → (ℕ → Option (List ℕ)) → Option (List ℕ)
 with_first None rest = None
 with_first (Some x) rest = ahead (x ∷ []) (rest x)

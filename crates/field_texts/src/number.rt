@@ -1,5 +1,5 @@
 //! Decimal numbers.
-ghost use Rattle.std.specs.Prelude.{◌≡◌, ◌++◌, ◌≤◌, ◌<◌, decimal, IfSome, OnOk};
+ghost use Rattle.std.specs.Prelude.{◌≡◌, ◌++◌, ◌≤◌, ◌<◌, decimal, IfSome, OnErr, OnOk};
 ghost use Rattle.field_texts.specs.Numbers.{number_of, within};
 ghost use Rattle.field_texts.specs.Spelled.{IsNumberOf};
 
@@ -49,9 +49,10 @@ pub fn read_number_within(text: &[u8], low: u64, high: u64) -> Option<u64>
     }
 }
 
-/// Writes a number.
+/// Appends a number in decimal.
 pub fn put_number(out: &mut Vec<u8>, number: u64) -> Result<(), AllocError>
-    ensures { OnOk result (out.new.items ≡ out.old.items ++ decimal number) }
+    ensures written { OnOk result (out.new.items ≡ out.old.items ++ decimal number) }
+    ensures kept { OnErr result (out.new.items ≡ out.old.items) }
 {
     let mut buffer = Buffer::new();
     out.extend_from_slice(buffer.format(number).as_bytes())

@@ -18,7 +18,7 @@ pub fn cut(stop: u8, text: &[u8]) -> Option<(&[u8], &[u8])>
     None
 }
 
-/// The same, for long texts.
+/// The same, with a search that pays off in long texts.
 pub fn cut_far(stop: u8, text: &[u8]) -> Option<(&[u8], &[u8])>
     ensures { Cuts stop text.now result }
 {

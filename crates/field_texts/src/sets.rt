@@ -51,7 +51,8 @@ pub fn read_set(text: &[u8], high: u32) -> Option<MeterSet>
     set(text, high)
 }
 
-/// Writes a set of meters: `-` for none, or its members in ascending order, joined by `+`.
+/// Appends a set of meters: `-` for none, or its members in ascending order, joined by `+`. At `Err` a part may stand at
+/// the end.
 #[tactic(auto, using(crate::proofs::Plus::plus_more))]
 pub fn put_set(out: &mut Vec<u8>, set: MeterSet) -> Result<(), AllocError>
     ensures { OnOk result (out.new.items ≡ out.old.items ++ numbers_text set) }

@@ -33,7 +33,7 @@ use Rattle.transcript_log.specs.Journal.{past_of}
 use Rattle.transcript_log.proofs.ScheduleLemmas.{once-gives, is_reading_taken-from_answer, is_announced-from_answer, present-from_taken}
 use Rattle.transcript_log.proofs.ListLemmas.{and_last}
 use Rattle.group_book.specs.Places.{is_round, page_at, frame_at}
-use Rattle.group_book.specs.Pages.{PageView, taken_in, PageTakes, can_ask}
+use Rattle.group_book.specs.Pages.{PageView, taken_in, PageTakes, can_take}
 use Rattle.group_book.specs.Books.{posted, IsFree, HasSet}
 use Rattle.group_book.specs.Replay.{IsPage, Replays}
 use Rattle.group_book.proofs.Tags.{everywhere, is_tag-itself}
@@ -304,14 +304,14 @@ unsent_now p pages frames j js tag rep unsent lines = subst (Replays p pages fra
 -- a frame that was sent can be asked of its meter
 pub can_ask_now : (p : PresenceView) (pages : List PageView) (frames : List (Option Frame)) (j : List Line) (tag : Tag) (page : PageView) → Replays p pages frames j
     → is_place p.plan tag.group tag.round tag.meter ≡ true → is_sent (shape_of_presence p) tag.kind tag.group tag.round tag.meter (past_of j) ≡ true
-    → IsPage (shape_of_presence p) tag.group tag.round page j → can_ask tag.kind page tag.meter ≡ true
+    → IsPage (shape_of_presence p) tag.group tag.round page j → can_take tag.kind page tag.meter ≡ true
 can_ask_now p pages frames j tag page rep known sent is =
     by_kind tag.kind (ap (is_member tag.meter) is.members ∙ member-from_sent p pages frames j tag.group tag.round tag.meter tag.kind rep known sent) sent
   where
     s : Shape
     s = shape_of_presence p
 
-    by_kind : (k : Kind) → is_member tag.meter page.round.members ≡ true → is_sent s k tag.group tag.round tag.meter (past_of j) ≡ true → can_ask k page tag.meter ≡ true
+    by_kind : (k : Kind) → is_member tag.meter page.round.members ≡ true → is_sent s k tag.group tag.round tag.meter (past_of j) ≡ true → can_take k page tag.meter ≡ true
     by_kind Reading m h = m
     by_kind Announcement m h = refl
     by_kind Answer m h =

@@ -34,6 +34,7 @@ pub record BookView : Type 0 where
   pub journal : List Line
   pub spare : ℕ
 
+-- the groups, rounds and presence of a book
 abbrev pub shape_of : BookView → Shape
 shape_of b = shape_of_presence b.presence
 
@@ -63,6 +64,7 @@ posted g r i k (l ∷ ls) = if is_send g r i k (event_of l) && is_some (frame_of
 abbrev pub posted_in : Tag → List Line → Option Frame
 posted_in tag journal = posted tag.group tag.round tag.meter tag.kind journal
 
+-- the frame that is posted under a tag
 abbrev pub posted_of : BookView → Tag → Option Frame
 posted_of b tag = posted_in tag b.journal
 
@@ -82,9 +84,11 @@ missing_of b tag = missing (shape_of b) tag.group tag.round (past b)
 abbrev pub verdict_of : BookView → Tag → Verdict
 verdict_of b tag = verdict (shape_of b) tag.kind tag.group tag.round tag.meter (past b)
 
+-- what a Close of the round says now
 abbrev pub closing_of : BookView → ℕ → ℕ → Closing
 closing_of b g r = closing (shape_of b) g r (past b)
 
+-- what an End of the round says now
 abbrev pub ending_of : BookView → ℕ → ℕ → Ending
 ending_of b g r = ending (shape_of b) (contents_of_lines b.journal) g r (past b)
 
@@ -125,10 +129,12 @@ TakeEnds b f (Ok v) c = (knows b f.tag ≡ true) × IsFree (posted_of b f.tag) f
 TakeEnds b f (Err refused.Unknown) c = (knows b f.tag ≡ false) × (c ≡ b)
 TakeEnds b f (Err (refused.Forged p came)) c = (knows b f.tag ≡ true) × (posted_of b f.tag ≡ Some p) × (p ≢ f) × (came ≡ f) × (c ≡ b)
 
+-- close: its answer, and the book with its line
 pub record CloseEnds (b : BookView) (g r : ℕ) (answer : Closing) (c : BookView) : Type 0 where
   pub is : answer ≡ closing_of b g r
   pub adds : Adds b (Close g r) None c
 
+-- end: its answer, and the book with its line
 pub record EndEnds (b : BookView) (g r : ℕ) (answer : Ending) (c : BookView) : Type 0 where
   pub is : answer ≡ ending_of b g r
   pub adds : Adds b (End g r) None c

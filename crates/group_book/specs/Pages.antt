@@ -9,6 +9,7 @@ use Rattle.round_machine.specs.Rounds.{RoundView, missing, has_floor, is_announc
 use Rattle.group_book.specs.declared.answers.OutcomeState.{OutcomeState}
 use Rattle.group_book.specs.declared.answers.OutcomeState.TheVariants as states
 
+-- a round, and who was told of its missing set
 pub record PageView : Type 0 where
   pub round : RoundView
   -- the meters whose announcement was taken Fresh
@@ -18,6 +19,7 @@ pub record PageView : Type 0 where
 abbrev pub announced_in : RoundView → Option (List ℕ)
 announced_in round = if is_announced round then Some (missing round) else None
 
+-- the total, where no answer lacks
 abbrev pub total_or_lacking : List ℕ → ℕ → OutcomeState
 total_or_lacking [] sum = states.Total sum
 total_or_lacking (i ∷ rest) sum = states.Lacking (i ∷ rest)
@@ -41,11 +43,11 @@ is_past Reading page = page.round.closed
 is_past Announcement page = false
 is_past Answer page = page.round.ended
 
--- whether a frame of this kind can be asked of meter i
-abbrev pub can_ask : Kind → PageView → ℕ → Bool
-can_ask Reading page i = is_member i page.round.members
-can_ask Announcement page i = true
-can_ask Answer page i = is_member i page.round.members && is_asked page.round i
+-- whether a frame of this kind may be taken of meter i
+abbrev pub can_take : Kind → PageView → ℕ → Bool
+can_take Reading page i = is_member i page.round.members
+can_take Announcement page i = true
+can_take Answer page i = is_member i page.round.members && is_asked page.round i
 
 -- the page once a frame of meter i with word w was taken Fresh
 abbrev pub with_taken : Kind → ℕ → ℕ → PageView → PageView

@@ -17,6 +17,7 @@ all_rounds plan = plan.rounds * length plan.groups
 abbrev pub page_at : PlanView → ℕ → ℕ → ℕ
 page_at plan g r = g * plan.rounds + r
 
+-- the number of a kind
 abbrev pub kind_number : Kind → ℕ
 kind_number Reading = 0
 kind_number Announcement = 1

@@ -38,6 +38,7 @@ pub record IsPage (s : Shape) (g r : ℕ) (page : PageView) (journal : List Line
   pub readings : page.round.reading_sum ≡ word (sum_by (λ i. first_word g r i Reading journal) page.round.taken)
   pub answers : page.round.answer_sum ≡ word (sum_by (λ i. first_word g r i Answer journal) page.round.answered)
 
+-- what a book keeps is what its journal says
 pub record Replays (p : PresenceView) (pages : List PageView) (frames : List (Option Frame)) (j : List Line) : Type 0 where
   pub limits : IsWithinLimits p.plan
   pub table : IsPresenceTable p.plan p.table

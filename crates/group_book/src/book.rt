@@ -120,6 +120,13 @@ impl Book {
         })
     }
 
+    /// Whether the plan has the group and the round, counted from 0.
+    pub fn has_round(&self, group: u16, round: u32) -> bool
+        ensures { result ≡ has_round self.now group round }
+    {
+        is_round(self.plan(), group, round)
+    }
+
     /// The missing set of a round, where it was announced.
     pub fn announced(&self, group: u16, round: u32) -> Option<MeterSet>
         requires { IsTrue (has_round self.now group round) }

@@ -8,14 +8,6 @@ use meter_frames::Frame;
 use round_machine::{Closing, Ending, Verdict};
 use transcript_log::Line;
 
-fn add<T: Drop>(items: &mut Vec<T>, item: T)
-    requires { vec_len items.old < vec_capacity items.old }
-    ensures items { items.new.items ≡ items.old.items ++ item ∷ [] }
-    ensures spare { vec_capacity items.old - vec_len items.old ≤ vec_capacity items.new - vec_len items.new + 1 }
-{
-    items.push(item).unwrap();
-}
-
 // What lines are made of. A function that adds a line has to name these types.
 type Parts = (
     Option<Frame>,
@@ -30,7 +22,7 @@ pub(crate) fn add_send(journal: &mut Vec<Line>, tag: Tag, frame: Option<Frame>)
     ensures spare { vec_capacity journal.old - vec_len journal.old ≤ vec_capacity journal.new - vec_len journal.new + 1 }
 {
     let _parts: Parts = (None, None, None, None);
-    add(journal, Line::Send { tag, frame });
+    journal.push_reserved(Line::Send { tag, frame });
 }
 
 pub(crate) fn add_take(journal: &mut Vec<Line>, tag: Tag, verdict: Verdict)
@@ -39,7 +31,7 @@ pub(crate) fn add_take(journal: &mut Vec<Line>, tag: Tag, verdict: Verdict)
     ensures spare { vec_capacity journal.old - vec_len journal.old ≤ vec_capacity journal.new - vec_len journal.new + 1 }
 {
     let _parts: Parts = (None, None, None, None);
-    add(journal, Line::Take { tag, verdict });
+    journal.push_reserved(Line::Take { tag, verdict });
 }
 
 pub(crate) fn add_close(journal: &mut Vec<Line>, group: u16, round: u32, closing: &Closing)
@@ -48,14 +40,11 @@ pub(crate) fn add_close(journal: &mut Vec<Line>, group: u16, round: u32, closing
     ensures spare { vec_capacity journal.old - vec_len journal.old ≤ vec_capacity journal.new - vec_len journal.new + 1 }
 {
     let _parts: Parts = (None, None, None, None);
-    add(
-        journal,
-        Line::Close {
-            group,
-            round,
-            closing: *closing,
-        },
-    );
+    journal.push_reserved(Line::Close {
+        group,
+        round,
+        closing: *closing,
+    });
 }
 
 pub(crate) fn add_end(journal: &mut Vec<Line>, group: u16, round: u32, ending: &Ending)
@@ -64,12 +53,9 @@ pub(crate) fn add_end(journal: &mut Vec<Line>, group: u16, round: u32, ending: &
     ensures spare { vec_capacity journal.old - vec_len journal.old ≤ vec_capacity journal.new - vec_len journal.new + 1 }
 {
     let _parts: Parts = (None, None, None, None);
-    add(
-        journal,
-        Line::End {
-            group,
-            round,
-            ending: *ending,
-        },
-    );
+    journal.push_reserved(Line::End {
+        group,
+        round,
+        ending: *ending,
+    });
 }

@@ -4,7 +4,7 @@ ghost use Rattle.std.specs.Prelude.{◌≡◌, ◌≤◌, [], IsTrue};
 ghost use Rattle.missing_round.specs.Sets.{is_member};
 ghost use Rattle.group_plan.specs.declared.Kind.TheVariants.{Announcement};
 ghost use Rattle.round_machine.specs.Rounds.{new_round, Closes, Ends};
-ghost use Rattle.group_book.specs.Pages.{announced_in, state_in, can_ask, PageTakes};
+ghost use Rattle.group_book.specs.Pages.{announced_in, state_in, can_take, PageTakes};
 
 use crate::OutcomeState;
 use group_plan::Kind;
@@ -81,7 +81,7 @@ impl Page {
 
     /// Takes a frame that was sent with effect.
     pub fn take(&mut self, kind: Kind, meter: u8, word: Word) -> Verdict
-        requires { IsTrue (can_ask kind self.old meter) }
+        requires { IsTrue (can_take kind self.old meter) }
         ensures { PageTakes self.old kind meter word result self.new }
     {
         match kind {

@@ -12,6 +12,7 @@ name kept = take kept.len kept.bytes
 abbrev pub kept_by : List ℕ → Inside
 kept_by text = record { bytes = text ++ replicate (16 - length text) 0; len = length text }
 
+-- a name is kept in 16 bytes
 pub record KeepsName (kept : Inside) : Type 0 where
   pub long : length kept.bytes ≡ 16
   pub fits : kept.len ≤ 16

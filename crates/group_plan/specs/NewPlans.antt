@@ -40,6 +40,7 @@ meters_of groups = sum_by (λ g. g.meters) groups
 abbrev pub pairs_of : List GroupPlan → ℕ
 pairs_of groups = sum_by (λ g. pairs g.meters) groups
 
+-- no group, or more than 256
 abbrev pub wrong_count : List GroupPlan → Option PlanError
 wrong_count groups =
     if length groups == 0 then Some fault.NoGroup else
@@ -56,6 +57,7 @@ same_name_from before (h ∷ rest) =
     option_or (option_map (λ g. fault.SameName g (length before)) (position_of_name h.name before))
     (same_name_from (before ++ h ∷ []) rest)
 
+-- two groups with one name
 abbrev pub same_name : List GroupPlan → Option PlanError
 same_name groups = same_name_from [] groups
 
@@ -67,22 +69,28 @@ has_wrong_meters g = nat_lt g.meters 2 || nat_lt 256 g.meters
 abbrev pub has_wrong_floor : GroupPlan → Bool
 has_wrong_floor g = nat_lt g.floor 2 || nat_lt g.meters g.floor
 
+-- the first group with too few meters or too many
 abbrev pub wrong_meters : List GroupPlan → Option PlanError
 wrong_meters groups = option_map fault.Meters (position has_wrong_meters groups)
 
+-- the first group with a floor that it can't have
 abbrev pub wrong_floor : List GroupPlan → Option PlanError
 wrong_floor groups = option_map fault.Floor (position has_wrong_floor groups)
 
+-- no round, or more than 4096
 abbrev pub wrong_rounds : ℕ → Option PlanError
 wrong_rounds rounds = if nat_le 1 rounds && nat_le rounds 4096 then None else Some fault.Rounds
 
+-- a window outside its limits
 abbrev pub wrong_window : ℕ → ℕ → Option PlanError
 wrong_window w1 w2 = if nat_le 1 w1 && nat_le w1 16 && nat_le 2 w2 && nat_le w2 32 then None else Some fault.Window
 
+-- more than 131,072 readings
 abbrev pub too_many_readings : List GroupPlan → ℕ → Option PlanError
 too_many_readings groups rounds =
     if nat_lt 131072 (rounds * meters_of groups) then Some (fault.TooManyReadings (rounds * meters_of groups)) else None
 
+-- more than 1,048,576 pairs of meters
 abbrev pub too_many_pairs : List GroupPlan → Option PlanError
 too_many_pairs groups = if nat_lt 1048576 (pairs_of groups) then Some (fault.TooManyPairs (pairs_of groups)) else None
 

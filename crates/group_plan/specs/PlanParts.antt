@@ -21,6 +21,7 @@ pub record AreSpans (plan : PlanView) : Type 0 where
   pub some : (g i : ℕ) → i < size plan.groups g → (span_of plan.groups g i).from < (span_of plan.groups g i).until
   pub within : (g i : ℕ) → i < size plan.groups g → (span_of plan.groups g i).until ≤ plan.rounds
 
+-- what is kept of a plan is one within the limits
 pub record KeepsPlan (p : Inside) : Type 0 where
   pub sound : first_fault p.groups.items p.rounds p.w1 p.w2 ≡ None
   pub named : AreNamed p.groups.items

@@ -25,6 +25,7 @@ span_fault_from plan before (span ∷ rest) =
     if list_any (is_of span.group span.meter) before then Some (fault.Twice (length before)) else
     span_fault_from plan (before ++ span ∷ []) rest
 
+-- the first span that is wrong
 abbrev pub span_fault : PlanView → List Span → Option SpanError
 span_fault plan spans = span_fault_from plan [] spans
 
@@ -57,6 +58,7 @@ pub record AreGiven (plan : PlanView) (spans : List Span) (kept : List Rounds) :
   pub some : (k : ℕ) → k < length kept → (slice_index_or kept k (whole 0)).from < (slice_index_or kept k (whole 0)).until
   pub within : (k : ℕ) → k < length kept → (slice_index_or kept k (whole 0)).until ≤ plan.rounds
 
+-- the spans of all meters, or the first fault of those given; want of memory is free
 abbrev pub PlacesSpans : PlanView → List Span → Result (Vec Rounds) SpanError → Type 0
 PlacesSpans plan spans (Ok kept) = (span_fault plan spans ≡ None) × AreGiven plan spans kept.items
 PlacesSpans plan spans (Err fault.Memory) = Unit {0}

@@ -61,6 +61,7 @@ pub record PresenceView : Type 0 where
   pub plan : PlanView
   pub table : List (List (List Bool))
 
+-- whether a place has a reading
 abbrev pub is_present : Table Bool → ℕ → ℕ → ℕ → Bool
 is_present table g r i = entry false table g r i
 

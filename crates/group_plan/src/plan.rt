@@ -16,9 +16,9 @@ use std::marker::Model;
 #[derive(Clone, Copy, Debug, PartialEq, Eq)]
 pub struct GroupPlan {
     pub name: Name,
-    /// How many meters the group has, numbered from 0.
+    /// How many meters the group has, 2 to 256, numbered from 0.
     pub meters: u32,
-    /// The fewest survivors with which a round is announced.
+    /// The fewest survivors with which a round is announced, 2 to the number of meters.
     pub floor: u32,
 }
 
@@ -358,7 +358,7 @@ impl Plan {
         }
     }
 
-    /// How many rounds the plan has.
+    /// How many rounds the plan has, 1 to 4096.
     pub fn rounds(&self) -> u32
         ensures rounds { result ≡ self.now.rounds }
         ensures limits { IsWithinLimits self.now }
@@ -366,14 +366,14 @@ impl Plan {
         self.rounds
     }
 
-    /// The ticks of the reading window.
+    /// The ticks of the reading window, 1 to 16.
     pub fn w1(&self) -> u32
         ensures { result ≡ self.now.w1 }
     {
         self.w1
     }
 
-    /// The ticks of the recovery window.
+    /// The ticks of the recovery window, 2 to 32.
     pub fn w2(&self) -> u32
         ensures { result ≡ self.now.w2 }
     {
@@ -404,7 +404,7 @@ impl Plan {
     }
 
     /// The number of a meter among those of all groups, counted from 0, group by group.
-    pub fn meter_at(&self, group: u16, meter: u8) -> usize
+    fn meter_at(&self, group: u16, meter: u8) -> usize
         requires { meter < size self.now.groups group }
         ensures at { result ≡ meter_at self.now.groups group meter }
         ensures within { result < all_meters self.now.groups }

@@ -7,7 +7,7 @@ use crate::Plan;
 use std::alloc::{AllocError, Global};
 use std::marker::Model;
 
-/// The readings of a plan: at each place a number of watt-hours, or none.
+/// The readings of a plan: at each place a number of watt-hours below 2^40, or none. Only members have one.
 #[derive(Debug, Drop)]
 pub struct Readings {
     plan: Plan,
@@ -51,7 +51,7 @@ impl Readings {
         &self.plan
     }
 
-    /// Sets the reading of a place, or takes it out.
+    /// Sets the reading of a place, in watt-hours below 2^40, or takes it out.
     pub fn put(&mut self, group: u16, round: u32, meter: u8, value: Option<u64>)
         requires place { IsTrue (is_place self.old.plan group round meter) }
         requires small { IfSome value (λ v. v < 2 ^ 40) }
@@ -62,7 +62,7 @@ impl Readings {
         self.values[at] = value;
     }
 
-    /// The reading of a place.
+    /// The reading of a place, in watt-hours.
     pub fn get(&self, group: u16, round: u32, meter: u8) -> Option<u64>
         requires { IsTrue (is_place self.now.plan group round meter) }
         ensures reading { result ≡ reading self.now.table group round meter }

@@ -9,7 +9,7 @@ pub enum Kind {
     Answer,
 }
 
-/// Whose frame it is, of which round, and its kind.
+/// Whose frame it is, of which round, and its kind. Group, round and meter are counted from 0.
 #[derive(Clone, Copy, Debug, PartialEq, Eq)]
 pub struct Tag {
     pub group: u16,

@@ -29,19 +29,30 @@ use link_lanes::{Burst, Clear, EveryNth, Lane, Rules, Seeded};
 use program::meteragg;
 use std::alloc::{AllocError, Global};
 use std::env;
+use std::env::Args;
 use std::fs::Files;
-use std::io::{Eprint, Print};
+use std::io::{Eprint, ErrorKind, Print};
 use std::process::ExitCode;
 use std::sync::Wait;
 use std::thread::Threads;
 
-// The words of the command line, without the program's name.
-fn command_words(rt: &HostRuntime) -> Option<Vec<String>> {
-    let mut words = Vec::new(rt.alloc());
-    for word in env::args(rt).ok()?.skip(1) {
-        words.push(word).ok()?;
+// The words that follow the program's name.
+fn words_after_name(alloc: Global, all: Args) -> Result<Vec<String>, AllocError> {
+    let mut words = Vec::new(alloc);
+    for word in all.skip(1) {
+        words.push(word)?;
     }
-    Some(words)
+    Ok(words)
+}
+
+// The words of the command line, without the program's name; none where a word isn't UTF-8, and the program complains of
+// bad words.
+fn command_words(rt: &HostRuntime) -> Result<Vec<String>, AllocError> {
+    match env::args(rt) {
+        Ok(all) => words_after_name(rt.alloc(), all),
+        Err(error) if error.kind() == ErrorKind::InvalidData => Ok(Vec::new(rt.alloc())),
+        Err(_) => Err(AllocError),
+    }
 }
 
 // Runs the program with four lanes of each name.
@@ -61,7 +72,7 @@ fn run_program<R: Threads + Wait + Sync + Files + Print + Eprint>(
 }
 
 fn main(rt: HostRuntime) -> ExitCode {
-    let Some(words) = command_words(&rt) else {
+    let Ok(words) = command_words(&rt) else {
         return ExitCode::from(1);
     };
     match run_program(&rt, rt.alloc(), &words) {

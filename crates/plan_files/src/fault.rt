@@ -14,11 +14,12 @@ pub struct FileError {
 /// What is wrong with a row, or with the file as a whole.
 #[derive(Clone, Copy, Debug, PartialEq, Eq)]
 pub enum FileCause {
-    /// The row starts with a word, or with a name and a round, that isn't due here.
+    /// Row 1 of a plan isn't `plan`, `1` and nothing more; or a later row starts with a word that isn't due here; or a
+    /// row of readings has fewer than two fields, or its first two aren't the name and the round that are due.
     Row,
     /// The row has too few or too many fields.
     Fields,
-    /// The first faulty field should be a number within its bound.
+    /// The first faulty field should be a number below 2^32, or below 2^64 for a reading, and isn't one.
     Number,
     /// The first faulty field should be a name or an argument.
     Name,
@@ -28,9 +29,9 @@ pub enum FileCause {
     Plan(PlanError),
     /// The key is refused so, or the plan has this key and the file has no row for it.
     Key(KeyError),
-    /// The lane's span doesn't end, or ends after the last tick.
+    /// The lane's span begins after its end, or ends after the last tick.
     LaneSpan,
-    /// The first faulty field is a reading of 2^40 or more.
+    /// The first faulty field is a reading of 2^40 or more, below 2^64.
     Range,
     /// The file ends before this row.
     Short,

@@ -5,6 +5,8 @@ use native.Mathlib.Decide.{ℕ_discrete}
 use Rattle.transcript_log.specs.declared.Line.{Line}
 use Rattle.shared_book.specs.declared.parcel.Reply.{Reply}
 use Rattle.shared_book.specs.declared.turn.Turn.{Turn}
+use Rattle.shared_book.specs.declared.desk.Desk.{Desk}
+use Rattle.shared_book.specs.Desks.{DoneAt}
 use Rattle.shared_book.specs.Parcels.{reply_of}
 use Rattle.shared_book.specs.Places.{open_places}
 use Rattle.shared_book.specs.Turns.{turn, turn_at, reply_in, number_in, number_at, Replied, Passed}
@@ -75,6 +77,11 @@ undone replies passes ts k lt same both passed none =
     let a : is_some (get_or passes k None) ≡ false = sym (both k lt) ∙ ap is_some none in
     let b : is_some (number_at k ts) ≡ false = ap is_some (sym (passed k (omega arith))) ∙ a in
     no_number (turn_at k ts) b
+
+-- what a place holds says whether it is done
+pub done_at : (d : Desk) (k : ℕ) (held : Option Reply) → k < length d.replies.items → length d.passes.items ≡ length d.replies.items → get_or d.replies.items k None ≡ held → DoneAt d k held
+done_at d k (Some reply) lt same is = sym (d.replied k lt) ∙ is
+done_at d k None lt same is = (undone d.replies.items d.passes.items d.turns.items k lt same d.both d.passed is, is, open_some d.replies.items k lt is)
 
 pub both_set : (replies : List (Option Reply)) (passes : List (Option ℕ)) (place : ℕ) (reply : Reply) (number : ℕ) → place < length replies → length passes ≡ length replies
     → ((j : ℕ) → j < length replies → is_some (get_or replies j None) ≡ is_some (get_or passes j None))

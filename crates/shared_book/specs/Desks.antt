@@ -30,6 +30,7 @@ pub record SameDesk (d e : Desk) : Type 0 where
   pub turns : e.turns.items ≡ d.turns.items
   pub places : vec_len e.replies ≡ vec_len d.replies
 
+-- make of the turn of a place
 abbrev pub MakeEnds : Desk → ℕ → ℕ → Request → Result Reply CommitError → Desk → Type 0
 MakeEnds d number place request (Ok reply) e = Makes d number place request reply e
 MakeEnds d number place request (Err (Frame x)) e = ⊥

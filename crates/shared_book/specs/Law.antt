@@ -9,14 +9,16 @@ use Rattle.shared_book.specs.declared.turn.View.{View}
 use Rattle.shared_book.specs.declared.desk.Desk.{Desk}
 use Rattle.shared_book.specs.Turns.{IsLegal, StartsWith, journal_after, turns_by}
 
+-- the sum over the passes of what each counts for
 abbrev pub total : (View → ℕ) → List View → ℕ
 total f [] = 0
 total f (v ∷ vs) = f v + total f vs
 
--- 1 for a pass that waits with a ticket, and for one that is not spent
+-- 1 for a pass that waits with a ticket
 abbrev pub tick : View → ℕ
 tick v = if v.waits then 1 else 0
 
+-- 1 for a pass that is not spent
 abbrev pub alive : View → ℕ
 alive v = if v.live then 1 else 0
 
@@ -61,9 +63,11 @@ pub record Tells (log : List Turn) (views : List View) (v : View) : Type 0 where
 abbrev pub HasAll : View → Type 0
 HasAll v = (v.number ≡ 0) × (v.out ≡ 0) × (v.pending ≡ false)
 
+-- the slot is in its place, with a desk that stands for the history
 abbrev pub AtHome : Opening → List Turn → State Desk View → Type 0
 AtHome o log s = (d : Desk) × (s.homes ≡ some d ∷ []) × Stands o log d
 
+-- the slot is out with a pass
 abbrev pub IsOut : State Desk View → Type 0
 IsOut s = (s.homes ≡ none ∷ []) × (i : ℕ) × (v : View) × (get_elem? s.views i ≡ some v) × (v.has ≡ true)
 
@@ -86,12 +90,15 @@ pub record Kept (o : Opening) (s : State Desk View) : Type 0 where
 
 -- ---- what the steps tell
 
+-- a pass's own view, with the slot where it has it
 abbrev pub Mine : Type 0
 Mine = Me Desk View
 
+-- the pass with this ticket
 abbrev pub waiting : View → ℕ → View
 waiting v ticket = record v { waits = true; ticket = ticket }
 
+-- the pass with the slot, which has seen this history
 abbrev pub holding : View → List Turn → View
 holding v seen = record v { has = true; seen = seen }
 
@@ -114,10 +121,11 @@ Looks st m r m' = MatchBool (r == m.0.ticket % 2 ^ 64)
     × Stands m.0.opening seen d × (HasAll m.0 → seen ≡ m.0.seen))
     (m' ≡ m)
 
--- the pass has learnt the history, which begins with what it had seen and with what it was told
+-- the pass that has seen this history, with nothing left to learn
 abbrev pub learnt : View → List Turn → View
 learnt v seen = record v { seen = seen; pending = false }
 
+-- the pass has learnt a legal history, which begins with what it had seen and with what it was told
 abbrev pub Learns : Step Desk → Mine → ℕ → Mine → Type 0
 Learns st m r m' = (seen : List Turn) × (m' ≡ (learnt m.0 seen, m.1)) × StartsWith seen m.0.seen × StartsWith seen m.0.told × (turns_by m.0.told_by seen ≡ m.0.told_mine)
     × (turns_by m.0.number seen ≡ m.0.mine) × IsLegal m.0.opening seen × (m.0.told_out ≡ m.0.out + 1)

@@ -6,6 +6,7 @@ use Rattle.shared_book.specs.declared.turn.Turn.{Turn}
 use Rattle.shared_book.specs.declared.turn.Opening.{Opening}
 use Rattle.shared_book.specs.declared.turn.View.{View}
 
+-- the book and the parcels that a table was told of
 abbrev pub opening_of : Key → Opening
 opening_of key = record { book = key.book.value; parcels = key.parcels.value.items }
 
@@ -30,6 +31,7 @@ newcomer o number seen = record {
   told_out = 0;
 }
 
+-- the book of an empty plan, with no line
 abbrev no_book : BookView
 no_book = record { presence = record { plan = record { groups = []; rounds = 0; w1 = 0; w2 = 0 }; table = [] }; journal = []; spare = 0 }
 
@@ -37,10 +39,11 @@ no_book = record { presence = record { plan = record { groups = []; rounds = 0; 
 abbrev pub spent : View
 spent = record (newcomer (record { book = no_book; parcels = [] }) 0 []) { live = false }
 
--- a pass cut in two: the first counts the second, which has seen as much and done nothing
+-- the first pass, which counts one more that is split from it
 abbrev pub parent : View → View
 parent v = record v { made = v.made + 1; out = v.out + 1 }
 
+-- the pass split from it, which has the next number, has seen as much and has done nothing
 abbrev pub child : View → View
 child v = newcomer v.opening (v.made + 1) v.seen
 

@@ -40,6 +40,7 @@ decoded bytes = frame_unless bytes (first_broken bytes)
 
 -- ---- what is asked
 
+-- to take the frame that was read, or the rule that the bytes break
 abbrev pub taking : Result Frame FrameError → Result Request FrameError
 taking (Ok f) = Ok (TakeRequest f)
 taking (Err e) = Err e
@@ -75,6 +76,7 @@ judged_request plan lines (TakeRequest f) =
 judged_request plan lines (CloseRequest g r) = if is_round plan g r then Accepted (Close g r) else Outside
 judged_request plan lines (EndRequest g r) = if is_round plan g r then Accepted (End g r) else Outside
 
+-- what becomes of a request that was read, or of bytes that are no frame
 abbrev pub judged_if_read : PlanView → List Line → Result Request FrameError → Judged
 judged_if_read plan lines (Ok request) = judged_request plan lines request
 judged_if_read plan lines (Err e) = BadFrame e

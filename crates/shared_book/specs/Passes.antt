@@ -24,6 +24,7 @@ pub record PassView : Type 0 where
   pub seen : List Turn
   pub mine : List Turn
 
+-- what the pass knows of its view
 abbrev pub known : View → PassView
 known v = record { number = v.number; made = v.made; out = v.out; joined = v.joined; seen = v.seen; mine = v.mine }
 

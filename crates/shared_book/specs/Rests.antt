@@ -89,6 +89,7 @@ pub record Stayed (v : View) (place : ℕ) (request : Request) (e : CommitError)
   pub legal : IsLegal v.opening w.seen
   pub alone : HasAll v → w.seen ≡ v.seen
 
+-- one turn of a place, which began when the pass was v
 abbrev pub TurnEnds : View → ℕ → Request → Result Reply CommitError → View → Type 0
 TurnEnds v place request (Ok reply) w = Turned v place request reply w
 TurnEnds v place request (Err e) w = Stayed v place request e w

@@ -11,6 +11,7 @@ use Rattle.shared_book.specs.declared.turn.Turn.{Turn}
 use Rattle.shared_book.specs.declared.turn.Opening.{Opening}
 use Rattle.shared_book.specs.Parcels.{Accepted, judged, request_of, reply_of}
 
+-- the turn by which the pass with this number committed a place
 abbrev pub turn : ℕ → ℕ → Line → Turn
 turn number place line = record { number = number; place = place; line = line }
 
@@ -19,26 +20,29 @@ abbrev pub turn_at : ℕ → List Turn → Option Turn
 turn_at place [] = None
 turn_at place (t ∷ ts) = if t.place == place then Some t else turn_at place ts
 
--- the reply of a turn, and its pass's number, where there is one
+-- the reply of a turn, where there is one
 abbrev pub reply_in : Option Turn → Option Reply
 reply_in None = None
 reply_in (Some t) = reply_of t.line
 
+-- the number of a turn's pass, where there is a turn
 abbrev pub number_in : Option Turn → Option ℕ
 number_in None = None
 number_in (Some t) = Some t.number
 
--- the reply of a place, and the number of the pass that committed it
+-- the reply of a place, where it is committed
 abbrev pub reply_at : ℕ → List Turn → Option Reply
 reply_at place turns = reply_in (turn_at place turns)
 
+-- the number of the pass that committed a place
 abbrev pub number_at : ℕ → List Turn → Option ℕ
 number_at place turns = number_in (turn_at place turns)
 
--- each place's reply, and each place's pass
+-- each place has the reply of its turn
 abbrev pub Replied : List (Option Reply) → List Turn → Type 0
 Replied replies turns = (k : ℕ) → k < length replies → slice_index_or replies k None ≡ reply_at k turns
 
+-- each place has the number of its turn's pass
 abbrev pub Passed : List (Option ℕ) → List Turn → Type 0
 Passed passes turns = (k : ℕ) → k < length passes → slice_index_or passes k None ≡ number_at k turns
 
@@ -65,11 +69,12 @@ pub record MayFollow (o : Opening) (before : List Turn) (t : Turn) : Type 0 wher
   pub accepted : judged o.book parcel ≡ Accepted event
   pub core : t.line ≡ core_line (shape_of o.book) (journal_after o before) event None
 
--- each turn may follow those before it
+-- each further turn may follow those before it
 unfoldable pub LegalFrom : Opening → List Turn → List Turn → Type 0
 LegalFrom o before [] = ⊤
 LegalFrom o before (t ∷ ts) = MayFollow o before t × LegalFrom o (before ++ t ∷ []) ts
 
+-- a legal history: each of its turns may follow those before it
 abbrev pub IsLegal : Opening → List Turn → Type 0
 IsLegal o turns = LegalFrom o [] turns
 

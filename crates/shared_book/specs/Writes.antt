@@ -25,6 +25,7 @@ pub record Writes (b : BookView) (request : Request) (line : Line) (reply : Repl
   pub journal : c.journal ≡ b.journal ++ line ∷ []
   pub spare : b.spare ≤ c.spare + 1
 
+-- write of a request into a book
 abbrev pub WriteEnds : BookView → Request → Result Made CommitError → BookView → Type 0
 WriteEnds b request (Ok made) c = Writes b request made.line made.reply c
 WriteEnds b request (Err (Frame e)) c = ⊥

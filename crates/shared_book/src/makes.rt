@@ -12,10 +12,7 @@ impl Desk {
         requires { place < vec_len self.now.replies }
         ensures { DoneAt self.now place result }
     {
-        match self.replies[place as usize] {
-            Some(reply) => Some(reply),
-            None => None,
-        }
+        self.replies[place as usize]
     }
 
     /// Makes the turn of a place. An error makes none.

@@ -34,7 +34,7 @@ pub enum Request {
 pub enum CommitError {
     /// The bytes are no frame.
     Frame(FrameError),
-    /// There are no more parcels than this place.
+    /// The place is not below the number of parcels.
     NoSuch,
     /// The place has another parcel.
     Other,

@@ -21,12 +21,12 @@ const TICKET: usize = 0;
 
 const SERVING: usize = 1;
 
-/// How many microseconds a pass sleeps that found the desk taken.
-const NAP: u64 = 50;
+/// Slept by a pass that finds the desk taken.
+const NAP_MICROSECONDS: u64 = 50;
 
 /// Sleeps for a while. Nobody wakes it.
 fn nap<R: Wait>(rt: &R) {
-    AtomicU64::new(0).park_timeout(rt, 0, Duration::from_micros(NAP));
+    AtomicU64::new(0).park_timeout(rt, 0, Duration::from_micros(NAP_MICROSECONDS));
 }
 
 /// Draws a ticket once it is the next to be served. A pass that waited with a ticket while its thread doesn't run would hold

@@ -6,7 +6,7 @@ fn may_be_shared<T: Sync>(_value: &T) {}
 
 fn may_be_moved<T: Send>(_value: &T) {}
 
-/// Proved only where both hold.
+/// Compiles only where a `SharedBook` is `Sync` and a `Pass` is `Send`.
 pub fn crosses_threads(book: &SharedBook, pass: &Pass) {
     may_be_shared(book);
     may_be_moved(pass);

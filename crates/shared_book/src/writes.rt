@@ -1,5 +1,4 @@
 ghost use Rattle.std.specs.Prelude.{◌≡◌, ◌≤◌};
-ghost use Rattle.group_book.specs.Places.{is_round};
 ghost use Rattle.transcript_log.specs.declared.Line.TheVariants.{Close as CloseLine, End as EndLine};
 ghost use Rattle.shared_book.specs.declared.parcel.Reply.TheVariants.{Closed, Ended};
 ghost use Rattle.shared_book.specs.declared.parcel.Request.TheVariants.{Take as TakeRequest, Close as CloseRequest, End as EndRequest};
@@ -7,7 +6,6 @@ ghost use Rattle.shared_book.specs.Writes.{WriteEnds};
 
 use crate::parcel::{CommitError, Reply, Request};
 use group_book::Book;
-use group_plan::Plan;
 use meter_frames::Frame;
 use round_machine::{Closing, Ending};
 use transcript_log::Line;
@@ -52,7 +50,7 @@ fn close(book: &mut Book, group: u16, round: u32) -> Result<Made, CommitError>
     requires { 1 ≤ book.old.spare }
     ensures { WriteEnds book.old (CloseRequest group round) result book.new }
 {
-    if !has_round(book.plan(), group, round) {
+    if !book.has_round(group, round) {
         return Err(CommitError::Place);
     }
     let closing = book.close(group, round);
@@ -64,18 +62,11 @@ fn end(book: &mut Book, group: u16, round: u32) -> Result<Made, CommitError>
     requires { 1 ≤ book.old.spare }
     ensures { WriteEnds book.old (EndRequest group round) result book.new }
 {
-    if !has_round(book.plan(), group, round) {
+    if !book.has_round(group, round) {
         return Err(CommitError::Place);
     }
     let ending = book.end(group, round);
     Ok(ended(group, round, &ending))
-}
-
-/// Whether the plan has the group and the round.
-fn has_round(plan: &Plan, group: u16, round: u32) -> bool
-    ensures { result ≡ is_round plan.now group round }
-{
-    (group as usize) < plan.groups().len() && round < plan.rounds()
 }
 
 fn closed(group: u16, round: u32, closing: &Closing) -> Made

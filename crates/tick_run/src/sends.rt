@@ -17,11 +17,9 @@ use std::alloc::AllocError;
 use transcript_log::{Entry, Line};
 
 /// Learns that the delays of a fate are 1 to 16 ticks.
-fn fate_is(fate: Fate)
-    ensures { All IsDelay fate }
-{
-    let _delays = fate.delays();
-}
+fn fate_is(_fate: Fate)
+    ensures { All IsDelay _fate }
+{}
 
 /// Sends a frame at a tick: it is posted through the lanes, its copies are on their way, and its line is the transcript's last.
 fn send_one(tick: u32, frame: &Frame, run: &mut Running, rack: &mut Rack) -> Result<(), AllocError>

@@ -13,9 +13,8 @@ use Rattle.run_rows.specs.Report.{row_of}
 use Rattle.run_rows.specs.Summary.{Summary, is_sending, is_taking}
 use Rattle.totals_report.specs.declared.row.ReportRow.{ReportRow}
 use Rattle.totals_report.specs.Books.{outcome_of_state, row_in, summary_in}
-use Rattle.totals_report.specs.Counts.{is_none, is_thin, is_total}
-use Rattle.totals_report.specs.Reports.{group_rows, report_row, report_rows, survivors_of}
-use Rattle.totals_report.specs.Reports as reports
+use Rattle.totals_report.specs.Counts.{is_lacking, is_thin, is_total}
+use Rattle.totals_report.specs.Reports.{report_rows, row_outcome, survivors_of}
 use Rattle.totals_report.proofs.CountLemmas.{count_nones, count_thins, count_totals}
 
 -- ---- one row
@@ -26,7 +25,7 @@ survivors_kept survivors EndedThin = refl
 survivors_kept survivors (Published others total) = refl
 survivors_kept survivors (Unpublished lacking) = refl
 
-outcome_kept : (survivors : List ℕ) (outcome : Outcome) → reports.outcome_of (row_of survivors outcome) ≡ outcome_of_state (state_of outcome)
+outcome_kept : (survivors : List ℕ) (outcome : Outcome) → row_outcome (row_of survivors outcome) ≡ outcome_of_state (state_of outcome)
 outcome_kept survivors Running = refl
 outcome_kept survivors EndedThin = refl
 outcome_kept survivors (Published others total) = refl
@@ -37,9 +36,9 @@ pub row_survivors : (b : BookView) (g r : ℕ) → survivors_of (row_in b g r) �
 unfolding row_in
 row_survivors b g r = survivors_kept _ _
 
-pub row_outcome : (b : BookView) (g r : ℕ) → reports.outcome_of (row_in b g r) ≡ outcome_of_state (outcome_of b g r).state
+pub row_outcome_is : (b : BookView) (g r : ℕ) → row_outcome (row_in b g r) ≡ outcome_of_state (outcome_of b g r).state
 unfolding row_in
-row_outcome b g r = outcome_kept _ _
+row_outcome_is b g r = outcome_kept _ _
 
 pub name_stated : (groups : List Group) (g : ℕ) (d : GroupPlan) → g < length groups → (slice_index_or (map stated groups) g d).name ≡ name_of groups g
 name_stated [] g d h = absurd (omega arith)
@@ -72,7 +71,7 @@ group_more f n out new so pushed =
 
 -- these counts are those of the book's summary
 pub summary_counted : (b : BookView) (rows : List ReportRow) (rounds totals nones thins sends takes : ℕ) → rows ≡ report_rows b.presence.plan (row_in b) → rounds ≡ length b.presence.plan.groups * b.presence.plan.rounds
-    → totals ≡ count_by (λ row. is_total row.outcome) rows → nones ≡ count_by (λ row. is_none row.outcome) rows → thins ≡ count_by (λ row. is_thin row.outcome) rows
+    → totals ≡ count_by (λ row. is_total row.outcome) rows → nones ≡ count_by (λ row. is_lacking row.outcome) rows → thins ≡ count_by (λ row. is_thin row.outcome) rows
     → sends ≡ count_by is_sending b.journal → takes ≡ count_by is_taking b.journal
     → record { rounds = rounds; totals = totals; nones = nones; thins = thins; sends = sends; takes = takes } ≡ summary_in b
 unfolding summary_in row_in report_rows
@@ -81,7 +80,7 @@ summary_counted b rows rounds totals nones thins sends takes are all a n t s k =
     let ranged = range_with_len 0 plan.rounds in
     let groups = range_with_len 0 (length plan.groups) in
     let totalled = a ∙ ap (count_by (λ (row : ReportRow). is_total row.outcome)) are ∙ count_totals plan (row_in b) ranged groups in
-    let lacking = n ∙ ap (count_by (λ (row : ReportRow). is_none row.outcome)) are ∙ count_nones plan (row_in b) ranged groups in
+    let lacking = n ∙ ap (count_by (λ (row : ReportRow). is_lacking row.outcome)) are ∙ count_nones plan (row_in b) ranged groups in
     let thinned = t ∙ ap (count_by (λ (row : ReportRow). is_thin row.outcome)) are ∙ count_thins plan (row_in b) ranged groups in
     six all totalled lacking thinned s k
   where

@@ -14,19 +14,19 @@ use Rattle.run_rows.specs.Report.{row_of}
 use Rattle.totals_report.specs.declared.row.ReportRow.{ReportRow}
 use Rattle.totals_report.specs.Rows.{AreRows, IsRow, IsSmallTotal}
 use Rattle.totals_report.specs.Books.{row_in}
-use Rattle.totals_report.specs.Reports.{group_rows, outcome_of, report_row, report_rows, survivors_of}
+use Rattle.totals_report.specs.Reports.{group_rows, report_row, report_rows, row_outcome, survivors_of}
 use Rattle.totals_report.proofs.BookLemmas.{row_survivors}
 
 -- ---- one row
 
 small_total : (running thin published : Bool) (survivors others lacking : List ℕ) (total : ℕ) → total < 2 ^ 64
-    → IsSmallTotal (outcome_of (row_of survivors (if running then Running else if thin then EndedThin else if published then Published others total else Unpublished lacking)))
+    → IsSmallTotal (row_outcome (row_of survivors (if running then Running else if thin then EndedThin else if published then Published others total else Unpublished lacking)))
 small_total true thin published survivors others lacking total small = tt
 small_total false true published survivors others lacking total small = tt
 small_total false false true survivors others lacking total small = small
 small_total false false false survivors others lacking total small = tt
 
-row_small : (b : BookView) (g r : ℕ) → IsSmallTotal (outcome_of (row_in b g r))
+row_small : (b : BookView) (g r : ℕ) → IsSmallTotal (row_outcome (row_in b g r))
 unfolding row_in
 row_small b g r = small_total _ _ _ _ _ _ _ (mod-lt _ (omega arith))
 

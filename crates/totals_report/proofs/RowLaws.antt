@@ -12,7 +12,7 @@ use Rattle.totals_report.specs.declared.row.RowOutcome.{RowOutcome}
 use Rattle.totals_report.specs.declared.row.RowOutcome.TheVariants.{Total, Lacking, Thin, Running}
 use Rattle.totals_report.specs.Rows.{IsRow, IsSmallTotal}
 use Rattle.totals_report.specs.Texts.{fields_of, outcome_word, row_line, total_text}
-use Rattle.totals_report.specs.Reading.{◌>>=◌, name_of, outcome_of, row_of, without_total}
+use Rattle.totals_report.specs.Reading.{◌>>=◌, name_spelled, outcome_spelled, row_of, without_total}
 use Rattle.field_texts.specs.Sets.{set_of}
 use Rattle.field_texts.proofs.NumberLaws.{number_again, number_back, within_again, within_back}
 use Rattle.field_texts.proofs.SetLaws.{clean_text, rising_set, set_again, set_back, set_rising}
@@ -21,8 +21,8 @@ use Rattle.field_texts.proofs.TextLaws.{AllClean, clean, clean_decimal, clean_jo
 
 -- ---- forth
 
-outcome_again : (outcome : RowOutcome) → IsSmallTotal outcome → outcome_of (outcome_word outcome) (total_text outcome) ≡ Some outcome
-unfolding outcome_of
+outcome_again : (outcome : RowOutcome) → IsSmallTotal outcome → outcome_spelled (outcome_word outcome) (total_text outcome) ≡ Some outcome
+unfolding outcome_spelled
 outcome_again (Total total) small = let n = number_again total small in rw n refl
 outcome_again Lacking small = refl
 outcome_again Thin small = refl
@@ -98,7 +98,7 @@ bound : {A B : Type 0} (first : Option A) (next : A → Option B) (y : B) → (f
 bound (Some x) next y h = (x, refl, h)
 bound None next y h = absurd cc
 
-name_back : (text name : List ℕ) → name_of text ≡ Some name → (text ≡ name) × IsTrue (is_name name)
+name_back : (text name : List ℕ) → name_spelled text ≡ Some name → (text ≡ name) × IsTrue (is_name name)
 name_back text name h = elim (pick (is_name text) (Some text) None (Some name) h) [
   | inl w ↦ let same : text ≡ name = cc in (same, ap is_name (sym same) ∙ w.0)
   | inr w ↦ absurd cc
@@ -128,8 +128,8 @@ word_back word total plain outcome w none small h = elim (pick (bytes_eq total [
   | inr p ↦ absurd cc
 ]
 
-outcome_back : (word total : List ℕ) (outcome : RowOutcome) → outcome_of word total ≡ Some outcome → IsRead word total outcome
-unfolding outcome_of
+outcome_back : (word total : List ℕ) (outcome : RowOutcome) → outcome_spelled word total ≡ Some outcome → IsRead word total outcome
+unfolding outcome_spelled
 outcome_back word total outcome h = elim (pick (bytes_eq word (codes "total")) _ _ _ h) [
   | inl w ↦ total_back word total outcome (is_word word _ w.0) w.1
   | inr w ↦ elim (pick (bytes_eq word (codes "none")) _ _ _ w.1) [
@@ -154,11 +154,11 @@ IsOfRow texts row = (texts ≡ fields_of row) × IsRow row
 six_back : (name round survivors missing outcome total : List ℕ) (row : ReportRow) → row_of (name ∷ round ∷ survivors ∷ missing ∷ outcome ∷ total ∷ []) ≡ Some row → IsOfRow (name ∷ round ∷ survivors ∷ missing ∷ outcome ∷ total ∷ []) row
 unfolding row_of
 six_back name round survivors missing outcome total row h =
-    let a = bound (name_of name) _ row h in
+    let a = bound (name_spelled name) _ row h in
     let b = bound (within 0 4096 (number_of round)) _ row a.2 in
     let d = bound (within 0 257 (number_of survivors)) _ row b.2 in
     let e = bound (set_of 256 missing) _ row d.2 in
-    let f = bound (outcome_of outcome total) _ row e.2 in
+    let f = bound (outcome_spelled outcome total) _ row e.2 in
     let same : record { name = a.0; round = b.0; survivors = d.0; missing = e.0; outcome = f.0 } ≡ row = cc in
     let named = name_back name a.0 a.1 in
     let rounds = within_back 0 4096 b.0 round b.1 in

@@ -14,9 +14,9 @@ abbrev pub is_total : RowOutcome → Bool
 is_total (Total total) = true
 is_total _ = false
 
-abbrev pub is_none : RowOutcome → Bool
-is_none Lacking = true
-is_none _ = false
+abbrev pub is_lacking : RowOutcome → Bool
+is_lacking Lacking = true
+is_lacking _ = false
 
 abbrev pub is_thin : RowOutcome → Bool
 is_thin Thin = true

@@ -20,16 +20,17 @@ None >>= next = None
 
 -- ---- fields
 
-abbrev pub name_of : List ℕ → Option (List ℕ)
-name_of text = if is_name text then Some text else None
+-- the name that a text is, where it is one
+abbrev pub name_spelled : List ℕ → Option (List ℕ)
+name_spelled text = if is_name text then Some text else None
 
 -- an outcome that has no number beside its word
 abbrev pub without_total : RowOutcome → List ℕ → Option RowOutcome
 without_total outcome total = if bytes_eq total [] then Some outcome else None
 
 -- the outcome of its word and what stands beside it
-unfoldable pub outcome_of : List ℕ → List ℕ → Option RowOutcome
-outcome_of word total =
+unfoldable pub outcome_spelled : List ℕ → List ℕ → Option RowOutcome
+outcome_spelled word total =
     if bytes_eq word (codes "total") then option_map Total (number_of total) else
     if bytes_eq word (codes "none") then without_total Lacking total else
     if bytes_eq word (codes "thin") then without_total Thin total else
@@ -40,11 +41,11 @@ outcome_of word total =
 -- the row of six fields
 unfoldable pub row_of : List (List ℕ) → Option ReportRow
 row_of (name ∷ round ∷ survivors ∷ missing ∷ outcome ∷ total ∷ []) = do
-  name ← name_of name
+  name ← name_spelled name
   round ← within 0 4096 (number_of round)
   survivors ← within 0 257 (number_of survivors)
   missing ← set_of 256 missing
-  outcome ← outcome_of outcome total
+  outcome ← outcome_spelled outcome total
   Some (record { name = name; round = round; survivors = survivors; missing = missing; outcome = outcome })
 row_of _ = None
 

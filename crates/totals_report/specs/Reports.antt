@@ -19,11 +19,11 @@ survivors_of (TotalRow survivors total) = survivors
 survivors_of (NoneRow survivors) = survivors
 
 -- how a round ended, or that it has not ended
-abbrev pub outcome_of : Row → RowOutcome
-outcome_of (OpenRow survivors) = Running
-outcome_of (ThinRow survivors) = Thin
-outcome_of (TotalRow survivors total) = Total total
-outcome_of (NoneRow survivors) = Lacking
+abbrev pub row_outcome : Row → RowOutcome
+row_outcome (OpenRow survivors) = Running
+row_outcome (ThinRow survivors) = Thin
+row_outcome (TotalRow survivors total) = Total total
+row_outcome (NoneRow survivors) = Lacking
 
 -- the row of round r of group g; missing are the members that are no survivors
 abbrev pub report_row : PlanView → ℕ → ℕ → Row → ReportRow
@@ -32,7 +32,7 @@ report_row plan g r row = record {
   round = r;
   survivors = length (survivors_of row);
   missing = less (members plan.groups g r) (survivors_of row);
-  outcome = outcome_of row;
+  outcome = row_outcome row;
 }
 
 -- the rows of a group, by round

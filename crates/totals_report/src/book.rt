@@ -13,7 +13,7 @@ use group_book::{Book, OutcomeState};
 use std::alloc::{AllocError, Global};
 use transcript_text::members;
 
-fn row_outcome(state: OutcomeState) -> RowOutcome
+fn outcome_of_state(state: OutcomeState) -> RowOutcome
     ensures { result ≡ outcome_of_state state }
 {
     match state {
@@ -36,7 +36,7 @@ fn row(book: &Book, group: u16, round: u32) -> ReportRow
         round,
         survivors: outcome.survivors.len(),
         missing: members(plan, group, round).minus(outcome.survivors),
-        outcome: row_outcome(outcome.state),
+        outcome: outcome_of_state(outcome.state),
     }
 }
 

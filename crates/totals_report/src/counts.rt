@@ -1,7 +1,7 @@
 //! What a summary counts.
 ghost use Rattle.std.specs.Prelude.{◌≡◌, count_by};
 ghost use Rattle.run_rows.specs.Summary.{is_sending, is_taking};
-ghost use Rattle.totals_report.specs.Counts.{is_total, is_none, is_thin};
+ghost use Rattle.totals_report.specs.Counts.{is_total, is_lacking, is_thin};
 
 use crate::row::{ReportRow, RowOutcome};
 use transcript_log::Line;
@@ -28,7 +28,7 @@ pub(crate) struct OutcomeCounts {
 /// Counts the rows of each outcome.
 pub(crate) fn count_outcomes(rows: &[ReportRow]) -> OutcomeCounts
     ensures totals { result.totals ≡ count_by (λ row. is_total row.outcome) rows.now }
-    ensures nones { result.nones ≡ count_by (λ row. is_none row.outcome) rows.now }
+    ensures nones { result.nones ≡ count_by (λ row. is_lacking row.outcome) rows.now }
     ensures thins { result.thins ≡ count_by (λ row. is_thin row.outcome) rows.now }
 {
     let mut counts = OutcomeCounts {

@@ -4,22 +4,19 @@ ghost use Rattle.field_texts.specs.Parts.{parts};
 ghost use Rattle.totals_report.specs.declared.row.ReportRow.{ReportRow};
 ghost use Rattle.totals_report.specs.Rows.{AreRows};
 ghost use Rattle.totals_report.specs.Texts.{rows_text};
-ghost use Rattle.totals_report.specs.Reading.{outcome_of, without_total, row_of, rows_from, rows_of_text, Gives};
+ghost use Rattle.totals_report.specs.Reading.{outcome_spelled, without_total, row_of, rows_from, rows_of_text, Gives};
 ghost use Rattle.totals_report.specs.Faults.{ReadEnds};
 
 use crate::cut::split_row;
-use crate::row::{Report, ReportError, ReportRow, RowOutcome};
+use crate::row::{HEADING, Report, ReportError, ReportRow, RowOutcome};
 use field_texts::{cut, read_number, read_number_within, read_set};
 use group_plan::Name;
 use std::alloc::Global;
 
-/// The first line of a report.
-const HEADING: &[u8] = b"group,round,survivors,missing,outcome,total";
-
 /// The outcome of this word, with this text beside it.
-#[tactic(auto, unfolding(crate::specs::Reading::outcome_of))]
+#[tactic(auto, unfolding(crate::specs::Reading::outcome_spelled))]
 fn outcome(word: &[u8], total: &[u8]) -> Option<RowOutcome>
-    ensures { result ≡ outcome_of word.now total.now }
+    ensures { result ≡ outcome_spelled word.now total.now }
 {
     if word == b"total".as_slice() {
         let total = read_number(total)?;

@@ -6,6 +6,9 @@ use missing_round::MeterSet;
 use std::alloc::{AllocError, AllocFailed};
 use std::marker::Model;
 
+/// The first line of a report, without its newline.
+pub(crate) const HEADING: &[u8] = b"group,round,survivors,missing,outcome,total";
+
 /// How a round ended.
 #[derive(Clone, Copy, Debug, PartialEq, Eq)]
 pub enum RowOutcome {
@@ -24,9 +27,9 @@ pub enum RowOutcome {
 pub struct ReportRow {
     /// The name of the group.
     pub name: Name,
-    /// The round, counted from 0.
+    /// The round, counted from 0; below 4096.
     pub round: u32,
-    /// The number of survivors.
+    /// The number of survivors, at most 256.
     pub survivors: u16,
     /// The meters that are missing.
     pub missing: MeterSet,

@@ -7,7 +7,7 @@ ghost use Rattle.totals_report.specs.Counts.{summary_of};
 ghost use Rattle.totals_report.specs.Reports.{summary_text};
 
 use crate::counts::Counts;
-use crate::row::{ReportRow, RowOutcome};
+use crate::row::{HEADING, ReportRow, RowOutcome};
 use field_texts::{put_number, put_set};
 use group_plan::Name;
 use missing_round::MeterSet;
@@ -71,7 +71,8 @@ pub fn row_text(alloc: Global, row: &ReportRow) -> Result<Vec<u8>, AllocError>
 pub(crate) fn rows_text(alloc: Global, rows: &[ReportRow]) -> Result<Vec<u8>, AllocError>
     ensures { IfOk result (λ text. text.items ≡ rows_text rows.now) }
 {
-    let mut text = Vec::from_slice(alloc, b"group,round,survivors,missing,outcome,total\n")?;
+    let mut text = Vec::from_slice(alloc, HEADING)?;
+    text.extend_from_slice(b"\n")?;
     for row in rows {
         put_row(&mut text, row)?;
         text.extend_from_slice(b"\n")?;

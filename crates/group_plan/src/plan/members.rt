@@ -6,7 +6,7 @@ ghost use Rattle.group_plan.specs.Spans.{PlacesSpans, SetsSpans, is_in_plan, rou
 use super::{Plan, Rounds, copy_of_groups, copy_of_starts, whole_spans};
 use std::alloc::AllocError;
 
-/// The rounds in which a meter is a member: from `from` up to below `until`.
+/// A meter of a group, and the rounds in which it is a member: from `from` up to below `until`.
 #[derive(Clone, Copy, Debug, PartialEq, Eq)]
 pub struct Span {
     pub group: u32,

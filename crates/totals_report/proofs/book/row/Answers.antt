@@ -9,7 +9,7 @@ use Rattle.totals_report.specs.declared.row.RowOutcome.{RowOutcome}
 use Rattle.totals_report.specs.declared.row.ReportRow.{ReportRow}
 use Rattle.totals_report.specs.Books.{outcome_of_state, row_in}
 use Rattle.totals_report.specs.Reports.{survivors_of}
-use Rattle.totals_report.proofs.BookLemmas.{name_stated, row_outcome, row_survivors}
+use Rattle.totals_report.proofs.BookLemmas.{name_stated, row_outcome_is, row_survivors}
 use Rattle.totals_report.proofs.book.row.Goals as goal
 
 same_row : {name names missing missed : List ℕ} {round survivors counted : ℕ} {outcome state : RowOutcome} → name ≡ names → survivors ≡ counted → missing ≡ missed → outcome ≡ state
@@ -28,4 +28,4 @@ returns c =
     let name = ap (λ gs. (slice_index_or gs g c.index-groups-group.result).name) (c.groups.ensures.groups ∙ ap (λ (p : PlanView). map stated p.groups) c.plan-plan.ensures) ∙ name_stated plan.groups g c.index-groups-group.result known in
     same_row name (c.len.ensures ∙ ap length survivors)
     (c.minus.ensures ∙ ap (λ m. less m c.outcome-outcome.result.survivors) (c.members.ensures ∙ ap (λ (p : PlanView). members p.groups g r) c.plan-plan.ensures) ∙ ap (less (members plan.groups g r)) survivors)
-    (c.row_outcome.ensures ∙ ap (λ (o : Outcome). outcome_of_state o.state) is ∙ sym (row_outcome b g r))
+    (c.outcome_of_state.ensures ∙ ap (λ (o : Outcome). outcome_of_state o.state) is ∙ sym (row_outcome_is b g r))
