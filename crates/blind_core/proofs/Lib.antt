@@ -1,4 +1,6 @@
 pub mod PlaceLemmas
+pub mod ShareLemmas
+pub mod WordLoops
 pub mod RowLemmas
 pub mod RowLoop
 pub mod GroupLemmas

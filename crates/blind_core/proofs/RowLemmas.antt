@@ -12,6 +12,7 @@ use Rattle.group_plan.specs.Plans.{PlanView, is_place}
 use Rattle.blind_core.specs.Blind.{are_places}
 use Rattle.blind_core.specs.Rows.{ascends, is_higher, taken_from, added_at, with_rows}
 use Rattle.blind_core.proofs.PlaceLemmas.{test-member}
+use Rattle.blind_core.proofs.ShareLemmas.{share-same}
 
 -- what is above j is not j
 below-not_member : (j : ℕ) (js : List ℕ) → IsTrue (list_all (nat_lt j) js) → is_member j js ≡ false
@@ -59,9 +60,6 @@ sum_by-higher pair i (j ∷ js) above =
     sum_by-cons (share pair i) j js
     ∙ grind (arith, (and_parts (nat_lt i j) (list_all (nat_lt i) js) above).0, sum_by-higher pair i js ((and_parts (nat_lt i j) (list_all (nat_lt i) js) above).1))
     ∙ sym (sum_by-cons (pair i) j js)
-
-share-same : (pair : ℕ → ℕ → ℕ) (i : ℕ) → share pair i i ≡ 0
-share-same pair i = grind (arith, le-ltb i i (omega arith))
 
 share-lower : (pair : ℕ → ℕ → ℕ) (i k : ℕ) → i < k → share pair k i ≡ minus (pair i k)
 share-lower pair i k h = grind (arith, le-ltb k i (omega arith), lt-ltb i k h)

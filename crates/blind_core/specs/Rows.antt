@@ -28,12 +28,17 @@ unfoldable pub with_rows : (ℕ → ℕ → ℕ) → List ℕ → List ℕ → L
 with_rows pair [] sums = sums
 with_rows pair (i ∷ meters) sums = with_rows pair meters (added_at i (pair i) meters (taken_from (pair i) meters sums))
 
--- sums for n meters: of a member, the sum of its shares with all members, modulo 2^64
-pub record AreShareSums (pair : ℕ → ℕ → ℕ) (members : List ℕ) (n : ℕ) (sums : List ℕ) : Type 0 where
-  pub long : length sums ≡ n
-  pub each : (i : ℕ) → is_member i members ≡ true → word (slice_index sums i) ≡ word (sum_by (share pair i) members)
+-- the sums with the own word of each of these meters in the place of its sum
+unfoldable pub with_owns : (ℕ → ℕ) → List ℕ → List ℕ → List ℕ
+with_owns own [] sums = sums
+with_owns own (i ∷ meters) sums = with_owns own meters (slice_set sums i (own i))
 
--- a reading hidden by an own word and a sum of shares, or 0 where there is none
-abbrev pub hidden_or_0 : (ℕ → ℕ) → ℕ → ℕ → Option ℕ → ℕ
-hidden_or_0 own i shares None = 0
-hidden_or_0 own i shares (Some reading) = word (reading + own i + shares)
+-- sums for n meters: of a member, its own word and the sum of its shares with all members, modulo 2^64
+pub record AreHidingSums (own : ℕ → ℕ) (pair : ℕ → ℕ → ℕ) (members : List ℕ) (n : ℕ) (sums : List ℕ) : Type 0 where
+  pub long : length sums ≡ n
+  pub each : (i : ℕ) → is_member i members ≡ true → word (slice_index sums i) ≡ word (own i + sum_by (share pair i) members)
+
+-- a reading hidden by what is added to it, or 0 where there is none
+abbrev pub hidden_or_0 : ℕ → Option ℕ → ℕ
+hidden_or_0 sum None = 0
+hidden_or_0 sum (Some reading) = word (reading + sum)

@@ -5,7 +5,7 @@ ghost use Rattle.group_plan.specs.Plans.{is_place, size};
 ghost use Rattle.missing_round.specs.Sets.{IsSet};
 ghost use Rattle.missing_round.specs.Words.{word};
 ghost use Rattle.blind_core.specs.Blind.{are_places, AreReadings, AreGroupWords};
-ghost use Rattle.blind_core.specs.Rows.{is_higher, taken_from, with_rows, AreShareSums, hidden_or_0};
+ghost use Rattle.blind_core.specs.Rows.{is_higher, taken_from, with_rows, with_owns, AreHidingSums, hidden_or_0};
 
 use mask_stream::Masks;
 use missing_round::MeterSet;
@@ -22,13 +22,18 @@ fn take_row<M: Masks>(
     higher: &MeterSet,
     sums: &mut [u64],
 ) -> u64
-    requires { IsTrue (list_all (is_higher (M.plan masks.now) group round (length sums.old) low) higher.now) }
+    requires low { IsTrue (is_place (M.plan masks.now) group round low) }
+    requires higher { IsTrue (list_all (is_higher (M.plan masks.now) group round (length sums.old) low) higher.now) }
     ensures sums { sums.new ≡ taken_from ((M.table masks.now).pair group round low) higher.now sums.old }
     ensures row { result ≡ word (sum_by ((M.table masks.now).pair group round low) higher.now) }
 {
+    let row = masks.pairs(group, round, low, higher);
+    let words = row.as_slice();
+    let mut place = 0;
     let mut total = 0u64;
     for high in higher.members() {
-        let word = masks.pair(group, round, low, high).value();
+        let word = words[place];
+        place += 1;
         total = total.wrapping_add(word);
         let sum = &mut sums[high as usize];
         *sum = sum.wrapping_sub(word);
@@ -59,8 +64,36 @@ fn zeros(alloc: Global, count: usize) -> Result<Vec<u64>, AllocError>
     vec![in alloc; 0; count]
 }
 
-// The sum of the shares of each member with all members, modulo 2^64, at the meter's place.
-fn share_sums<M: Masks>(
+// Puts the own word of each member in the place of its sum.
+#[tactic(auto, unfolding(crate::specs::Rows::with_owns))]
+fn put_owns<M: Masks>(masks: &M, group: u16, round: u32, members: &MeterSet, sums: &mut [u64])
+    requires places { IsTrue (are_places (M.plan masks.now) group round members.now) }
+    requires within { IsTrue (list_all (λ j. nat_lt j (length sums.old)) members.now) }
+    ensures { sums.new ≡ with_owns ((M.table masks.now).own group round) members.now sums.old }
+{
+    let row = masks.owns(group, round, members);
+    let words = row.as_slice();
+    let mut place = 0;
+    for meter in members.members() {
+        sums[meter as usize] = words[place];
+        place += 1;
+    }
+}
+
+// Makes of zeros what hides the reading of each member: its own word and its shares of the pair words with all members.
+fn fill_sums<M: Masks>(masks: &M, group: u16, round: u32, members: &MeterSet, sums: &mut [u64])
+    requires places { IsTrue (are_places (M.plan masks.now) group round members.now) }
+    requires within { IsTrue (list_all (λ j. nat_lt j (length sums.old)) members.now) }
+    ensures sums { sums.new ≡ with_rows ((M.table masks.now).pair group round) members.now (with_owns ((M.table masks.now).own group round) members.now sums.old) }
+    ensures set { IsSet members.now }
+{
+    put_owns(masks, group, round, members, sums);
+    add_rows(masks, group, round, members, sums);
+}
+
+// What hides the reading of each member, at the meter's place: its own word and the sum of its shares with all members,
+// modulo 2^64.
+fn hiding_sums<M: Masks>(
     alloc: Global,
     masks: &M,
     group: u16,
@@ -70,31 +103,19 @@ fn share_sums<M: Masks>(
 ) -> Result<Vec<u64>, AllocError>
     requires places { IsTrue (are_places (M.plan masks.now) group round members.now) }
     requires meters { meters ≡ size (M.plan masks.now).groups group }
-    ensures sums { IfOk result (λ sums. AreShareSums ((M.table masks.now).pair group round) members.now meters sums.items) }
-    ensures set { OnOk result (IsSet members.now) }
+    ensures { IfOk result (λ sums. AreHidingSums ((M.table masks.now).own group round) ((M.table masks.now).pair group round) members.now meters sums.items) }
 {
     let mut sums = zeros(alloc, meters)?;
-    add_rows(masks, group, round, members, sums.as_mut_slice());
+    fill_sums(masks, group, round, members, sums.as_mut_slice());
     Ok(sums)
 }
 
-// The word of a meter: its reading hidden by its own word and its shares, or 0 where it has no reading.
-fn word_or_0<M: Masks>(
-    masks: &M,
-    group: u16,
-    round: u32,
-    meter: usize,
-    reading: Option<u64>,
-    shares: u64,
-) -> Word
-    requires { is_some reading ≡ true → (meter < 256) × IsTrue (is_place (M.plan masks.now) group round meter) }
-    ensures { result ≡ hidden_or_0 ((M.table masks.now).own group round) meter shares reading }
+// The word of a meter: its reading and what hides it, or 0 where it has no reading.
+fn word_or_0(reading: Option<u64>, sum: u64) -> Word
+    ensures { result ≡ hidden_or_0 sum reading }
 {
     match reading {
-        Some(reading) => {
-            let own = masks.own(group, round, meter as u8).value();
-            Word(reading.wrapping_add(own).wrapping_add(shares))
-        }
+        Some(reading) => Word(reading.wrapping_add(sum)),
         None => Word(0),
     }
 }
@@ -115,10 +136,10 @@ pub fn masked_group<M: Masks>(
     requires readings { AreReadings members.now readings.now }
     ensures { IfOk result (λ words. AreGroupWords ((M.table masks.now).own group round) ((M.table masks.now).pair group round) members.now readings.now words.items) }
 {
-    let sums = share_sums(alloc, masks, group, round, members, readings.len())?;
+    let sums = hiding_sums(alloc, masks, group, round, members, readings.len())?;
     let mut words = Vec::new(alloc);
     for meter in 0..readings.len() {
-        let word = word_or_0(masks, group, round, meter, readings[meter], sums[meter]);
+        let word = word_or_0(readings[meter], sums[meter]);
         words.push(word)?;
     }
     Ok(words)

@@ -1,38 +1,41 @@
 //! The words of one meter.
-ghost use Rattle.std.specs.Prelude.{◌≡◌, ◌<◌, ◌^◌, true, false, IsTrue, sum_by};
+ghost use Rattle.std.specs.Prelude.{◌≡◌, ℕ, ◌+◌, ◌<◌, ◌^◌, true, false, not, ◌==◌, IsTrue, sum_by};
+ghost use Rattle.std.specs.List.{list_all};
 ghost use Rattle.group_plan.specs.Plans.{is_place};
 ghost use Rattle.missing_round.specs.Sets.{is_member};
 ghost use Rattle.missing_round.specs.Words.{word, share, reading_word, answer_word};
+ghost use Rattle.mask_stream.specs.Ends.{is_other, between};
 ghost use Rattle.blind_core.specs.Blind.{are_places};
 
 use mask_stream::Masks;
 use missing_round::MeterSet;
 use mod_word::Word;
 
-// What the pair word of the two adds to the words of `meter`, modulo 2^64.
-fn share<M: Masks>(masks: &M, group: u16, round: u32, meter: u8, other: u8) -> u64
-    requires meter { IsTrue (is_place (M.plan masks.now) group round meter) }
-    requires other { IsTrue (is_place (M.plan masks.now) group round other) }
-    ensures { word result ≡ word (share ((M.table masks.now).pair group round) meter other) }
+// The total and what a pair word adds to it: the word at the lower meter, and what takes it away at the higher one.
+fn with_share(total: u64, pair_word: u64, meter: u8, other: u8) -> u64
+    requires { not (other == meter) ≡ true }
+    ensures { (pair : ℕ → ℕ → ℕ) → pair_word ≡ between pair meter other → result ≡ word (total + share pair meter other) }
 {
     if meter < other {
-        masks.pair(group, round, meter, other).value()
-    } else if other < meter {
-        0u64.wrapping_sub(masks.pair(group, round, other, meter).value())
+        total.wrapping_add(pair_word)
     } else {
-        0
+        total.wrapping_sub(pair_word)
     }
 }
 
 // The sum of the shares of `meter` with each of these, modulo 2^64.
 fn shares<M: Masks>(masks: &M, group: u16, round: u32, meter: u8, others: &MeterSet) -> u64
     requires meter { IsTrue (is_place (M.plan masks.now) group round meter) }
-    requires others { IsTrue (are_places (M.plan masks.now) group round others.now) }
+    requires others { IsTrue (list_all (is_other (M.plan masks.now) group round meter) others.now) }
     ensures { word result ≡ word (sum_by (share ((M.table masks.now).pair group round) meter) others.now) }
 {
+    let row = masks.pairs(group, round, meter, others);
+    let words = row.as_slice();
+    let mut place = 0;
     let mut total = 0u64;
     for other in others.members() {
-        total = total.wrapping_add(share(masks, group, round, meter, other));
+        total = with_share(total, words[place], meter, other);
+        place += 1;
     }
     total
 }
@@ -53,7 +56,8 @@ pub fn masked<M: Masks>(
     ensures { result ≡ reading_word ((M.table masks.now).own group round) ((M.table masks.now).pair group round) members.now meter reading }
 {
     let own = masks.own(group, round, meter).value();
-    let shares = shares(masks, group, round, meter, members);
+    let others = members.without(meter);
+    let shares = shares(masks, group, round, meter, &others);
     Word(reading.wrapping_add(own).wrapping_add(shares))
 }
 

@@ -32,6 +32,7 @@ grows_same v w e = record {
   number = ap (λ (x : PassView). x.number) e;
   made = ap (λ (x : PassView). x.made) e;
   out = ap (λ (x : PassView). x.out) e;
+  joined = ap (λ (x : PassView). x.joined) e;
 }
 
 pub grows_more : (u v w : PassView) → Grows u v → Grows v w → Grows u w
@@ -41,10 +42,11 @@ grows_more u v w g h = record {
   number = h.number ∙ g.number;
   made = h.made ∙ g.made;
   out = h.out ∙ g.out;
+  joined = h.joined ∙ g.joined;
 }
 
 pub grows_sees : (v w : PassView) → Sees v w → Grows v w
-grows_sees v w s = record { seen = s.seen; mine = starts_same w.mine v.mine s.mine; number = s.same.number; made = s.same.made; out = s.same.out }
+grows_sees v w s = record { seen = s.seen; mine = starts_same w.mine v.mine s.mine; number = s.same.number; made = s.same.made; out = s.same.out; joined = s.same.joined }
 
 pub grows_commits : (o : Opening) (v w : PassView) (k : ℕ) (parcel : Parcel) (reply : Reply) → Commits o v k parcel reply w → Grows v w
 grows_commits o v w k parcel reply c = record {
@@ -53,6 +55,7 @@ grows_commits o v w k parcel reply c = record {
   number = c.same.number;
   made = c.same.made;
   out = c.same.out;
+  joined = c.same.joined;
 }
 
 -- ---- one commit

@@ -3,3 +3,4 @@ pub mod Marks
 pub mod Growth
 pub mod Counts
 pub mod Journals
+pub mod Numbers

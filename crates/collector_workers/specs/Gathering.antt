@@ -1,5 +1,6 @@
 -- What a first pass gains by a batch.
-use Rattle.std.specs.Prelude.{◌≡◌, ℕ, ◌+◌, ◌==◌, List, Vec, [], ◌∷◌, length, filter, slice_get, Some, Result, Ok, Err}
+use Rattle.std.specs.Prelude.{◌≡◌, ℕ, ◌+◌, ◌==◌, List, Vec, [], ◌∷◌, ◌++◌, length, map, reverse, filter, slice_get, Some, Result, Ok, Err}
+use Rattle.std.specs.List.{range_with_len}
 use Rattle.std.specs.declared.alloc.AllocError.{AllocError}
 use Rattle.std.specs.declared.alloc.Global.{Global}
 use Rattle.transcript_log.specs.Events.{event_of}
@@ -7,6 +8,8 @@ use Rattle.shared_book.specs.declared.parcel.Parcel.{Parcel}
 use Rattle.shared_book.specs.declared.parcel.Reply.{Reply}
 use Rattle.shared_book.specs.declared.turn.Turn.{Turn}
 use Rattle.shared_book.specs.declared.turn.Opening.{Opening}
+use Rattle.shared_book.specs.declared.parts.Pass.{Pass}
+use Rattle.shared_book.specs.Ends.{view}
 use Rattle.shared_book.specs.Parcels.{Judged, Accepted, BadFrame, RefusedFrame, Outside, judged, reply_of}
 use Rattle.shared_book.specs.Turns.{StartsWith}
 use Rattle.shared_book.specs.Passes.{PassView}
@@ -39,6 +42,7 @@ pub record Grows (v w : PassView) : Type 0 where
   pub number : w.number ≡ v.number
   pub made : w.made ≡ v.made
   pub out : w.out ≡ v.out
+  pub joined : w.joined ≡ v.joined
 
 -- the place with this parcel has its turn, where it is accepted, and its mark
 pub record Settles (o : Opening) (v : PassView) (place : ℕ) (parcel : Parcel) (mark : Mark) (w : PassView) : Type 0 where
@@ -50,23 +54,29 @@ pub record Settles (o : Opening) (v : PassView) (place : ℕ) (parcel : Parcel) 
 abbrev pub SplitsAll : PassView → ℕ → PassView → Type 0
 SplitsAll v count w = w ≡ record v { made = v.made + count; out = v.out + count }
 
--- so many passes were joined
-pub record JoinsAll (v : PassView) (count : ℕ) (w : PassView) : Type 0 where
+-- the numbers of some passes
+abbrev pub numbers_of : List Pass → List ℕ
+numbers_of passes = map (λ pass. (view pass).number) passes
+
+-- the passes with these numbers were joined, the last one first
+pub record JoinsAll (v : PassView) (numbers : List ℕ) (w : PassView) : Type 0 where
   pub seen : StartsWith w.seen v.seen
   pub mine : w.mine ≡ v.mine
   pub number : w.number ≡ v.number
   pub made : w.made ≡ v.made
-  pub out : w.out + count ≡ v.out
+  pub out : w.out + length numbers ≡ v.out
+  pub joined : w.joined ≡ v.joined ++ reverse numbers
 
 -- ---- gather
 
--- a batch was gathered by so many workers
+-- a batch was gathered by so many workers. Each had a pass of its own with the next number, and all were joined, the last one first
 pub record Gathers (o : Opening) (v : PassView) (workers : ℕ) (marks : List Mark) (w : PassView) : Type 0 where
   pub seen : StartsWith w.seen v.seen
   pub mine : StartsWith w.mine v.mine
   pub number : w.number ≡ v.number
   pub made : w.made ≡ v.made + workers
   pub out : w.out ≡ 0
+  pub joined : w.joined ≡ v.joined ++ reverse (range_with_len (v.made + 1) workers)
   pub long : length marks ≡ length o.parcels
   pub marked : AreMarksOf o w.seen marks
 

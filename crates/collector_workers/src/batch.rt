@@ -62,7 +62,7 @@ fn mark_all<R: Wait>(
 
 /// Commits the parcels of a shared book by workers, each with a pass of its own, and what they leave by the first pass, and
 /// answers the mark of each parcel. `workers` is an upper bound: at most one thread works for each 256 parcels, but two where
-/// there are two parcels and two workers. Which passes were joined is not said.
+/// there are two parcels and two workers.
 pub fn gather<R: Threads + Wait + Sync, G: Gate>(
     rt: &R,
     alloc: Global,

@@ -2,7 +2,8 @@
 
 ghost use Rattle.std.specs.Prelude.{◌≡◌, [], ◌+◌, ◌^◌, ◌<◌, ◌≤◌, length, vec_len, vec_capacity, All};
 ghost use Rattle.shared_book.specs.Ends.{view, IsPassOf};
-ghost use Rattle.collector_workers.specs.Gathering.{SplitsAll, JoinsAll};
+ghost use Rattle.std.specs.List.{range_with_len};
+ghost use Rattle.collector_workers.specs.Gathering.{numbers_of, SplitsAll, JoinsAll};
 
 use crate::gate::Gate;
 use crossbeam_channel::Receiver;
@@ -53,7 +54,8 @@ fn work<R: Wait, G: Gate>(
     worker: u32,
 )
     requires { IsPassOf shared.now pass.old }
-    ensures { IsPassOf shared.now pass.new }
+    ensures pass { IsPassOf shared.now pass.new }
+    ensures number { (view pass.new).number ≡ (view pass.old).number }
 {
     'places: for _ in rt.forever() {
         let Ok(place) = places.recv(rt) else {
@@ -79,7 +81,7 @@ fn work_beside<R: Threads + Wait + Sync, G: Gate>(
     requires passes { All (IsPassOf shared.now) passes.old }
     requires few { length passes.old < 2 ^ 16 }
     ensures passes { All (IsPassOf shared.now) passes.new }
-    ensures long { length passes.new ≡ length passes.old }
+    ensures numbers { numbers_of passes.new ≡ numbers_of passes.old }
 {
     let workers = passes.len();
     if workers > 0 {
@@ -89,7 +91,7 @@ fn work_beside<R: Threads + Wait + Sync, G: Gate>(
             workers,
             &|i: usize, pass: &mut Pass|
                 requires { IsPassOf shared.now pass.now × (i < 2 ^ 16) }
-                ensures { IsPassOf shared.entry.now pass.exit.now }
+                ensures { IsPassOf shared.entry.now pass.exit.now × ((view pass.exit.now).number ≡ (view pass.entry.now).number) }
             { work(rt, shared, pass, batch, places, gate, i as u32 + 1) },
         );
     }
@@ -107,7 +109,7 @@ pub(crate) fn work_all<R: Threads + Wait + Sync, G: Gate>(
     requires passes { All (IsPassOf shared.now) passes.old }
     requires few { length passes.old < 2 ^ 16 }
     ensures passes { All (IsPassOf shared.now) passes.new }
-    ensures long { length passes.new ≡ length passes.old }
+    ensures numbers { numbers_of passes.new ≡ numbers_of passes.old }
 {
     let count = busy_workers(passes.len(), batch.len());
     let (busy, _idle) = passes.split_at_mut(count);
@@ -124,6 +126,7 @@ pub(crate) fn split_all(shared: &SharedBook, first: &mut Pass, passes: &mut Vec<
     ensures pass { IsPassOf shared.now first.new }
     ensures first { SplitsAll (view first.old) workers (view first.new) }
     ensures passes { All (IsPassOf shared.now) passes.new.items }
+    ensures numbers { numbers_of passes.new.items ≡ range_with_len ((view first.old).made + 1) workers }
     ensures long { vec_len passes.new ≡ workers }
 {
     for _worker in 0..workers {
@@ -138,7 +141,7 @@ pub(crate) fn join_all(shared: &SharedBook, first: &mut Pass, mut passes: Vec<Pa
     requires first { (view first.old).number ≡ 0 }
     requires passes { All (IsPassOf shared.now) passes.items }
     ensures pass { IsPassOf shared.now first.new }
-    ensures first { JoinsAll (view first.old) (vec_len passes) (view first.new) }
+    ensures first { JoinsAll (view first.old) (numbers_of passes.items) (view first.new) }
 {
     while let Some(pass) = passes.pop() {
         shared.join(first, pass);

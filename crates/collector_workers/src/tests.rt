@@ -18,6 +18,7 @@ use std::sync::Wait;
 use std::sync::atomic::{AtomicU64, Ordering};
 use std::test::Fail;
 use std::thread::Threads;
+use transcript_log::Line;
 
 const WORDS: [u64; 3] = [
     0xb0b9_d4e2_09a2_296c,
@@ -248,6 +249,98 @@ fn two_commits_cross(rt: HostRuntime) -> Result<(), Fail> {
     assert!(rt;
         shut.passes.as_slice() == [Some(1), Some(2)].as_slice()
             || shut.passes.as_slice() == [Some(2), Some(1)].as_slice()
+    );
+    Ok(())
+}
+
+// Holds worker 1 at its first call until worker 2 has called three times, and worker 2 at its first until worker 1 has called.
+#[derive(Drop)]
+struct Order {
+    first: AtomicU64,
+    second: AtomicU64,
+    others: AtomicU64,
+    late: AtomicU64,
+}
+
+impl Order {
+    // Waits until there were so many calls, for at most so many turns.
+    fn wait(&self, calls: &AtomicU64, count: u64) {
+        for _ in 0..1_000_000_000u32 {
+            if calls.load(Ordering::SeqCst) >= count {
+                return;
+            }
+        }
+        self.late.fetch_add(1, Ordering::SeqCst);
+    }
+}
+
+impl Gate for Order {
+    fn at(&self, worker: u32) {
+        match worker {
+            1 => {
+                if self.first.fetch_add(1, Ordering::SeqCst) == 0 {
+                    self.wait(&self.second, 3);
+                }
+            }
+            2 => {
+                if self.second.fetch_add(1, Ordering::SeqCst) == 0 {
+                    self.wait(&self.first, 1);
+                }
+            }
+            _ => {
+                self.others.fetch_add(1, Ordering::SeqCst);
+            }
+        }
+    }
+}
+
+// The meter of a Take's line; 3 for another line.
+fn meter_of(line: &Line) -> u8 {
+    match line {
+        Line::Take { tag, .. } => tag.meter,
+        _ => 3,
+    }
+}
+
+// Worker 1 makes one of four commits, and worker 2 has made two before it: a body that calls the gate after the commit makes
+// that of worker 1 sooner. The workers are numbered 1 and 2, and call for each commit.
+#[test]
+fn gate_comes_before_each_commit(rt: HostRuntime) -> Result<(), Fail> {
+    let alloc = rt.alloc();
+    let gate = Order {
+        first: AtomicU64::new(0),
+        second: AtomicU64::new(0),
+        others: AtomicU64::new(0),
+        late: AtomicU64::new(0),
+    };
+    let mut book = sent_book(alloc)?;
+    book.reserve(4)?;
+    let batch = [
+        parcel(0, WORDS[0]),
+        parcel(1, WORDS[1]),
+        parcel(2, WORDS[2]),
+        Parcel::Close { group: 0, round: 0 },
+    ];
+    let parcels = Vec::from_slice(alloc, &batch)?;
+    let Ok((shared, mut first)) = SharedBook::begin(alloc, book, parcels) else {
+        panic!(rt; "no memory")
+    };
+    gather(&rt, alloc, &shared, &mut first, &batch, 2, &gate)?;
+    assert_eq!(rt; gate.late.load(Ordering::SeqCst), 0);
+    assert_eq!(rt; gate.others.load(Ordering::SeqCst), 0);
+    assert_eq!(rt; gate.first.load(Ordering::SeqCst), 1);
+    assert_eq!(rt; gate.second.load(Ordering::SeqCst), 3);
+    let shut = shared.shut(first);
+    let Some(place) = shut.passes.iter().position(|pass| *pass == Some(1)) else {
+        panic!(rt; "worker 1 made no commit")
+    };
+    let lines = shut.book.journal();
+    assert_eq!(rt; lines.len(), 7);
+    // The first two lines of the batch are those of other places.
+    assert!(rt;
+        lines[3..5]
+            .iter()
+            .all(|line| usize::from(meter_of(line)) != place)
     );
     Ok(())
 }

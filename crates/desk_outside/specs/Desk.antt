@@ -1,5 +1,5 @@
 -- What a desk shows of the outside, and what each call makes of it.
-use Rattle.std.specs.Prelude.{◌≡◌, ◌≤◌, ◌<◌, ◌+◌, ◌-◌, ◌^◌, ℕ, min, Bool, true, false, List, [], ◌∷◌, ◌++◌, length, take, Option, Some, None, IfSome, Result, Ok, Err, Vec, if◌then◌else◌, ⊤}
+use Rattle.std.specs.Prelude.{◌≡◌, ◌≤◌, ◌<◌, ◌+◌, ◌-◌, ◌^◌, ℕ, min, Bool, true, false, List, [], ◌∷◌, ◌++◌, length, take, Option, Some, None, Result, Ok, Err, Vec, if◌then◌else◌, ⊤}
 use Rattle.std.specs.Option.{option_map}
 use Rattle.std.specs.Str.{bytes_eq}
 use Rattle.std.specs.declared.alloc.Global.{Global}
@@ -43,8 +43,8 @@ call_of kind name failed = record { kind = kind; name = name; failed = failed } 
 pub data Step : Type 0 where
   Fetched : (name : List ℕ) (failed : Bool) → Step
   Stored : (name bytes : List ℕ) → Step
-  -- a failed put, with what the name holds since then, or None where it holds what it held
-  Unstored : (name : List ℕ) (left : Option (List ℕ)) → Step
+  -- a failed put, after which the name holds what it held
+  Unstored : (name : List ℕ) → Step
   -- the bytes are those that were appended
   Said : (bytes : List ℕ) (failed : Bool) → Step
   Complained : (bytes : List ℕ) (failed : Bool) → Step
@@ -53,8 +53,7 @@ pub data Step : Type 0 where
 unfoldable pub after_step : View → Step → View
 after_step v (Fetched name failed) = record v { calls = extended v.calls (call_of Fetch name failed) }
 after_step v (Stored name bytes) = record v { held = stored v.held name bytes; calls = extended v.calls (call_of Put name false) }
-after_step v (Unstored name None) = record v { calls = extended v.calls (call_of Put name true) }
-after_step v (Unstored name (Some left)) = record v { held = stored v.held name left; calls = extended v.calls (call_of Put name true) }
+after_step v (Unstored name) = record v { calls = extended v.calls (call_of Put name true) }
 after_step v (Said bytes failed) = record v { said = extended v.said bytes; calls = extended v.calls (call_of Say [] failed) }
 after_step v (Complained bytes failed) = record v { complained = extended v.complained bytes; calls = extended v.calls (call_of Complain [] failed) }
 
@@ -85,10 +84,10 @@ FetchEnds name most v w (Err FetchFailed) = w ≡ after_step v (Fetched name tru
 FetchEnds name most v w (Err (FetchTooLong seen)) = (w ≡ after_step v (Fetched name false)) × (seen ≡ most + 1) × IsLonger (v.held name) most
 FetchEnds name most v w (Err FetchMemory) = w ≡ v
 
--- what a put leaves: the bytes, or after a failure the old ones or a prefix of these
+-- what a put leaves: the bytes, or after a failure the old ones
 abbrev pub PutEnds : List ℕ → List ℕ → View → View → Result (Unit {0}) DeskError → Type 0
 PutEnds name bytes v w (Ok done) = w ≡ after_step v (Stored name bytes)
-PutEnds name bytes v w (Err Failed) = (left : Option (List ℕ)) × IfSome left (λ front. IsPrefixOf front bytes) × (w ≡ after_step v (Unstored name left))
+PutEnds name bytes v w (Err Failed) = w ≡ after_step v (Unstored name)
 PutEnds name bytes v w (Err Memory) = w ≡ v
 
 -- what a say leaves: the bytes appended, or after a failure a prefix of them

@@ -2,27 +2,43 @@
 ghost use Rattle.std.specs.Prelude.{◌≡◌, ◌≤◌, ◌<◌, ◌^◌, IsErrOf};
 ghost use Rattle.desk_outside.specs.Desk.{FetchEnds, PutEnds, SayEnds, ComplainEnds, Rose, one_more, untold};
 
+use crate::whole::{FileId, replace, without_link};
 use crate::{Desk, DeskError, FetchError};
 use std::alloc::Global;
-use std::io::{ErrorKind, Read};
+use std::fs::{OpenFile, OpenOptions};
+use std::io::{ErrorKind, Read, Write};
+use std::path::Path;
 use std::rt::Files;
 use std::{fs, io, str};
 
-/// The desk over files, standard output and standard error.
+// The name of standard output.
+const OUTPUT: &str = "/dev/stdout";
+
+/// The desk over files, standard output and standard error. A put leaves a whole file: the new one, or where it failed
+/// what was there. It fails on a file that this desk has fetched, by whatever name, and on a link that leads nowhere.
+/// A name of no regular file, such as a pipe, is written as it is, and so is the file that standard output goes to.
 #[derive(Drop)]
 pub struct FileDesk<'r, R> {
     rt: &'r R,
+    alloc: Global,
+    fetched: Vec<FileId>,
     faults: u64,
     ghost counted: { faults < 2 ^ 64 },
 }
 
-impl<'r, R: Files + Print + Eprint> FileDesk<'r, R> {
+impl<'r, R: Files + Print + Eprint + AllocGlobal> FileDesk<'r, R> {
     ghost use Rattle.desk_outside.specs.Files.{faults_of};
 
     pub fn new(rt: &'r R) -> FileDesk<'r, R>
         ensures { faults_of result ≡ 0 }
     {
-        FileDesk { rt, faults: 0 }
+        let alloc = rt.alloc();
+        FileDesk {
+            rt,
+            alloc,
+            fetched: Vec::new(alloc),
+            faults: 0,
+        }
     }
 
     // Counts a fault.
@@ -31,17 +47,72 @@ impl<'r, R: Files + Print + Eprint> FileDesk<'r, R> {
     {
         self.faults = self.faults.saturating_add(1);
     }
+
+    // The first bytes of a file, at most this many. The file is one of those fetched from then on.
+    fn read_front(&mut self, alloc: Global, name: &str, most: u64) -> io::Result<Vec<u8>>
+        ensures { faults_of self.new ≡ faults_of self.old }
+    {
+        let file = fs::open(self.rt, name)?;
+        self.fetched.push(FileId::of(&file.metadata()?))?;
+        let mut bytes = Vec::new(alloc);
+        file.take(most).read_to_end(&mut bytes)?;
+        Ok(bytes)
+    }
+
+    // Whether standard output goes to this file.
+    fn is_output(&self, file: FileId) -> bool {
+        match fs::metadata(self.rt, OUTPUT) {
+            Ok(output) => FileId::of(&output) == file,
+            Err(_) => false,
+        }
+    }
+
+    // Puts the bytes where the name leads to a file or to something else that takes bytes.
+    fn put_over(&self, mut found: R::File, name: &str, bytes: &[u8]) -> Result<(), DeskError> {
+        let metadata = found.metadata().map_err(put_error)?;
+        let file = FileId::of(&metadata);
+        if metadata.is_file() && self.fetched.contains(&file) {
+            return Err(DeskError::Failed);
+        }
+        if self.is_output(file) {
+            return Print::write_all(self.rt, bytes).map_err(|_| DeskError::Failed);
+        }
+        if !metadata.is_file() {
+            return found.write_all(bytes).map_err(|_| DeskError::Failed);
+        }
+        let path = without_link(self.rt, self.alloc, name).map_err(put_error)?;
+        let permissions = Some(metadata.permissions());
+        replace(self.rt, self.alloc, path.as_path(), permissions, bytes).map_err(put_error)
+    }
+
+    // Puts the bytes under a name that leads nowhere.
+    fn put_new(&self, name: &str, bytes: &[u8]) -> Result<(), DeskError> {
+        if fs::symlink_metadata(self.rt, name).is_ok() {
+            return Err(DeskError::Failed);
+        }
+        replace(self.rt, self.alloc, Path::new(name), None, bytes).map_err(put_error)
+    }
+
+    // Puts the bytes and counts nothing.
+    fn put_uncounted(&self, name: &str, bytes: &[u8]) -> Result<(), DeskError> {
+        match OpenOptions::new().write(true).open(self.rt, name) {
+            Ok(found) => self.put_over(found, name, bytes),
+            Err(error) if error.kind() == ErrorKind::NotFound => self.put_new(name, bytes),
+            Err(error) => Err(put_error(error)),
+        }
+    }
 }
 
-// The first bytes of a file, at most this many.
-fn read_front<R: Files>(rt: &R, alloc: Global, name: &str, most: u64) -> io::Result<Vec<u8>> {
-    let mut bytes = Vec::new(alloc);
-    fs::open(rt, name)?.take(most).read_to_end(&mut bytes)?;
-    Ok(bytes)
+// Why a put was not done.
+fn put_error(error: io::Error) -> DeskError {
+    match error.kind() {
+        ErrorKind::OutOfMemory => DeskError::Memory,
+        _ => DeskError::Failed,
+    }
 }
 
 #[tactic(auto, unfolding(crate::specs::Desk::after_step))]
-impl<'r, R: Files + Print + Eprint> Desk for FileDesk<'r, R> {
+impl<'r, R: Files + Print + Eprint + AllocGlobal> Desk for FileDesk<'r, R> {
     ghost use Rattle.desk_outside.specs.Files.{faults_of, CountsFetch, Counts};
 
     ghost view = { λ _. untold };
@@ -57,7 +128,7 @@ impl<'r, R: Files + Print + Eprint> Desk for FileDesk<'r, R> {
             → Rose (faults_of self.old) (faults_of self.new) }
         ensures count { CountsFetch (faults_of self.old) (faults_of self.new) result }
     {
-        match read_front(self.rt, alloc, name, most.saturating_add(1)) {
+        match self.read_front(alloc, name, most.saturating_add(1)) {
             Ok(bytes) if bytes.len() as u64 > most => Err(FetchError::TooLong(most + 1)),
             Ok(bytes) => Ok(bytes),
             Err(error) if error.kind() == ErrorKind::OutOfMemory => Err(FetchError::Memory),
@@ -75,13 +146,11 @@ impl<'r, R: Files + Print + Eprint> Desk for FileDesk<'r, R> {
             → Rose (faults_of self.old) (faults_of self.new) }
         ensures count { Counts (faults_of self.old) (faults_of self.new) result }
     {
-        match fs::write(self.rt, name, bytes) {
-            Ok(()) => Ok(()),
-            Err(_) => {
-                self.count_fault();
-                Err(DeskError::Failed)
-            }
+        let put = self.put_uncounted(name, bytes);
+        if put == Err(DeskError::Failed) {
+            self.count_fault();
         }
+        put
     }
 
     fn say(&mut self, bytes: &[u8]) -> Result<(), DeskError>

@@ -217,7 +217,7 @@ impl Desk for MemoryDesk {
         ensures later { faults_of self.old ≤ faults_of self.new }
         ensures cause { IsErrOf result DeskError.Failed
             → Rose (faults_of self.old) (faults_of self.new) }
-        ensures fails { Fails (is_failing (turns_of self.old)) (Unstored name.now None)
+        ensures fails { Fails (is_failing (turns_of self.old)) (Unstored name.now)
             (view_of self.old) (view_of self.new) result }
         ensures turn { turns_of self.new
             ≡ after_turn (turns_of self.old) (is_failing (turns_of self.old)) }

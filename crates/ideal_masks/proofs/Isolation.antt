@@ -67,7 +67,7 @@ share-below p q n i i_in same j j_in =
     shares_same (nat_lt i j) (nat_lt j i) (p i j) (p j i) (q i j) (q j i) (λ lt. same i j (ltb-true i j lt) j_in) (λ lt. same j i (ltb-true j i lt) i_in)
 
 -- two mask tables that are alike in the plan say the same of readings of the plan
-alike_tables : (plan : PlanView) (y : Readings) (m k : Masks) (whole : List Event)
+pub alike_tables : (plan : PlanView) (y : Readings) (m k : Masks) (whole : List Event)
     → ((g r i : ℕ) → is_some (y g r i) ≡ true → InPlan plan g r i)
     → ((g r i : ℕ) → g < length plan.groups → r < plan.rounds → i < size plan.groups g → m.own g r i ≡ k.own g r i)
     → ((g r i j : ℕ) → g < length plan.groups → r < plan.rounds → i < j → j < size plan.groups g → m.pair g r i j ≡ k.pair g r i j)

@@ -170,12 +170,12 @@ all_moved id r w = step (word w == 0) refl
 
 -- ---- the places are of the plan
 
-all_range : (P : Offset → Type 0) (h : ℕ → List Offset) (n a : ℕ) → ((i : ℕ) → a ≤ i → i < a + n → All P (h i)) → All P (flat_map h (range_with_len a n))
+pub all_range : (P : Offset → Type 0) (h : ℕ → List Offset) (n a : ℕ) → ((i : ℕ) → a ≤ i → i < a + n → All P (h i)) → All P (flat_map h (range_with_len a n))
 all_range P h zero a each = All-nil P
 all_range P h (suc n) a each =
     All-append P (h a) (flat_map h (range_with_len (a + 1) n)) (each a (omega arith) (omega arith)) (all_range P h n (a + 1) (λ i above below. each i (omega arith) (omega arith)))
 
-all_moved_at : (P : Offset → Type 0) (id : KeyId) (r w : ℕ) → P (record { id = id; round = r; by = word w }) → All P (moved id r w)
+pub all_moved_at : (P : Offset → Type 0) (id : KeyId) (r w : ℕ) → P (record { id = id; round = r; by = word w }) → All P (moved id r w)
 all_moved_at P id r w is = step (word w == 0)
   where
     step : (c : Bool) → All P (cond c [] (record { id = id; round = r; by = word w } ∷ []))

@@ -4,3 +4,11 @@ pub mod Moves
 pub mod Isolation
 pub mod Statements
 pub mod Rows
+pub mod TableStatements
+pub mod KeptMasks
+pub mod Order
+pub mod Shifting
+pub mod Replaying
+pub mod Chains
+pub mod OffsetEnds
+pub mod AgreementParts

@@ -1,8 +1,27 @@
 //! Ideal mask tables: the shift that carries one reading table into another under one and the same transcript.
 #![tactic(auto)]
 
+ghost use Rattle.std.specs.Prelude.{◌≡◌};
+
+mod agreement;
+mod chain;
+mod compared;
+mod links;
+mod mask_table;
+mod moved;
+mod offset_list;
+mod owns;
+mod replay;
+mod shifting;
+mod worlds;
+
+pub use mask_table::MaskTable;
 use mod_word::Word;
+pub use offset_list::Offsets;
 use pair_keys::KeyId;
+pub use shifting::{shift, unshift};
+use std::alloc::AllocError;
+pub use worlds::offsets;
 
 /// How much the mask word of a key moves in a round, added modulo 2^64.
 #[derive(Clone, Copy, Debug, PartialEq, Eq)]
@@ -12,4 +31,36 @@ pub struct Offset {
     pub by: Word,
 }
 
+/// Why tables of readings don't agree for the events of a transcript. Groups, rounds and meters are counted from 0.
+#[derive(Clone, Copy, Debug, PartialEq, Eq)]
+pub enum Differ {
+    /// One table alone has a reading at this place, the first such by group, round and meter.
+    Presence {
+        group: u16,
+        round: u32,
+        meter: u8,
+    },
+    /// The sums of the two tables' readings, in watt-hours, over the survivors of this opened round differ. It is the
+    /// first such by group and round.
+    Total {
+        group: u16,
+        round: u32,
+        first: u64,
+        second: u64,
+    },
+    /// Memory ran out.
+    Memory,
+}
+
+impl From<AllocError> for Differ {
+    ghost use Rattle.ideal_masks.specs.declared.Differ.{Differ};
+
+    ghost from_gives = { λ _ e. e ≡ Differ.Memory };
+
+    fn from(_error: AllocError) -> Differ {
+        Differ::Memory
+    }
+}
+
 pub mod laws;
+pub mod table_laws;

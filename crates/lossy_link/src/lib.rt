@@ -1,4 +1,4 @@
-//! The link over which frames are sent: copies on their way, each of which comes out once, at its tick.
+//! The link over which frames are sent: copies on their way. Each comes out at most once, at its own tick.
 #![tactic(auto)]
 
 ghost use Rattle.std.specs.Prelude.{◌≡◌, ◌<◌, ◌^◌, [], length, true};

@@ -3,7 +3,7 @@ use Rattle.std.specs.Prelude.{ℕ, List, Option, Some, None}
 use Rattle.missing_round.specs.Masks.{Masks}
 use Rattle.pair_keys.specs.declared.KeyId.TheVariants.{Own, Pair}
 use Rattle.pair_keys.specs.Keys.{Keys}
-use Rattle.mask_stream.specs.Stream.{mask_word}
+use Rattle.chacha_lanes.specs.Stream.{mask_word}
 
 -- the mask word of a key, and 0 where there is no key
 abbrev pub word_of : Option (List ℕ) → ℕ → ℕ

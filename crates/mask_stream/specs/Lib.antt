@@ -1,3 +1,3 @@
-pub mod Stream
 pub mod KeyStreams
 pub mod ChaMaskTables
+pub mod Ends

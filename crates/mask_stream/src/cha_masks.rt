@@ -1,7 +1,9 @@
 //! The table of the mask words of keys.
-ghost use Rattle.std.specs.Prelude.{◌≡◌};
+ghost use Rattle.std.specs.Prelude.{◌≡◌, ◌<◌, Some, IsTrue, if◌then◌else◌, nat_lt};
 
-use crate::{Masks, stream_word};
+use crate::{Masks, Row};
+use chacha_lanes::{WordRow, stream_word};
+use missing_round::MeterSet;
 use mod_word::Word;
 use pair_keys::KeyTable;
 
@@ -33,10 +35,31 @@ impl<'k> Masks for ChaMasks<'k> {
     ghost table = { words_of };
 
     fn own(&self, group: u16, round: u32, meter: u8) -> Word {
-        stream_word(self.keys.own(group, meter), round)
+        Word(stream_word(self.keys.own(group, meter), round))
     }
 
     fn pair(&self, group: u16, round: u32, low: u8, high: u8) -> Word {
-        stream_word(self.keys.pair(group, low, high), round)
+        Word(stream_word(self.keys.pair(group, low, high), round))
+    }
+
+    fn owns(&self, group: u16, round: u32, meters: &MeterSet) -> Row {
+        let mut row = WordRow::new(round);
+        for meter in meters.members() {
+            row.put(self.keys.own(group, meter));
+        }
+        row.words()
+    }
+
+    fn pairs(&self, group: u16, round: u32, meter: u8, others: &MeterSet) -> Row {
+        let mut row = WordRow::new(round);
+        for other in others.members() {
+            let key = if meter < other {
+                self.keys.pair(group, meter, other)
+            } else {
+                self.keys.pair(group, other, meter)
+            };
+            row.put(key);
+        }
+        row.words()
     }
 }

@@ -1,9 +1,16 @@
 //! Tables of mask words.
-ghost use Rattle.std.specs.Prelude.{◌≡◌, ◌<◌, IsTrue};
+ghost use Rattle.std.specs.Prelude.{◌≡◌, ◌<◌, IsTrue, map};
+ghost use Rattle.std.specs.List.{list_all};
 ghost use Rattle.group_plan.specs.Plans.{PlanView, is_place};
 ghost use Rattle.missing_round.specs.Masks.{Masks as MaskTable};
+ghost use Rattle.mask_stream.specs.Ends.{is_other, between};
 
+use arrayvec::ArrayVec;
+use missing_round::MeterSet;
 use mod_word::Word;
+
+/// The values of mask words of one round, in the order of their meters: at most 256.
+pub type Row = ArrayVec<u64, 256>;
 
 /// A table of mask words over the places of a plan.
 pub trait Masks {
@@ -23,4 +30,34 @@ pub trait Masks {
         requires place { IsTrue (is_place (plan self.now) group round high) }
         requires order { low < high }
         ensures { result ≡ (table self.now).pair group round low high };
+
+    /// The own words of these meters in a round.
+    fn owns(&self, group: u16, round: u32, meters: &MeterSet) -> Row
+        requires { IsTrue (list_all (is_place (plan self.now) group round) meters.now) }
+        ensures { result.items ≡ map ((table self.now).own group round) meters.now }
+    {
+        let mut row = Row::new();
+        for meter in meters.members() {
+            row.push(self.own(group, round, meter).value());
+        }
+        row
+    }
+
+    /// The words of the pairs of a meter with each of these other meters in a round.
+    fn pairs(&self, group: u16, round: u32, meter: u8, others: &MeterSet) -> Row
+        requires meter { IsTrue (is_place (plan self.now) group round meter) }
+        requires others { IsTrue (list_all (is_other (plan self.now) group round meter) others.now) }
+        ensures { result.items ≡ map (between ((table self.now).pair group round) meter) others.now }
+    {
+        let mut row = Row::new();
+        for other in others.members() {
+            let word = if meter < other {
+                self.pair(group, round, meter, other)
+            } else {
+                self.pair(group, round, other, meter)
+            };
+            row.push(word.value());
+        }
+        row
+    }
 }

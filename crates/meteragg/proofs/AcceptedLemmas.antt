@@ -1,6 +1,15 @@
 -- Accepted files are done.
-use Rattle.std.proofs.Common.{◌≡◌, ◌≤◌, ◌⊎◌, ℕ, false, List, length, refl, sym, ap, ◌∙◌, subst, inl, inr, arith, Result, Ok, Err}
-use Rattle.std.specs.Prelude.{Option, Some}
+use Rattle.std.proofs.Common.{◌≡◌, ◌≤◌, ◌<◌, ◌^◌, ◌⊎◌, ℕ, false, List, [], ◌∷◌, length, refl, sym, ap, ◌∙◌, subst, inl, inr, arith, Result, Ok, Err}
+use Rattle.std.specs.Prelude.{Option, Some, ◌*◌, ◌+◌, ◌-◌, slice_get}
+use Rattle.transcript_log.specs.Frames.{IsPossible}
+use Rattle.transcript_text.specs.declared.version.Version.TheVariants.{Two}
+use Rattle.transcript_text.specs.Transcripts.{TranscriptView}
+use Rattle.totals_report.specs.declared.row.ReportRow.{ReportRow}
+use Rattle.totals_report.specs.Reading.{rows_of_text}
+use Rattle.audit_check.specs.Audits.{lines_in, rows_by_frames, IsFirstImpossible, DifferFirst}
+use Rattle.audit_check.proofs.PossibleLemmas.{possible_up_to}
+use Rattle.meteragg.specs.declared.usage.TheConstants.{USAGE, VERSION}
+use Rattle.meteragg.specs.Audits.{AreAuditTexts, AuditRefuses}
 use Rattle.desk_outside.specs.Desk.{View, Held, Holds, IsLonger, Rose}
 use Rattle.link_lanes.specs.Lanes.{Meaning}
 use Rattle.link_lanes.specs.Fits.{hung_by}
@@ -8,23 +17,36 @@ use Rattle.link_lanes.specs.declared.cupboard.RackError.{RackError}
 use Rattle.plan_files.specs.declared.fault.FileError.{FileError}
 use Rattle.plan_files.specs.PlanFiles.{plan_of}
 use Rattle.plan_files.specs.Readings.{readings_of}
+use Rattle.transcript_text.specs.declared.fault.ReadError.{ReadError}
+use Rattle.transcript_text.specs.declared.version.Version.TheVariants.{One}
+use Rattle.transcript_text.specs.ReadBack.{ReadsEach}
+use Rattle.transcript_text.specs.Heads.{read_of}
+use Rattle.transcript_text.proofs.ReadAgain.{reads_each}
 use Rattle.meteragg.specs.declared.outcome.Outcome.{Outcome}
-use Rattle.meteragg.specs.declared.outcome.Outcome.TheVariants.{Done, NoMemory, BadWords, CannotRead, TooLong, CannotWrite, CannotPrint, BadPlan, BadReadings, BadLane}
-use Rattle.meteragg.specs.Words.{RunNames, Command, Run}
-use Rattle.meteragg.specs.Calls.{most_bytes, EndsAtFetch}
-use Rattle.meteragg.specs.Ends.{fetched_by, IsRead, BothRead, RefusesLane, RefusesReadings, RunEnds, Ends}
+use Rattle.meteragg.specs.declared.outcome.Outcome.TheVariants.{Done, NoMemory, BadWords, CannotRead, TooLong, CannotWrite, CannotPrint, BadPlan, BadReadings, BadTranscript, BadReport, Impossible, OtherRow, BadLane}
+use Rattle.meteragg.specs.Words.{RunNames, Size, Command, Run, Audit, Make, Load, Convert, Help, Version}
+use Rattle.meteragg.specs.Calls.{most_bytes, EndsAtFetch, IsRead, after_fetches, Unread, Putting, putting, PutsEnd}
+use Rattle.transcript_text.specs.Spelling.{transcript_text}
+use Rattle.meteragg.specs.Ends.{fetched_by, put_by, converted_line, RefusesLane, RefusesReadings, RunRefuses, RunEnds, audited_line, AuditCommandEnds, made_plan_text, made_readings_text, made_line, MakeEnds, put_where, LoadRefuses, LoadEnds, ConvertRefuses, ConvertEnds, Ends}
 use Rattle.meteragg.specs.Outcomes.{status_of, IsFault}
-use Rattle.meteragg.specs.Accepted.{IsAccepted, AcceptedIsDone}
+use Rattle.meteragg.specs.Accepted.{HoldsFile, RunAccepts, AuditAccepts, LoadAccepts, ConvertAccepts, Accepts, AcceptedIsDone}
 
--- the bytes are those that a name holds
+-- ---- what was read
+
+-- the bytes that were read are those that the name holds
 same_bytes : (held : Held) (told bytes : List ℕ) → held ≡ Some (Some told) → Holds held bytes → told ≡ bytes
 same_bytes held told bytes is holds =
     let h : Holds (Some (Some told)) bytes = subst (λ held. Holds held bytes) is holds in
     cc
 
-not_longer : (held : Held) (told : List ℕ) → held ≡ Some (Some told) → length told ≤ most_bytes → IsLonger held most_bytes → ⊥
-not_longer held told is short longer =
-    let h : IsLonger (Some (Some told)) most_bytes = subst (λ held. IsLonger held most_bytes) is longer in
+pub read_is : (v : View) (name told bytes : List ℕ) → HoldsFile v name told → IsRead (v.held name) bytes → told ≡ bytes
+read_is v name told bytes file is = same_bytes (v.held name) told bytes file.held is.0
+
+not_longer : (v : View) (name told last : List ℕ) → HoldsFile v name told → last ≡ name → IsLonger (v.held last) most_bytes → ⊥
+not_longer v name told last file is longer =
+    let here : IsLonger (v.held name) most_bytes = subst (λ n. IsLonger (v.held n) most_bytes) is longer in
+    let h : IsLonger (Some (Some told)) most_bytes = subst (λ held. IsLonger held most_bytes) file.held here in
+    let short = file.short in
     omega arith
 
 ok_or_err : {A E : Type 0} (r : Result A E) (a : A) (e : E) → r ≡ Ok a → r ≡ Err e → ⊥
@@ -33,60 +55,231 @@ ok_or_err r a e well refused = cc
 ok_same : {A E : Type 0} (r : Result A E) (a b : A) → r ≡ Ok a → r ≡ Ok b → a ≡ b
 ok_same r a b first second = cc
 
--- the bytes that were read
-plan_read : (cupboard : List Meaning) (names : RunNames) (v : View) (good : IsAccepted cupboard names v) (bytes : List ℕ) → IsRead (v.held names.plan) bytes → good.plan_bytes ≡ bytes
-plan_read cupboard names v good bytes is = same_bytes (v.held names.plan) good.plan_bytes bytes good.plan_held is.0
+-- ---- ends that are none of refusals
 
-readings_read : (cupboard : List Meaning) (names : RunNames) (v : View) (good : IsAccepted cupboard names v) (bytes : List ℕ) → IsRead (v.held names.readings) bytes → good.readings_bytes ≡ bytes
-readings_read cupboard names v good bytes is = same_bytes (v.held names.readings) good.readings_bytes bytes good.readings_held is.0
+-- the command is done, or found no memory, or ended with a fault of the desk
+abbrev pub IsCalm : Outcome → Type 0
+IsCalm outcome = IsFault outcome ⊎ ((status_of outcome ≡ 0) ⊎ (status_of outcome ≡ 1))
+
+-- the ends of the puts
+pub puts_calm : (files : List Putting) (line : List ℕ) (v w : View) (outcome : Outcome) → PutsEnd files line v w outcome → IsCalm outcome
+puts_calm files line v w Done ends = inr (inl refl)
+puts_calm files line v w NoMemory ends = inr (inr refl)
+puts_calm files line v w BadWords ends = absurd ends
+puts_calm files line v w (CannotRead name) ends = absurd ends
+puts_calm files line v w (TooLong name) ends = absurd ends
+puts_calm files line v w (CannotWrite name) ends = inl tt
+puts_calm files line v w CannotPrint ends = inl tt
+puts_calm files line v w (BadPlan name fault) ends = absurd ends
+puts_calm files line v w (BadReadings name fault) ends = absurd ends
+puts_calm files line v w (BadTranscript name fault) ends = absurd ends
+puts_calm files line v w (BadReport name number) ends = absurd ends
+puts_calm files line v w (Impossible name number) ends = absurd ends
+puts_calm files line v w (OtherRow at from_frames reported) ends = absurd ends
+puts_calm files line v w (BadLane fault) ends = absurd ends
+
+-- fetches of which none finds too many bytes
+unread_calm : (names : List (List ℕ)) (v w : View) (outcome : Outcome)
+    → ((last : List ℕ) → EndsAtFetch names false v w last → IsLonger (v.held last) most_bytes → ⊥) → Unread names v w outcome → IsCalm outcome
+unread_calm names v w Done short ends = absurd ends
+unread_calm names v w NoMemory short ends = inr (inr refl)
+unread_calm names v w BadWords short ends = absurd ends
+unread_calm names v w (CannotRead name) short ends = inl tt
+unread_calm names v w (TooLong name) short ends = absurd (short name.now ends.0 ends.1)
+unread_calm names v w (CannotWrite name) short ends = absurd ends
+unread_calm names v w CannotPrint short ends = absurd ends
+unread_calm names v w (BadPlan name fault) short ends = absurd ends
+unread_calm names v w (BadReadings name fault) short ends = absurd ends
+unread_calm names v w (BadTranscript name fault) short ends = absurd ends
+unread_calm names v w (BadReport name line) short ends = absurd ends
+unread_calm names v w (Impossible name line) short ends = absurd ends
+unread_calm names v w (OtherRow at from_frames reported) short ends = absurd ends
+unread_calm names v w (BadLane fault) short ends = absurd ends
+
+one_is_short : (v w : View) (name told : List ℕ) → HoldsFile v name told → (last : List ℕ) → EndsAtFetch (name ∷ []) false v w last → IsLonger (v.held last) most_bytes → ⊥
+one_is_short v w name told file last (inl here) longer = not_longer v name told last file here.0 longer
+one_is_short v w name told file last (inr none) longer = absurd none
+
+two_are_short : (v w : View) (one two told other : List ℕ) → HoldsFile v one told → HoldsFile v two other
+    → (last : List ℕ) → EndsAtFetch (one ∷ two ∷ []) false v w last → IsLonger (v.held last) most_bytes → ⊥
+two_are_short v w one two told other first second last (inl here) longer = not_longer v one told last first here.0 longer
+two_are_short v w one two told other first second last (inr (inl here)) longer = not_longer v two other last second here.0 longer
+two_are_short v w one two told other first second last (inr (inr none)) longer = absurd none
+
+-- ---- `run`
 
 -- the plan file has its value
-plan_is : (cupboard : List Meaning) (names : RunNames) (v : View) (good : IsAccepted cupboard names v) (bytes : List ℕ) → IsRead (v.held names.plan) bytes → plan_of bytes ≡ Ok good.values.file
-plan_is cupboard names v good bytes is = ap plan_of (sym (plan_read cupboard names v good bytes is)) ∙ good.of_bytes.plan
+plan_is : (cupboard : List Meaning) (names : RunNames) (v : View) (good : RunAccepts cupboard names v) (p : List ℕ) → IsRead (v.held names.plan) p → plan_of p ≡ Ok good.values.file
+plan_is cupboard names v good p is = ap plan_of (sym (read_is v names.plan good.plan_bytes p good.plan is)) ∙ good.of_bytes.plan
 
-plan_is_right : (cupboard : List Meaning) (names : RunNames) (v : View) (fault : FileError) → IsAccepted cupboard names v → BothRead names v (λ p r. plan_of p ≡ Err fault) → ⊥
-plan_is_right cupboard names v fault good bad = ok_or_err _ _ _ (plan_is cupboard names v good bad.0 bad.2) bad.4
+lanes_are_right : (cupboard : List Meaning) (names : RunNames) (v : View) (good : RunAccepts cupboard names v) (p : List ℕ) (fault : RackError)
+    → IsRead (v.held names.plan) p → RefusesLane cupboard p fault → ⊥
+lanes_are_right cupboard names v good p fault is bad =
+    let same : good.values.file ≡ bad.0 = ok_same _ _ _ (plan_is cupboard names v good p is) bad.1 in
+    ok_or_err _ _ _ (ap (λ file. hung_by cupboard file.lanes) (sym same) ∙ good.of_bytes.lanes) bad.2
 
-lanes_are_right : (cupboard : List Meaning) (names : RunNames) (v : View) (fault : RackError) → IsAccepted cupboard names v → BothRead names v (λ p r. RefusesLane cupboard p fault) → ⊥
-lanes_are_right cupboard names v fault good bad =
-    let same : good.values.file ≡ bad.4.0 = ok_same _ _ _ (plan_is cupboard names v good bad.0 bad.2) bad.4.1 in
-    ok_or_err _ _ _ (ap (λ file. hung_by cupboard file.lanes) (sym same) ∙ good.of_bytes.lanes) bad.4.2
+readings_are_right : (cupboard : List Meaning) (names : RunNames) (v : View) (good : RunAccepts cupboard names v) (p r : List ℕ) (fault : FileError)
+    → IsRead (v.held names.plan) p → IsRead (v.held names.readings) r → RefusesReadings cupboard p r fault → ⊥
+readings_are_right cupboard names v good p r fault plan_read readings_read bad =
+    let file : good.values.file ≡ bad.0 = ok_same _ _ _ (plan_is cupboard names v good p plan_read) bad.2 in
+    let same : good.readings_bytes ≡ r = read_is v names.readings good.readings_bytes r good.readings readings_read in
+    ok_or_err _ _ _ (ap (λ f. readings_of f.plan r) (sym file) ∙ ap (readings_of good.values.file.plan) (sym same) ∙ good.of_bytes.readings) bad.4
 
-readings_are_right : (cupboard : List Meaning) (names : RunNames) (v : View) (fault : FileError) → IsAccepted cupboard names v → BothRead names v (λ p r. RefusesReadings cupboard p r fault) → ⊥
-readings_are_right cupboard names v fault good bad =
-    let file : good.values.file ≡ bad.4.0 = ok_same _ _ _ (plan_is cupboard names v good bad.0 bad.2) bad.4.2 in
-    let same : good.readings_bytes ≡ bad.1 = readings_read cupboard names v good bad.1 bad.3 in
-    ok_or_err _ _ _ (ap (λ f. readings_of f.plan bad.1) (sym file) ∙ ap (readings_of good.values.file.plan) (sym same) ∙ good.of_bytes.readings) bad.4.4
+nothing_refused : (cupboard : List Meaning) (names : RunNames) (v : View) (p r : List ℕ) (outcome : Outcome) → RunAccepts cupboard names v
+    → IsRead (v.held names.plan) p → IsRead (v.held names.readings) r → RunRefuses cupboard names p r outcome → IsCalm outcome
+nothing_refused cupboard names v p r Done good p_read r_read ends = absurd ends
+nothing_refused cupboard names v p r NoMemory good p_read r_read ends = inr (inr refl)
+nothing_refused cupboard names v p r BadWords good p_read r_read ends = absurd ends
+nothing_refused cupboard names v p r (CannotRead name) good p_read r_read ends = absurd ends
+nothing_refused cupboard names v p r (TooLong name) good p_read r_read ends = absurd ends
+nothing_refused cupboard names v p r (CannotWrite name) good p_read r_read ends = absurd ends
+nothing_refused cupboard names v p r CannotPrint good p_read r_read ends = absurd ends
+nothing_refused cupboard names v p r (BadPlan name fault) good p_read r_read ends = absurd (ok_or_err _ _ _ (plan_is cupboard names v good p p_read) ends.1)
+nothing_refused cupboard names v p r (BadReadings name fault) good p_read r_read ends = absurd (readings_are_right cupboard names v good p r fault p_read r_read ends.1)
+nothing_refused cupboard names v p r (BadTranscript name fault) good p_read r_read ends = absurd ends
+nothing_refused cupboard names v p r (BadReport name line) good p_read r_read ends = absurd ends
+nothing_refused cupboard names v p r (Impossible name line) good p_read r_read ends = absurd ends
+nothing_refused cupboard names v p r (OtherRow at from_frames reported) good p_read r_read ends = absurd ends
+nothing_refused cupboard names v p r (BadLane fault) good p_read r_read ends = absurd (lanes_are_right cupboard names v good p fault p_read ends)
 
--- the file that was too long is one of the two
-files_are_short : (cupboard : List Meaning) (names : RunNames) (v w : View) (name : List ℕ) → IsAccepted cupboard names v
-    → EndsAtFetch (fetched_by names) false v w name → IsLonger (v.held name) most_bytes → ⊥
-files_are_short cupboard names v w name good (inl first) longer =
-    not_longer (v.held names.plan) good.plan_bytes good.plan_held good.plan_short (subst (λ n. IsLonger (v.held n) most_bytes) first.0 longer)
-files_are_short cupboard names v w name good (inr (inl second)) longer =
-    not_longer (v.held names.readings) good.readings_bytes good.readings_held good.readings_short (subst (λ n. IsLonger (v.held n) most_bytes) second.0 longer)
-files_are_short cupboard names v w name good (inr (inr none)) longer = absurd none
+run_calm : (cupboard : List Meaning) (names : RunNames) (v w : View) (outcome : Outcome) → RunAccepts cupboard names v → RunEnds cupboard names v w outcome → IsCalm outcome
+run_calm cupboard names v w outcome good (inl unread) =
+    unread_calm (fetched_by names) v w outcome (two_are_short v w names.plan names.readings good.plan_bytes good.readings_bytes good.plan good.readings) unread
+run_calm cupboard names v w outcome good (inr (p, r, p_read, r_read, inl refused)) = nothing_refused cupboard names v p r outcome good p_read r_read refused.0
+run_calm cupboard names v w outcome good (inr (p, r, p_read, r_read, inr (texts, made, only, ends))) =
+    puts_calm (put_by names texts) texts.summary (after_fetches (fetched_by names) v) w outcome ends
 
--- a command of accepted files is done, or finds no memory, or ends with a fault of the desk
-done_or_fault : (cupboard : List Meaning) (names : RunNames) (v w : View) (outcome : Outcome) → IsAccepted cupboard names v → RunEnds cupboard names v w outcome
-    → IsFault outcome ⊎ ((status_of outcome ≡ 0) ⊎ (status_of outcome ≡ 1))
-done_or_fault cupboard names v w Done good ends = inr (inl refl)
-done_or_fault cupboard names v w NoMemory good ends = inr (inr refl)
-done_or_fault cupboard names v w BadWords good ends = absurd ends
-done_or_fault cupboard names v w (CannotRead name) good ends = inl tt
-done_or_fault cupboard names v w (TooLong name) good ends = absurd (files_are_short cupboard names v w name.now good ends.0 ends.1)
-done_or_fault cupboard names v w (CannotWrite name) good ends = inl tt
-done_or_fault cupboard names v w CannotPrint good ends = inl tt
-done_or_fault cupboard names v w (BadPlan name fault) good ends = absurd (plan_is_right cupboard names v fault good ends.1)
-done_or_fault cupboard names v w (BadReadings name fault) good ends = absurd (readings_are_right cupboard names v fault good ends.1)
-done_or_fault cupboard names v w (BadLane fault) good ends = absurd (lanes_are_right cupboard names v fault good ends.0)
+-- ---- `audit`
 
-pub accepted_is_done : (cupboard : List Meaning) (command : Option Command) (v w : View) (outcome : Outcome) (before between now status : ℕ) → Ends cupboard command v w outcome
-    → (IsFault outcome → Rose before between) → between ≤ now → status ≡ status_of outcome → AcceptedIsDone cupboard command v before now status
-accepted_is_done cupboard command v w outcome before between now status ends rises later is names workers run good calm =
-    let ran : Ends cupboard (Some (Run names workers)) v w outcome = subst (λ c. Ends cupboard c v w outcome) run ends in
-    elim (done_or_fault cupboard names v w outcome good ran) [
+-- the transcript is the one that was accepted, and so are the rows
+audited_same : (transcript report : List ℕ) (v : View) (good : AuditAccepts transcript report v) (tb rb : List ℕ) (t : TranscriptView) (rows : List ReportRow)
+    → IsRead (v.held transcript) tb → IsRead (v.held report) rb → AreAuditTexts tb rb t rows → (good.lines ≡ t) × (good.rows ≡ rows)
+audited_same transcript report v good tb rb t rows t_read r_read texts = (
+  ok_same (read_of Two tb) good.lines t (ap (read_of Two) (sym (read_is v transcript good.transcript_bytes tb good.transcript_file t_read)) ∙ good.texts.transcript) texts.transcript,
+  ok_same (rows_of_text rb) good.rows rows (ap rows_of_text (sym (read_is v report good.report_bytes rb good.report_file r_read)) ∙ good.texts.report) texts.report,
+)
+
+transcript_not_refused : (transcript report : List ℕ) (v : View) (good : AuditAccepts transcript report v) (tb : List ℕ) (fault : ReadError)
+    → IsRead (v.held transcript) tb → read_of Two tb ≡ Err fault → ⊥
+transcript_not_refused transcript report v good tb fault t_read bad =
+    ok_or_err (read_of Two tb) good.lines fault (ap (read_of Two) (sym (read_is v transcript good.transcript_bytes tb good.transcript_file t_read)) ∙ good.texts.transcript) bad
+
+report_not_refused : (transcript report : List ℕ) (v : View) (good : AuditAccepts transcript report v) (rb : List ℕ) (line : ℕ)
+    → IsRead (v.held report) rb → rows_of_text rb ≡ Err line → ⊥
+report_not_refused transcript report v good rb line r_read bad =
+    ok_or_err (rows_of_text rb) good.rows line (ap rows_of_text (sym (read_is v report good.report_bytes rb good.report_file r_read)) ∙ good.texts.report) bad
+
+-- possible lines have no first impossible one
+all_possible : (t : TranscriptView) (k : ℕ) → IsPossible t.plan.groups (lines_in t) → IsFirstImpossible t k → ⊥
+all_possible t k possible first = first.here (possible_up_to t.plan.groups (lines_in t) (k + 1) possible)
+
+-- rows that are the given ones have no first difference
+no_difference : (t : TranscriptView) (rows : List ReportRow) (at : ℕ) (one other : Option ReportRow) → rows ≡ rows_by_frames t → DifferFirst (rows_by_frames t) rows at one other → ⊥
+no_difference t rows at one other same first = first.differ (sym first.one_is ∙ ap (λ rows. slice_get rows (at - 1)) (sym same) ∙ first.other_is)
+
+audit_not_refused : (transcript report : List ℕ) (v : View) (tb rb : List ℕ) (outcome : Outcome) → AuditAccepts transcript report v
+    → IsRead (v.held transcript) tb → IsRead (v.held report) rb → AuditRefuses transcript report tb rb outcome → IsCalm outcome
+audit_not_refused transcript report v tb rb Done good t_read r_read ends = absurd ends
+audit_not_refused transcript report v tb rb NoMemory good t_read r_read ends = inr (inr refl)
+audit_not_refused transcript report v tb rb BadWords good t_read r_read ends = absurd ends
+audit_not_refused transcript report v tb rb (CannotRead name) good t_read r_read ends = absurd ends
+audit_not_refused transcript report v tb rb (TooLong name) good t_read r_read ends = absurd ends
+audit_not_refused transcript report v tb rb (CannotWrite name) good t_read r_read ends = absurd ends
+audit_not_refused transcript report v tb rb CannotPrint good t_read r_read ends = absurd ends
+audit_not_refused transcript report v tb rb (BadPlan name fault) good t_read r_read ends = absurd ends
+audit_not_refused transcript report v tb rb (BadReadings name fault) good t_read r_read ends = absurd ends
+audit_not_refused transcript report v tb rb (BadTranscript name fault) good t_read r_read ends = absurd (transcript_not_refused transcript report v good tb fault t_read ends.1)
+audit_not_refused transcript report v tb rb (BadReport name line) good t_read r_read (named, (t, is, bad)) = absurd (report_not_refused transcript report v good rb line r_read bad)
+audit_not_refused transcript report v tb rb (Impossible name line) good t_read r_read (named, (t, rows, texts, (k, number, first))) =
+    let same = audited_same transcript report v good tb rb t rows t_read r_read texts in
+    absurd (all_possible t k (subst (λ t. IsPossible t.plan.groups (lines_in t)) same.0 good.possible) first)
+audit_not_refused transcript report v tb rb (OtherRow at one other) good t_read r_read (t, rows, texts, ends) =
+    let same = audited_same transcript report v good tb rb t rows t_read r_read texts in
+    absurd (no_difference t rows at one other (sym same.1 ∙ good.given ∙ ap rows_by_frames same.0) ends.first)
+audit_not_refused transcript report v tb rb (BadLane fault) good t_read r_read ends = absurd ends
+
+audit_calm : (transcript report : List ℕ) (v w : View) (outcome : Outcome) → AuditAccepts transcript report v → AuditCommandEnds transcript report v w outcome → IsCalm outcome
+audit_calm transcript report v w outcome good (inl unread) =
+    unread_calm (transcript ∷ report ∷ []) v w outcome (two_are_short v w transcript report good.transcript_bytes good.report_bytes good.transcript_file good.report_file) unread
+audit_calm transcript report v w outcome good (inr (tb, rb, t_read, r_read, inl refused)) = audit_not_refused transcript report v tb rb outcome good t_read r_read refused.0
+audit_calm transcript report v w outcome good (inr (tb, rb, t_read, r_read, inr (counts, audited, ends))) =
+    puts_calm [] (audited_line counts.rows counts.totals) (after_fetches (transcript ∷ report ∷ []) v) w outcome ends
+
+-- ---- `make` and `load`
+
+make_calm : (size : Size) (plan readings : List ℕ) (v w : View) (outcome : Outcome) → MakeEnds size plan readings v w outcome → IsCalm outcome
+make_calm size plan readings v w outcome ends =
+    puts_calm (putting plan (made_plan_text size) ∷ putting readings (made_readings_text size) ∷ []) (made_line (size.groups * size.meters * size.rounds)) v w outcome ends
+
+load_not_refused : (cupboard : List Meaning) (size : Size) (outcome : Outcome) → LoadAccepts cupboard size → LoadRefuses cupboard size outcome → IsCalm outcome
+load_not_refused cupboard size Done good ends = absurd ends
+load_not_refused cupboard size NoMemory good ends = inr (inr refl)
+load_not_refused cupboard size BadWords good ends = absurd ends
+load_not_refused cupboard size (CannotRead name) good ends = absurd ends
+load_not_refused cupboard size (TooLong name) good ends = absurd ends
+load_not_refused cupboard size (CannotWrite name) good ends = absurd ends
+load_not_refused cupboard size CannotPrint good ends = absurd ends
+load_not_refused cupboard size (BadPlan name fault) good ends = absurd ends
+load_not_refused cupboard size (BadReadings name fault) good ends = absurd ends
+load_not_refused cupboard size (BadTranscript name fault) good ends = absurd ends
+load_not_refused cupboard size (BadReport name line) good ends = absurd ends
+load_not_refused cupboard size (Impossible name line) good ends = absurd ends
+load_not_refused cupboard size (OtherRow at one other) good ends = absurd ends
+load_not_refused cupboard size (BadLane fault) good ends = absurd (ok_or_err _ _ _ good.lanes ends)
+
+load_calm : (cupboard : List Meaning) (size : Size) (transcript : Option (List ℕ)) (v w : View) (outcome : Outcome) → LoadAccepts cupboard size
+    → LoadEnds cupboard size transcript v w outcome → IsCalm outcome
+load_calm cupboard size transcript v w outcome good (inl refused) = load_not_refused cupboard size outcome good refused.0
+load_calm cupboard size transcript v w outcome good (inr (texts, is, only, ends)) = puts_calm (put_where transcript texts.transcript) texts.summary v w outcome ends
+
+-- ---- `convert`
+
+converted_is : (old : List ℕ) (v : View) (good : ConvertAccepts old v) (bytes : List ℕ) → IsRead (v.held old) bytes → read_of One bytes ≡ Ok good.transcript
+unfolding ReadsEach
+converted_is old v good bytes is =
+    let same : good.bytes ≡ bytes = read_is v old good.bytes bytes good.file is in
+    let few : length good.bytes ≤ most_bytes = good.file.short in
+    ap (read_of One) (sym same) ∙ reads_each One good.bytes (omega arith) good.transcript good.has_text good.text
+
+text_not_refused : (old : List ℕ) (v : View) (bytes : List ℕ) (outcome : Outcome) → ConvertAccepts old v → IsRead (v.held old) bytes → ConvertRefuses old bytes outcome → IsCalm outcome
+text_not_refused old v bytes Done good is ends = absurd ends
+text_not_refused old v bytes NoMemory good is ends = inr (inr refl)
+text_not_refused old v bytes BadWords good is ends = absurd ends
+text_not_refused old v bytes (CannotRead name) good is ends = absurd ends
+text_not_refused old v bytes (TooLong name) good is ends = absurd ends
+text_not_refused old v bytes (CannotWrite name) good is ends = absurd ends
+text_not_refused old v bytes CannotPrint good is ends = absurd ends
+text_not_refused old v bytes (BadPlan name fault) good is ends = absurd ends
+text_not_refused old v bytes (BadReadings name fault) good is ends = absurd ends
+text_not_refused old v bytes (BadTranscript name fault) good is ends = absurd (ok_or_err _ _ _ (converted_is old v good bytes is) ends.1)
+text_not_refused old v bytes (BadReport name line) good is ends = absurd ends
+text_not_refused old v bytes (Impossible name line) good is ends = absurd ends
+text_not_refused old v bytes (OtherRow at from_frames reported) good is ends = absurd ends
+text_not_refused old v bytes (BadLane fault) good is ends = absurd ends
+
+convert_calm : (old transcript : List ℕ) (v w : View) (outcome : Outcome) → ConvertAccepts old v → ConvertEnds old transcript v w outcome → IsCalm outcome
+convert_calm old transcript v w outcome good (inl unread) = unread_calm (old ∷ []) v w outcome (one_is_short v w old good.bytes good.file) unread
+convert_calm old transcript v w outcome good (inr (bytes, is, inl refused)) = text_not_refused old v bytes outcome good is refused.0
+convert_calm old transcript v w outcome good (inr (bytes, is, inr (t, has, text, ends))) =
+    puts_calm (putting transcript (transcript_text t) ∷ []) (converted_line (length t.entries)) (after_fetches (old ∷ []) v) w outcome ends
+
+-- ---- all commands
+
+command_calm : (cupboard : List Meaning) (command : Command) (v w : View) (outcome : Outcome) → Accepts cupboard command v → Ends cupboard (Some command) v w outcome → IsCalm outcome
+command_calm cupboard (Run names workers) v w outcome good ends = run_calm cupboard names v w outcome good ends
+command_calm cupboard (Audit transcript report) v w outcome good ends = audit_calm transcript report v w outcome good ends
+command_calm cupboard (Make size plan readings) v w outcome good ends = make_calm size plan readings v w outcome ends
+command_calm cupboard (Load size workers transcript) v w outcome good ends = load_calm cupboard size transcript v w outcome good ends
+command_calm cupboard (Convert old transcript) v w outcome good ends = convert_calm old transcript v w outcome good ends
+command_calm cupboard Help v w outcome good ends = puts_calm [] USAGE.now v w outcome ends
+command_calm cupboard Version v w outcome good ends = puts_calm [] VERSION.now v w outcome ends
+
+pub accepted_is_done : (cupboard : List Meaning) (asked : Option Command) (v w : View) (outcome : Outcome) (before between now status : ℕ) → Ends cupboard asked v w outcome
+    → (IsFault outcome → Rose before between) → between ≤ now → status ≡ status_of outcome → AcceptedIsDone cupboard asked v before now status
+accepted_is_done cupboard asked v w outcome before between now status ends rises later is command by good calm =
+    let done : Ends cupboard (Some command) v w outcome = subst (λ c. Ends cupboard c v w outcome) by ends in
+    elim (command_calm cupboard command v w outcome good done) [
       | inl fault ↦ absurd (calm (let h = rises fault in omega arith))
-      | inr (inl done) ↦ inl (is ∙ done)
+      | inr (inl well) ↦ inl (is ∙ well)
       | inr (inr short) ↦ inr (is ∙ short)
     ]

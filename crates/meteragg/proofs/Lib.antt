@@ -1,3 +1,5 @@
 pub mod AcceptedLemmas
-pub mod RunEnding
+mod CommandEndings
 pub mod RunLemmas
+pub mod StoredLemmas
+mod StreamLemmas

@@ -19,6 +19,7 @@ use Rattle.transcript_log.specs.Frames.{contents_of_lines}
 use Rattle.transcript_log.specs.Journal.{past_of}
 use Rattle.transcript_log.proofs.ListLemmas.{and_first, flat_map_same}
 use Rattle.totals_report.specs.Texts.{rows_text}
+use Rattle.totals_report.specs.declared.row.ReportRow.{ReportRow}
 use Rattle.totals_report.specs.Reports.{report_row, group_rows, report_rows, report_text, summary_text}
 use Rattle.std.specs.List.{range_with_len}
 use Rattle.transcript_log.proofs.JournalLemmas.{total_of_journal}
@@ -40,14 +41,16 @@ use Rattle.plan_files.specs.Rows.{file_rows}
 use Rattle.plan_files.specs.Readings.{ReadingsEnd, readings_of, readings_by, rows_fault}
 use Rattle.plan_files.specs.PlanFiles.{PlanFileView, plan_of}
 use Rattle.group_book.specs.Books.{BookView}
-use Rattle.transcript_text.specs.Transcripts.{TranscriptView}
+use Rattle.transcript_text.specs.Transcripts.{TranscriptView, IsTranscript}
 use Rattle.transcript_text.specs.Spelling.{transcript_text}
 use Rattle.totals_report.specs.Books.{row_in as book_row, summary_in as book_summary}
 use Rattle.tick_run.specs.Finished.{IsFinished}
-use Rattle.meteragg.specs.Runs.{Values, IsRunOf, row_in, Texts, AreTexts, Makes}
+use Rattle.meteragg.specs.Runs.{Values, plan_in, readings_in, shape_in, clock_in, AreValues, AreSound, IsRunOf, row_in, Texts, AreTexts, Makes, IsOnly}
 use Rattle.meteragg.specs.RunTexts.{AreTextsOf, TextsEnd}
 use Rattle.meteragg.specs.declared.texts.Refusal.TheVariants.{Readings as ReadingsRefusal}
 use Rattle.ideal_masks.proofs.Isolation.{isolated}
+use Rattle.ideal_masks.proofs.FiniteTables.{is_table, keeps_lines}
+use Rattle.meteragg.proofs.StreamLemmas.{streams_small}
 
 -- ---- who has a reading
 
@@ -88,7 +91,7 @@ is_small : (o : Option ℕ) → ((v : ℕ) → o ≡ Some v → v < 2 ^ 40) → 
 is_small None small = omega arith
 is_small (Some v) small = small v refl
 
-bounded : (plan : PlanView) (t : Table (Option ℕ)) → IsWithinLimits plan → IsReadingTable plan t → IsBounded plan.groups (reading t)
+pub bounded : (plan : PlanView) (t : Table (Option ℕ)) → IsWithinLimits plan → IsReadingTable plan t → IsBounded plan.groups (reading t)
 bounded plan t limits fits = record {
   meters = limits.meters;
   readings = λ g r i. is_small (reading t g r i) (fits.small g r i);
@@ -143,12 +146,12 @@ map_same (suc n) a f h same =
     let later : map f (range_with_len (a + 1) n) ≡ map h (range_with_len (a + 1) n) = map_same n (a + 1) f h (λ i from to. same i (omega arith) (omega arith)) in
     ap (λ x. x ∷ map f (range_with_len (a + 1) n)) here ∙ ap (λ xs. h a ∷ xs) later
 
--- the same rows make one report
-pub same_report : (plan : PlanView) (f h : ℕ → ℕ → Row) → ((g r : ℕ) → g < length plan.groups → r < plan.rounds → f g r ≡ h g r) → report_text plan f ≡ report_text plan h
+-- rounds with the same rows make one report
+pub same_report : (plan : PlanView) (f h : ℕ → ℕ → Row) → ((g r : ℕ) → g < length plan.groups → r < plan.rounds → f g r ≡ h g r) → report_rows plan f ≡ report_rows plan h
 unfolding report_rows
 same_report plan f h same =
-    ap rows_text (flat_map_same (length plan.groups) 0 (group_rows plan f) (group_rows plan h)
-    (λ g from to. map_same plan.rounds 0 _ _ (λ r from' to'. ap (report_row plan g r) (same g r (omega arith) (omega arith)))))
+    flat_map_same (length plan.groups) 0 (group_rows plan f) (group_rows plan h)
+    (λ g from to. map_same plan.rounds 0 _ _ (λ r from' to'. ap (report_row plan g r) (same g r (omega arith) (omega arith))))
 
 -- ---- a finished run
 
@@ -207,15 +210,17 @@ run_of readings file slots book t finished is =
       ticks = is.ticks;
       delays = finished.delays;
       lines = finished.lines;
+      words = is_table readings.plan (streams file.keys) (streams_small file.keys);
+      finite = finished.lines ∙ sym (keeps_lines readings.plan readings.table (streams file.keys) (events_of t.entries) finished.table);
       fates = is.posts;
       rows = λ g r g_in r_in.
           is.reports.rows g r g_in r_in ∙ sym (ap (λ posts. row s c (fate_at posts) (plain_sum (reading readings.table)) g r) is.posts);
       isolated = isolated readings.plan readings.table (events_of t.entries) finished.table;
     }
 
--- the report of a book, and its summary
-told_report : PresenceView → List Line → List ℕ
-told_report p j = report_text p.plan (λ g r. outcome_row (shape_of_presence p) (contents_of_lines j).total g r (past_of j))
+-- the rows of a book, and its summary
+told_rows : PresenceView → List Line → List ReportRow
+told_rows p j = report_rows p.plan (λ g r. outcome_row (shape_of_presence p) (contents_of_lines j).total g r (past_of j))
 
 told_summary : PresenceView → List Line → List ℕ
 told_summary p j = summary_text (summary_of_lines (shape_of_presence p) (clock_of p.plan) (contents_of_lines j).total j)
@@ -223,15 +228,15 @@ told_summary p j = summary_text (summary_of_lines (shape_of_presence p) (clock_o
 report_is : (readings : ReadingsView) (file : PlanFileView) (slots : List Slot) (book : BookView) (t : TranscriptView)
     → IsTold readings.plan.groups (reading readings.table) (streams file.keys) (lines_of t.entries)
     → IsFinished readings file.keys slots book t → IsRunOf (with_plan file slots readings readings.plan) t.entries
-    → told_report book.presence book.journal ≡ report_text readings.plan (row_in (with_plan file slots readings readings.plan) t.entries)
-unfolding told_report with_plan
+    → told_rows book.presence book.journal ≡ report_rows readings.plan (row_in (with_plan file slots readings readings.plan) t.entries)
+unfolding told_rows with_plan
 report_is readings file slots book t is finished run =
     let x : Readings = reading readings.table in
     let s : Shape = shape_of_readings readings.plan.groups x in
     let ls : List Line = lines_of t.entries in
-    let by_shape : Shape → List ℕ = λ shape. report_text readings.plan (λ g r. outcome_row shape (contents_of_lines ls).total g r (past_of ls)) in
-    ap (λ p. told_report p book.journal) finished.presence
-    ∙ ap (told_report (presence_of readings)) finished.journal
+    let by_shape : Shape → List ReportRow = λ shape. report_rows readings.plan (λ g r. outcome_row shape (contents_of_lines ls).total g r (past_of ls)) in
+    ap (λ p. told_rows p book.journal) finished.presence
+    ∙ ap (told_rows (presence_of readings)) finished.journal
     ∙ ap by_shape (same_shape readings)
     ∙ same_report readings.plan _ _ (λ g r g_in r_in.
     same_row readings.plan.groups x (streams file.keys) ls is g r
@@ -260,18 +265,21 @@ summary_is readings file slots book t is finished well =
 -- the texts of a finished run of the values of the files are those that the files make
 made : (file : PlanFileView) (slots : List Slot) (readings : ReadingsView) (book : BookView) (t : TranscriptView) (texts : Texts)
     → IsFinished readings file.keys slots book t → AreTextsOf book t texts
-    → IsRunOf (with_plan file slots readings readings.plan) t.entries × AreTexts (with_plan file slots readings readings.plan) t.entries texts
-unfolding with_plan told_report told_summary book_row book_summary
+    → AreSound (with_plan file slots readings readings.plan) × IsRunOf (with_plan file slots readings readings.plan) t.entries × AreTexts (with_plan file slots readings readings.plan) t.entries texts
+unfolding with_plan told_rows told_summary book_row book_summary
 made file slots readings book t texts finished written =
     let well : IsGood readings (streams file.keys) slots t.entries = good readings file.keys slots book t finished in
     let is = told readings (streams file.keys) t.entries finished.limits finished.table finished.lines in
     let run = run_of readings file slots book t finished well in
     let with_entries : PlanView → TranscriptView = λ plan. record { plan = plan; entries = t.entries } in (
+      record { limits = finished.limits; table = finished.table },
       run,
       record {
+        sound = subst (λ plan. IsTranscript (with_entries plan)) finished.plan written.sound;
         transcript = written.transcript ∙ ap (λ plan. transcript_text (with_entries plan)) finished.plan;
         read_back = written.read_back ∙ ap (λ plan. Ok (with_entries plan)) finished.plan;
-        report = written.report ∙ report_is readings file slots book t is finished run;
+        report = written.report ∙ ap rows_text (report_is readings file slots book t is finished run);
+        rows_back = written.rows_back ∙ ap Ok (report_is readings file slots book t is finished run);
         summary = written.summary ∙ summary_is readings file slots book t is finished well;
       },
     )
@@ -282,14 +290,15 @@ pub makes : (cupboard : List Meaning) (plan_bytes readings_bytes : List ℕ) (fi
     → Makes cupboard plan_bytes readings_bytes texts
 unfolding with_plan
 makes cupboard plan_bytes readings_bytes file lanes slots readings book t texts plan_is rows hang readings_are finished written =
-    let P : PlanView → Type 0 = λ plan. IsRunOf (with_plan file slots readings plan) t.entries × AreTexts (with_plan file slots readings plan) t.entries texts in
+    let P : PlanView → Type 0 = λ plan. AreSound (with_plan file slots readings plan) × IsRunOf (with_plan file slots readings plan) t.entries × AreTexts (with_plan file slots readings plan) t.entries texts in
     let both : P file.plan = subst P (plan_of_readings file.plan readings_bytes readings readings_are) (made file slots readings book t texts finished written) in
     record {
       values = with_plan file slots readings file.plan;
       entries = t.entries;
       of_bytes = record { plan = plan_is; lanes = ap (hung_by cupboard) (sym rows) ∙ hang; readings = readings_are };
-      run = both.0;
-      told = both.1;
+      sound = both.0;
+      run = both.1;
+      told = both.2;
     }
 
 -- ---- refusals
@@ -316,3 +325,52 @@ pub readings_refused : (cupboard : List Meaning) (plan_bytes readings_bytes : Li
     → (fault.cause ≡ cause.Memory → ⊥) → TextsEnd cupboard plan_bytes readings_bytes (Err (ReadingsRefusal fault))
 readings_refused cupboard plan_bytes readings_bytes file lanes slots fault plan_is rows hang ends other =
     (file, slots, plan_is, ap (hung_by cupboard) (sym rows) ∙ hang, but_memory fault.cause _ other ends)
+
+-- ---- what the files and the lanes alone decide
+
+same_values : (cupboard : List Meaning) (p r : List ℕ) (v w : Values) → AreValues cupboard p r v → AreValues cupboard p r w → v ≡ w
+same_values cupboard p r v w first second =
+    let file : v.file ≡ w.file = (let one = first.plan in let two = second.plan in cc) in
+    let slots : v.slots ≡ w.slots =
+    (let one = first.lanes in
+    let two : hung_by cupboard v.file.lanes ≡ Ok w.slots = ap (λ f. hung_by cupboard f.lanes) file ∙ second.lanes in
+    cc)
+    in
+    let readings : v.readings ≡ w.readings =
+    (let one = first.readings in
+    let two : readings_of v.file.plan r ≡ Ok w.readings = ap (λ f. readings_of f.plan r) file ∙ second.readings in
+    cc)
+    in
+    ap (λ f. record { file = f; slots = v.slots; readings = v.readings }) file
+    ∙ ap (λ s. record { file = w.file; slots = s; readings = v.readings }) slots
+    ∙ ap (λ x. record { file = w.file; slots = w.slots; readings = x }) readings
+
+-- the report and the summary by the posts that the lanes give
+report_of : Values → List ℕ
+report_of v =
+    report_text (plan_in v) (λ g r. row (shape_in v) (clock_in v) (fate_at (posts_by_lanes (shape_in v) (clock_in v) v.slots)) (plain_sum (readings_in v)) g r)
+
+summary_of : Values → List ℕ
+summary_of v = summary_text (summary_of_posts (shape_in v) (clock_in v) (plain_sum (readings_in v)) (posts_by_lanes (shape_in v) (clock_in v) v.slots))
+
+report_decided : (v : Values) (entries : List Entry) (texts : Texts) → IsRunOf v entries → AreTexts v entries texts → texts.report ≡ report_of v
+unfolding report_of
+report_decided v entries texts run told =
+    told.report ∙ ap (λ posts. report_text (plan_in v) (λ g r. row (shape_in v) (clock_in v) (fate_at posts) (plain_sum (readings_in v)) g r)) run.fates
+
+summary_decided : (v : Values) (entries : List Entry) (texts : Texts) → IsRunOf v entries → AreTexts v entries texts → texts.summary ≡ summary_of v
+unfolding summary_of
+summary_decided v entries texts run told =
+    told.summary ∙ ap (λ posts. summary_text (summary_of_posts (shape_in v) (clock_in v) (plain_sum (readings_in v)) posts)) run.fates
+
+pub is_only : (cupboard : List Meaning) (p r : List ℕ) (texts : Texts) → Makes cupboard p r texts → IsOnly cupboard p r texts
+is_only cupboard p r texts made = record {
+  report = λ others theirs.
+      report_decided theirs.values theirs.entries others theirs.run theirs.told
+      ∙ ap report_of (same_values cupboard p r theirs.values made.values theirs.of_bytes made.of_bytes)
+      ∙ sym (report_decided made.values made.entries texts made.run made.told);
+  summary = λ others theirs.
+      summary_decided theirs.values theirs.entries others theirs.run theirs.told
+      ∙ ap summary_of (same_values cupboard p r theirs.values made.values theirs.of_bytes made.of_bytes)
+      ∙ sym (summary_decided made.values made.entries texts made.run made.told);
+}

@@ -13,6 +13,8 @@ use Rattle.link_lanes.specs.declared.cupboard.RackCause.{RackCause}
 use Rattle.link_lanes.specs.declared.cupboard.RackCause.TheVariants as of_rack
 use Rattle.plan_files.specs.declared.fault.FileCause.{FileCause}
 use Rattle.plan_files.specs.declared.fault.FileCause.TheVariants as cause
+use Rattle.transcript_text.specs.declared.fault.ReadError.{ReadError}
+use Rattle.transcript_text.specs.declared.fault.ReadError.TheVariants as of_read
 
 -- a key: `own G I`, or `pair G I J`
 unfoldable pub key_text : KeyId → List ℕ
@@ -66,3 +68,13 @@ abbrev pub rack_cause_name : RackCause → List ℕ
 rack_cause_name of_rack.NoSuchLane = codes "NoSuchLane"
 rack_cause_name of_rack.BadArgument = codes "BadArgument"
 rack_cause_name of_rack.Memory = codes "Memory"
+
+-- what is wrong with a line of a transcript, with the field where one is at fault
+unfoldable pub read_error_name : ReadError → List ℕ
+read_error_name (of_read.Head line) = codes "Head"
+read_error_name (of_read.Line line) = codes "Line"
+read_error_name (of_read.Field line field) = codes "Field " ++ decimal field
+read_error_name (of_read.NoEnd line) = codes "NoEnd"
+read_error_name (of_read.Count line) = codes "Count"
+read_error_name (of_read.After line) = codes "After"
+read_error_name of_read.Memory = codes "Memory"

@@ -1,9 +1,12 @@
 pub mod Words
+pub mod Commands
 pub mod Calls
 pub mod Causes
 pub mod Outcomes
 pub mod Runs
 pub mod RunTexts
+pub mod Audits
 pub mod Ends
-pub mod Fetches
 pub mod Accepted
+pub mod Promise
+pub mod Cupboard

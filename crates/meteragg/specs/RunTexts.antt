@@ -4,11 +4,12 @@ use Rattle.group_book.specs.Books.{BookView}
 use Rattle.link_lanes.specs.Lanes.{Meaning}
 use Rattle.plan_files.specs.PlanFiles.{plan_of}
 use Rattle.transcript_text.specs.declared.version.Version.TheVariants.{Two}
-use Rattle.transcript_text.specs.Transcripts.{TranscriptView}
+use Rattle.transcript_text.specs.Transcripts.{TranscriptView, IsTranscript}
 use Rattle.transcript_text.specs.Spelling.{transcript_text}
 use Rattle.transcript_text.specs.Heads.{read_of}
 use Rattle.totals_report.specs.Books.{row_in, summary_in}
-use Rattle.totals_report.specs.Reports.{report_text, summary_text}
+use Rattle.totals_report.specs.Reading.{rows_of_text}
+use Rattle.totals_report.specs.Reports.{report_rows, report_text, summary_text}
 use Rattle.meteragg.specs.declared.texts.RunTexts.{RunTexts}
 use Rattle.meteragg.specs.declared.texts.Refusal.{Refusal}
 use Rattle.meteragg.specs.declared.texts.Refusal.TheVariants.{Plan, Lane, Readings, Memory}
@@ -21,9 +22,11 @@ texts_of kept = record { transcript = kept.transcript.items; report = kept.repor
 
 -- the texts are those of a transcript and of a book's outcomes
 pub record AreTextsOf (book : BookView) (t : TranscriptView) (texts : Texts) : Type 0 where
+  pub sound : IsTranscript t
   pub transcript : texts.transcript ≡ transcript_text t
   pub read_back : read_of Two texts.transcript ≡ Ok t
   pub report : texts.report ≡ report_text book.presence.plan (row_in book)
+  pub rows_back : rows_of_text texts.report ≡ Ok (report_rows book.presence.plan (row_in book))
   pub summary : texts.summary ≡ summary_text (summary_in book)
 
 -- the texts of a run of the values of the bytes, or the first that is refused: the plan file, a lane row of it, or the readings file;

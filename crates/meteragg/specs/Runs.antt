@@ -1,7 +1,7 @@
 -- What `run` makes of the bytes of its two files: the values of the files, a run by ticks, and three texts.
 use Rattle.std.specs.Prelude.{◌≡◌, ℕ, ◌<◌, List, length, reverse, Ok}
-use Rattle.group_plan.specs.Plans.{PlanView}
-use Rattle.group_plan.specs.Tables.{ReadingsView, reading}
+use Rattle.group_plan.specs.Plans.{PlanView, IsWithinLimits}
+use Rattle.group_plan.specs.Tables.{ReadingsView, reading, IsReadingTable}
 use Rattle.link_lanes.specs.Lanes.{Meaning, Slot}
 use Rattle.link_lanes.specs.Fits.{hung_by}
 use Rattle.mask_stream.specs.KeyStreams.{streams}
@@ -16,12 +16,14 @@ use Rattle.run_rows.specs.Report.{Row, row, fate_at, outcome_row}
 use Rattle.run_rows.specs.Summary.{summary_of_posts}
 use Rattle.run_rows.specs.Posts.{posts_by_lanes}
 use Rattle.ideal_masks.specs.Isolation.{Isolated}
+use Rattle.ideal_masks.specs.ListTables.{MaskTable, masks_in, mask_table_of, IsMaskTable}
 use Rattle.plan_files.specs.PlanFiles.{PlanFileView, plan_of}
 use Rattle.transcript_text.specs.declared.version.Version.TheVariants.{Two}
-use Rattle.transcript_text.specs.Transcripts.{TranscriptView}
+use Rattle.transcript_text.specs.Transcripts.{TranscriptView, IsTranscript}
 use Rattle.transcript_text.specs.Spelling.{transcript_text}
 use Rattle.transcript_text.specs.Heads.{read_of}
-use Rattle.totals_report.specs.Reports.{report_text, summary_text}
+use Rattle.totals_report.specs.Reading.{rows_of_text}
+use Rattle.totals_report.specs.Reports.{report_rows, report_text, summary_text}
 
 -- ---- the values of the files
 
@@ -47,11 +49,20 @@ shape_in v = shape_of_readings (plan_in v).groups (readings_in v)
 abbrev pub clock_in : Values → Clock
 clock_in v = clock_of (plan_in v)
 
+-- the stream words of the keys, as a finite mask table of the plan
+abbrev pub words_in : Values → MaskTable
+words_in v = mask_table_of (plan_in v) (streams v.file.keys)
+
 -- they are those of these bytes and this cupboard
 pub record AreValues (cupboard : List Meaning) (plan_bytes readings_bytes : List ℕ) (v : Values) : Type 0 where
   pub plan : plan_of plan_bytes ≡ Ok v.file
   pub lanes : hung_by cupboard v.file.lanes ≡ Ok v.slots
   pub readings : readings_of v.file.plan readings_bytes ≡ Ok v.readings
+
+-- what all such values are: a plan within its limits, and readings below 2^40 of members alone
+pub record AreSound (v : Values) : Type 0 where
+  pub limits : IsWithinLimits (plan_in v)
+  pub table : IsReadingTable (plan_in v) v.readings.table
 
 -- ---- the run
 
@@ -66,6 +77,9 @@ pub record IsRunOf (v : Values) (entries : List Entry) : Type 0 where
   pub delays : HaveDelays entries
   -- whose lines are the transcript of the readings under the stream words of the keys
   pub lines : lines_of entries ≡ transcript (plan_in v).groups (readings_in v) (streams v.file.keys) (events_of entries)
+  -- which is also the transcript under the finite table of these words, a mask table of the plan
+  pub words : IsMaskTable (plan_in v) (words_in v)
+  pub finite : lines_of entries ≡ transcript (plan_in v).groups (readings_in v) (masks_in (words_in v)) (events_of entries)
   -- whose posts and fates are those that the lanes alone give, whatever the workers did
   pub fates : posts_of entries ≡ posts_by_lanes (shape_in v) (clock_in v) v.slots
   -- whose outcomes are the rows by the fates
@@ -85,11 +99,14 @@ pub record Texts : Type 0 where
 abbrev pub transcript_in : Values → List Entry → TranscriptView
 transcript_in v entries = record { plan = plan_in v; entries = entries }
 
--- the transcript of the plan and the entries, which `read` gives for its bytes, the report by fates, and its summary
+-- the text of the transcript of the plan and the entries, which `read` gives for its bytes, the report by fates, whose rows `read_report`
+-- gives for its bytes, and its summary
 pub record AreTexts (v : Values) (entries : List Entry) (texts : Texts) : Type 0 where
+  pub sound : IsTranscript (transcript_in v entries)
   pub transcript : texts.transcript ≡ transcript_text (transcript_in v entries)
   pub read_back : read_of Two texts.transcript ≡ Ok (transcript_in v entries)
   pub report : texts.report ≡ report_text (plan_in v) (row_in v entries)
+  pub rows_back : rows_of_text texts.report ≡ Ok (report_rows (plan_in v) (row_in v entries))
   pub summary : texts.summary ≡ summary_text (summary_of_posts (shape_in v) (clock_in v) (plain_sum (readings_in v)) (posts_of entries))
 
 -- ---- what the bytes come to
@@ -99,5 +116,11 @@ pub record Makes (cupboard : List Meaning) (plan_bytes readings_bytes : List ℕ
   pub values : Values
   pub entries : List Entry
   pub of_bytes : AreValues cupboard plan_bytes readings_bytes values
+  pub sound : AreSound values
   pub run : IsRunOf values entries
   pub told : AreTexts values entries texts
+
+-- whatever texts a run of these bytes makes, they have this report and this summary, since the files and the lanes alone decide both
+pub record IsOnly (cupboard : List Meaning) (plan_bytes readings_bytes : List ℕ) (texts : Texts) : Type 0 where
+  pub report : (others : Texts) → Makes cupboard plan_bytes readings_bytes others → others.report ≡ texts.report
+  pub summary : (others : Texts) → Makes cupboard plan_bytes readings_bytes others → others.summary ≡ texts.summary

@@ -1,7 +1,9 @@
-// The texts of complaints.
+//! The texts of complaints.
+
 ghost use Rattle.std.specs.Prelude.{◌≡◌, IfOk, string_bytes};
-ghost use Rattle.meteragg.specs.Causes.{key_text, plan_error_name, span_error_name, key_error_text, cause_text, rack_cause_name};
-ghost use Rattle.meteragg.specs.Outcomes.{file_complaint, complaint_of};
+ghost use Rattle.meteragg.specs.Causes.{key_text, plan_error_name, span_error_name, key_error_text, cause_text, rack_cause_name, read_error_name};
+ghost use Rattle.transcript_text.specs.Faults.{fault_line};
+ghost use Rattle.meteragg.specs.Outcomes.{file_complaint, line_complaint, row_or_nothing, row_complaint, IsText, complaint_of};
 
 use crate::outcome::Outcome;
 use group_plan::{PlanError, SpanError};
@@ -9,6 +11,8 @@ use link_lanes::RackCause;
 use pair_keys::{KeyError, KeyId};
 use plan_files::{FileCause, FileError};
 use std::alloc::{AllocError, Global};
+use totals_report::{ReportRow, row_text};
+use transcript_text::ReadError;
 
 #[tactic(auto, unfolding(crate::specs::Causes::key_text))]
 fn key_text(alloc: Global, key: KeyId) -> Result<String, AllocError>
@@ -114,13 +118,77 @@ fn file_complaint(alloc: Global, name: &str, fault: FileError) -> Result<String,
     format!(in alloc; "meteragg: {name} row {row}: {cause}\n")
 }
 
-/// The text of the complaint, none where the command was done.
+// The faulty line of a transcript.
+fn fault_line(fault: ReadError) -> u64
+    ensures { result ≡ fault_line fault }
+{
+    match fault {
+        ReadError::Head(line)
+        | ReadError::Line(line)
+        | ReadError::Field(line, _)
+        | ReadError::NoEnd(line)
+        | ReadError::Count(line)
+        | ReadError::After(line) => line,
+        ReadError::Memory => 0,
+    }
+}
+
+#[tactic(auto, unfolding(crate::specs::Causes::read_error_name))]
+fn read_error_name(alloc: Global, fault: ReadError) -> Result<String, AllocError>
+    ensures { IfOk result (λ text. string_bytes text ≡ read_error_name fault) }
+{
+    match fault {
+        ReadError::Head(_) => String::from_str(alloc, "Head"),
+        ReadError::Line(_) => String::from_str(alloc, "Line"),
+        ReadError::Field(_, field) => format!(in alloc; "Field {field}"),
+        ReadError::NoEnd(_) => String::from_str(alloc, "NoEnd"),
+        ReadError::Count(_) => String::from_str(alloc, "Count"),
+        ReadError::After(_) => String::from_str(alloc, "After"),
+        ReadError::Memory => String::from_str(alloc, "Memory"),
+    }
+}
+
+#[tactic(auto, unfolding(crate::specs::Outcomes::line_complaint))]
+fn line_complaint(alloc: Global, name: &str, line: u64, cause: &str) -> Result<String, AllocError>
+    ensures { IfOk result (λ text. string_bytes text ≡ line_complaint name.now line cause.now) }
+{
+    format!(in alloc; "meteragg: {name} line {line}: {cause}\n")
+}
+
+#[tactic(auto, unfolding(crate::specs::Outcomes::row_or_nothing))]
+fn row_or_nothing(alloc: Global, row: &Option<ReportRow>) -> Result<Vec<u8>, AllocError>
+    ensures { IfOk result (λ text. text.items ≡ row_or_nothing row.now) }
+{
+    match row {
+        None => Ok(String::from_str(alloc, "nothing")?.into_bytes()),
+        Some(row) => row_text(alloc, row),
+    }
+}
+
+#[tactic(auto, unfolding(crate::specs::Outcomes::row_complaint))]
+fn row_complaint(
+    alloc: Global,
+    at: u32,
+    from_frames: &Option<ReportRow>,
+    reported: &Option<ReportRow>,
+) -> Result<Vec<u8>, AllocError>
+    ensures { IfOk result (λ text. text.items ≡ row_complaint at from_frames.now reported.now) }
+{
+    let mut text = format!(in alloc; "meteragg: row {at}: from frames ")?.into_bytes();
+    text.extend_from_slice(&row_or_nothing(alloc, from_frames)?)?;
+    text.extend_from_slice(b", reported ")?;
+    text.extend_from_slice(&row_or_nothing(alloc, reported)?)?;
+    text.extend_from_slice(b"\n")?;
+    Ok(text)
+}
+
+// The text of a complaint of one line of text.
 #[tactic(auto, unfolding(crate::specs::Outcomes::complaint_of))]
-pub fn complaint(alloc: Global, outcome: Outcome<'_>) -> Result<String, AllocError>
-    ensures { IfOk result (λ text. string_bytes text ≡ complaint_of outcome.entry) }
+fn text_complaint(alloc: Global, outcome: &Outcome<'_>) -> Result<String, AllocError>
+    ensures { IfOk result (λ text. IsText outcome.now → string_bytes text ≡ complaint_of outcome.now) }
 {
     match outcome {
-        Outcome::Done => Ok(String::new(alloc)),
+        Outcome::Done | Outcome::OtherRow { .. } => Ok(String::new(alloc)),
         Outcome::NoMemory => String::from_str(alloc, "meteragg: no memory\n"),
         Outcome::BadWords => String::from_str(alloc, "meteragg: bad words\n"),
         Outcome::CannotRead(name) => format!(in alloc; "meteragg: cannot read {name}\n"),
@@ -130,12 +198,33 @@ pub fn complaint(alloc: Global, outcome: Outcome<'_>) -> Result<String, AllocErr
         Outcome::CannotWrite(name) => format!(in alloc; "meteragg: cannot write {name}\n"),
         Outcome::CannotPrint => String::from_str(alloc, "meteragg: cannot print\n"),
         Outcome::BadPlan(name, fault) | Outcome::BadReadings(name, fault) => {
-            file_complaint(alloc, name, fault)
+            file_complaint(alloc, name, *fault)
         }
+        Outcome::BadTranscript(name, fault) => {
+            let cause = read_error_name(alloc, *fault)?;
+            line_complaint(alloc, name, fault_line(*fault), &cause)
+        }
+        Outcome::BadReport(name, line) => line_complaint(alloc, name, *line, "Line"),
+        Outcome::Impossible(name, line) => line_complaint(alloc, name, *line, "impossible"),
         Outcome::BadLane(fault) => {
             let row = fault.row;
             let cause = rack_cause_name(fault.cause);
             format!(in alloc; "meteragg: lane row {row}: {cause}\n")
         }
+    }
+}
+
+/// The text of the complaint, none where the command was done.
+#[tactic(auto, unfolding(crate::specs::Outcomes::complaint_of))]
+pub fn complaint(alloc: Global, outcome: &Outcome<'_>) -> Result<Vec<u8>, AllocError>
+    ensures { IfOk result (λ text. text.items ≡ complaint_of outcome.now) }
+{
+    match outcome {
+        Outcome::OtherRow {
+            at,
+            from_frames,
+            reported,
+        } => row_complaint(alloc, *at, from_frames, reported),
+        _ => Ok(text_complaint(alloc, outcome)?.into_bytes()),
     }
 }

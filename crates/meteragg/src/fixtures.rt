@@ -1,8 +1,8 @@
-// Files, desks and calls of the program for tests.
-use crate::program::meteragg;
+//! Files, desks and calls of the program for tests.
+
+use crate::cupboard::with_lanes;
 use collector_workers::Gate;
 use desk_outside::MemoryDesk;
-use link_lanes::{Burst, Clear, EveryNth, Lane, Rules, Seeded};
 use std::alloc::Global;
 use std::sync::Wait;
 use std::test::Fail;
@@ -19,6 +19,64 @@ pub const NORTH: &str =
 
 /// Readings of 10, 20 and 30 watt-hours.
 pub const READINGS: &str = "north,0,10,20,30\n";
+
+/// The transcript of these three meters; in a run the Takes of a tick may stand in any order.
+pub const TRANSCRIPT: &str = "meteragg transcript 2
+rounds,1
+windows,1,2
+group,north,3,2
+begin
+0,s,0,0,r,0,1,4d02010000000000000000000000000000000000000000000000000000000000000000000000000000000000b0b9d4e209a2296c
+0,s,0,0,r,1,1,4d02010100000000000000000000000000000000000000000000000000000000000000000000000000000000903df1a0ade0b88a
+0,s,0,0,r,2,1,4d020102000000000000000000000000000000000000000000000000000000000000000000000000000000006fc20e5f521f47a8
+1,t,0,0,r,0,fresh
+1,t,0,0,r,1,fresh
+1,t,0,0,r,2,fresh
+1,c,0,0,announced,-
+1,s,0,0,m,0,1,4d020200000000000000000000000000000000000000000000000000000000000000000000000000000000000000000000000000
+1,s,0,0,m,1,1,4d020201000000000000000000000000000000000000000000000000000000000000000000000000000000000000000000000000
+1,s,0,0,m,2,1,4d020202000000000000000000000000000000000000000000000000000000000000000000000000000000000000000000000000
+2,t,0,0,m,0,fresh
+2,t,0,0,m,1,fresh
+2,t,0,0,m,2,fresh
+2,s,0,0,a,0,1,4d02030000000000000000000000000000000000000000000000000000000000000000000000000000000000903df1a0ade0b876
+2,s,0,0,a,1,1,4d02030100000000000000000000000000000000000000000000000000000000000000000000000000000000903df1a0ade0b876
+2,s,0,0,a,2,1,4d02030200000000000000000000000000000000000000000000000000000000000000000000000000000000903df1a0ade0b876
+3,t,0,0,a,0,fresh
+3,t,0,0,a,1,fresh
+3,t,0,0,a,2,fresh
+3,e,0,0,total,60
+end,20
+";
+
+/// The same transcript in version 1.
+pub const OLD_TRANSCRIPT: &str = "meteragg transcript 1
+rounds,1
+windows,1,2
+group,north,3,2
+begin
+0,s,0,0,r,0,1,4d01010000000000000000000000000000000000b0b9d4e209a2296c
+0,s,0,0,r,1,1,4d01010100000000000000000000000000000000903df1a0ade0b88a
+0,s,0,0,r,2,1,4d010102000000000000000000000000000000006fc20e5f521f47a8
+1,t,0,0,r,0,fresh
+1,t,0,0,r,1,fresh
+1,t,0,0,r,2,fresh
+1,c,0,0,announced,-
+1,s,0,0,m,0,1,4d010200000000000000000000000000000000000000000000000000
+1,s,0,0,m,1,1,4d010201000000000000000000000000000000000000000000000000
+1,s,0,0,m,2,1,4d010202000000000000000000000000000000000000000000000000
+2,t,0,0,m,0,fresh
+2,t,0,0,m,1,fresh
+2,t,0,0,m,2,fresh
+2,s,0,0,a,0,1,4d01030000000000000000000000000000000000903df1a0ade0b876
+2,s,0,0,a,1,1,4d01030100000000000000000000000000000000903df1a0ade0b876
+2,s,0,0,a,2,1,4d01030200000000000000000000000000000000903df1a0ade0b876
+3,t,0,0,a,0,fresh
+3,t,0,0,a,1,fresh
+3,t,0,0,a,2,fresh
+3,e,0,0,total,60
+end,20
+";
 
 /// The command.
 pub const RUN: &str = "run plan.csv readings.csv report.csv t.txt";
@@ -62,11 +120,21 @@ pub fn status_of<R: Threads + Wait + Sync, G: Gate>(
     for word in line.split(' ') {
         words.push(String::from_str(alloc, word)?)?;
     }
-    let mut cupboard: Vec<Box<dyn Lane>> = Vec::new(alloc);
-    put_four!(alloc, cupboard, Clear::new());
-    put_four!(alloc, cupboard, Rules::new());
-    put_four!(alloc, cupboard, Seeded::new());
-    put_four!(alloc, cupboard, EveryNth::new());
-    put_four!(alloc, cupboard, Burst::new());
-    Ok(meteragg(rt, alloc, &words, desk, cupboard, gate))
+    Ok(with_lanes(rt, alloc, &words, desk, gate)?)
+}
+
+/// What a desk holds under a name, as text.
+pub fn held<'d>(desk: &'d MemoryDesk, name: &str) -> &'d str {
+    match desk.held(name) {
+        Some(bytes) => str::from_utf8(bytes).unwrap_or("not text"),
+        None => "nothing",
+    }
+}
+
+/// The text with one piece in the place of another, where that stands first.
+pub fn replaced(alloc: Global, text: &str, there: &str, instead: &str) -> Result<String, Fail> {
+    let Some((before, after)) = text.split_once(there) else {
+        return Err(Fail::from("nothing to replace"));
+    };
+    Ok(format!(in alloc; "{before}{instead}{after}")?)
 }

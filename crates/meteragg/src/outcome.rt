@@ -1,5 +1,9 @@
+//! How a command ends.
+
 use link_lanes::RackError;
 use plan_files::FileError;
+use totals_report::ReportRow;
+use transcript_text::ReadError;
 
 /// How a command ends. A name is the word that named the file.
 #[derive(Clone, Copy, Debug)]
@@ -22,6 +26,19 @@ pub enum Outcome<'a> {
     BadPlan(&'a str, FileError),
     /// The readings file has this fault.
     BadReadings(&'a str, FileError),
+    /// The transcript's text has this fault.
+    BadTranscript(&'a str, ReadError),
+    /// The report's text is refused at this line, counted from 1.
+    BadReport(&'a str, u64),
+    /// This line of the transcript, counted from 1, is the first that is not possible.
+    Impossible(&'a str, u64),
+    /// This row of the report, counted from 1, is the first that is not the one that the frames give; both rows, or none
+    /// where a side has ended.
+    OtherRow {
+        at: u32,
+        from_frames: Option<ReportRow>,
+        reported: Option<ReportRow>,
+    },
     /// A lane row of the plan file gets no lane.
     BadLane(RackError),
 }

@@ -1,16 +1,24 @@
-// The program, over any desk.
+//! The program, over any desk.
+
 ghost use Rattle.std.specs.Prelude.{◌≡◌, ◌↔◌, None, ◌≤◌, List, map, string_bytes};
-ghost use Rattle.desk_outside.specs.Desk.{View, Rose};
-ghost use Rattle.meteragg.specs.declared.outcome.Outcome.{Outcome};
+ghost use Rattle.desk_outside.specs.Desk.{Rose};
 ghost use Rattle.meteragg.specs.Words.{command_of};
 ghost use Rattle.meteragg.specs.Ends.{Ends};
 ghost use Rattle.meteragg.specs.Accepted.{AcceptedIsDone};
+ghost use Rattle.meteragg.specs.Audits.{RunsAreConfirmed};
 ghost use Rattle.meteragg.specs.Outcomes.{Tells, status_of, IsFault};
+ghost use Rattle.meteragg.specs.Promise.{EndsAndTells};
 
+use crate::audit::audit;
 use crate::complaints::complaint;
+use crate::convert::convert;
+use crate::desk_calls::say;
+use crate::load::load;
+use crate::make::make;
 use crate::outcome::Outcome;
 use crate::run::run;
-use crate::words::parse;
+use crate::usage::{USAGE, VERSION};
+use crate::words::{Command, parse};
 use collector_workers::Gate;
 use desk_outside::Desk;
 use link_lanes::Lane;
@@ -33,26 +41,32 @@ fn perform<'a, R: Threads + Wait + Sync, D: Desk, G: Gate>(
 {
     match parse(words) {
         None => Outcome::BadWords,
-        Some(words) => run(rt, alloc, words, desk, cupboard, gate),
+        Some(Command::Run(words)) => run(rt, alloc, words, desk, cupboard, gate),
+        Some(Command::Audit(files)) => audit(alloc, files, desk),
+        Some(Command::Make(words)) => make(alloc, words, desk),
+        Some(Command::Load(words)) => load(rt, alloc, words, desk, cupboard, gate),
+        Some(Command::Convert(files)) => convert(alloc, files, desk),
+        Some(Command::Help) => say(USAGE.as_bytes(), desk),
+        Some(Command::Version) => say(VERSION.as_bytes(), desk),
     }
 }
 
 // Complains of what was refused or failed, once at most.
-fn tell<D: Desk>(alloc: Global, outcome: Outcome<'_>, desk: &mut D)
-    ensures ends { Tells outcome.entry (D.view desk.old) (D.view desk.new) }
+fn tell<D: Desk>(alloc: Global, outcome: &Outcome<'_>, desk: &mut D)
+    ensures ends { Tells outcome.now (D.view desk.old) (D.view desk.new) }
     ensures later { D.faults desk.old ≤ D.faults desk.new }
 {
-    if let Outcome::Done = outcome {
+    if let Outcome::Done = *outcome {
         return;
     }
     let Ok(text) = complaint(alloc, outcome) else {
         return;
     };
-    let _ = desk.complain(text.as_bytes());
+    let _ = desk.complain(&text);
 }
 
-fn status(outcome: Outcome<'_>) -> u8
-    ensures { result ≡ status_of outcome.entry }
+fn status(outcome: &Outcome<'_>) -> u8
+    ensures { result ≡ status_of outcome.now }
 {
     match outcome {
         Outcome::Done => 0,
@@ -62,14 +76,16 @@ fn status(outcome: Outcome<'_>) -> u8
         Outcome::CannotWrite(_) | Outcome::CannotPrint => 4,
         Outcome::BadPlan(_, _) => 5,
         Outcome::BadReadings(_, _) => 6,
+        Outcome::BadTranscript(_, _) | Outcome::BadReport(_, _) | Outcome::Impossible(_, _) => 7,
+        Outcome::OtherRow { .. } => 9,
         Outcome::BadLane(_) => 10,
     }
 }
 
 /// Does what the words ask for on the desk, with the lanes of the cupboard, complains where that fails, and answers the
 /// status: 0 done, 1 no memory, 2 bad words, 3 a file that cannot be read or is longer than 2^28 bytes, 4 a file or an
-/// output that cannot be written, 5 a bad plan, 6 bad readings, 10 a lane row that gets no lane.
-#[tactic(auto, using(crate::proofs::AcceptedLemmas::accepted_is_done))]
+/// output that cannot be written, 5 a bad plan, 6 bad readings, 7 a text that is no transcript or no report, or an
+/// impossible line, 9 a report that is not what the frames give, 10 a lane row that gets no lane.
 pub fn meteragg<R: Threads + Wait + Sync, D: Desk, G: Gate>(
     rt: &R,
     alloc: Global,
@@ -78,15 +94,13 @@ pub fn meteragg<R: Threads + Wait + Sync, D: Desk, G: Gate>(
     cupboard: Vec<Box<dyn Lane>>,
     gate: &G,
 ) -> u8
-    ensures ends { (outcome : Outcome) × (middle : View)
-        × Ends (map (λ b. meaning b) cupboard.items) (command_of (map string_bytes words.now)) (D.view desk.old) middle outcome
-        × Tells outcome middle (D.view desk.new)
-        × (IsFault outcome → Rose (D.faults desk.old) (D.faults desk.new))
-        × (result ≡ status_of outcome) }
+    ensures ends { EndsAndTells (map (λ b. meaning b) cupboard.items) (command_of (map string_bytes words.now)) (D.view desk.old) (D.view desk.new) (D.faults desk.old) (D.faults desk.new) result }
     ensures accepted { AcceptedIsDone (map (λ b. meaning b) cupboard.items) (command_of (map string_bytes words.now)) (D.view desk.old) (D.faults desk.old) (D.faults desk.new) result }
+    // The audit finds no fault in what a run stores.
+    ensures confirmed { RunsAreConfirmed }
     ensures words { (result ≡ 2) ↔ (command_of (map string_bytes words.now) ≡ None) }
 {
     let outcome = perform(rt, alloc, words, desk, cupboard, gate);
-    tell(alloc, outcome, desk);
-    status(outcome)
+    tell(alloc, &outcome, desk);
+    status(&outcome)
 }

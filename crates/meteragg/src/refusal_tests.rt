@@ -1,3 +1,5 @@
+//! Refusals, failing calls of the desk, and words, with their statuses and complaints.
+
 use crate::fixtures::{HEAD, NORTH, READINGS, RUN, desk_of, status_of};
 use collector_workers::Free;
 use desk_outside::MemoryDesk;

@@ -1,6 +1,8 @@
-use crate::fixtures::{HEAD, NORTH, READINGS, RUN, desk_of, status_of};
+//! Worked runs, with their reports, summaries and transcripts, and what their workers do.
+
+use crate::fixtures::{HEAD, NORTH, READINGS, RUN, TRANSCRIPT, desk_of, held, status_of};
 use collector_workers::{Free, Gate};
-use desk_outside::{DeskKind, MemoryDesk};
+use desk_outside::DeskKind;
 use std::alloc::Global;
 use std::process::Abort;
 use std::sync::Wait;
@@ -10,43 +12,6 @@ use std::thread::Threads;
 
 const HEADING: &str = "group,round,survivors,missing,outcome,total\n";
 
-// The lines of the transcript of three meters, in whose ticks the Takes may stand in any order.
-const LINES: &str = "meteragg transcript 2
-rounds,1
-windows,1,2
-group,north,3,2
-begin
-0,s,0,0,r,0,1,4d02010000000000000000000000000000000000000000000000000000000000000000000000000000000000b0b9d4e209a2296c
-0,s,0,0,r,1,1,4d02010100000000000000000000000000000000000000000000000000000000000000000000000000000000903df1a0ade0b88a
-0,s,0,0,r,2,1,4d020102000000000000000000000000000000000000000000000000000000000000000000000000000000006fc20e5f521f47a8
-1,t,0,0,r,0,fresh
-1,t,0,0,r,1,fresh
-1,t,0,0,r,2,fresh
-1,c,0,0,announced,-
-1,s,0,0,m,0,1,4d020200000000000000000000000000000000000000000000000000000000000000000000000000000000000000000000000000
-1,s,0,0,m,1,1,4d020201000000000000000000000000000000000000000000000000000000000000000000000000000000000000000000000000
-1,s,0,0,m,2,1,4d020202000000000000000000000000000000000000000000000000000000000000000000000000000000000000000000000000
-2,t,0,0,m,0,fresh
-2,t,0,0,m,1,fresh
-2,t,0,0,m,2,fresh
-2,s,0,0,a,0,1,4d02030000000000000000000000000000000000000000000000000000000000000000000000000000000000903df1a0ade0b876
-2,s,0,0,a,1,1,4d02030100000000000000000000000000000000000000000000000000000000000000000000000000000000903df1a0ade0b876
-2,s,0,0,a,2,1,4d02030200000000000000000000000000000000000000000000000000000000000000000000000000000000903df1a0ade0b876
-3,t,0,0,a,0,fresh
-3,t,0,0,a,1,fresh
-3,t,0,0,a,2,fresh
-3,e,0,0,total,60
-end,20
-";
-
-// What a desk holds under a name, as text.
-fn held<'d>(desk: &'d MemoryDesk, name: &str) -> &'d str {
-    match desk.held(name) {
-        Some(bytes) => str::from_utf8(bytes).unwrap_or("not text"),
-        None => "nothing",
-    }
-}
-
 #[test]
 fn three_meters_total_60(rt: HostRuntime) -> Result<(), Fail> {
     let alloc = rt.alloc();
@@ -54,8 +19,8 @@ fn three_meters_total_60(rt: HostRuntime) -> Result<(), Fail> {
     let mut desk = desk_of(alloc, &rows, READINGS, Vec::new(alloc))?;
     assert_eq!(rt; status_of(&rt, alloc, RUN, &mut desk, &Free)?, 0);
     let text = held(&desk, "t.txt");
-    assert_eq!(rt; text.len(), LINES.len());
-    for line in LINES.split('\n') {
+    assert_eq!(rt; text.len(), TRANSCRIPT.len());
+    for line in TRANSCRIPT.split('\n') {
         assert!(rt; text.contains(line), "no line {line}");
     }
     assert_eq!(rt; desk.complained(), b"".as_slice());
@@ -295,7 +260,7 @@ fn greatest_readings(rt: HostRuntime) -> Result<(), Fail> {
 
 // Holds workers 1 and 2 at their first calls until both have come, for a bounded number of turns.
 #[derive(Drop)]
-struct Meeting {
+pub struct Meeting {
     came: [AtomicU64; 2],
     late: AtomicU64,
 }
@@ -322,19 +287,58 @@ impl Gate for Meeting {
     }
 }
 
+impl Meeting {
+    /// Nobody has come.
+    pub fn new() -> Meeting {
+        Meeting {
+            came: [AtomicU64::new(0), AtomicU64::new(0)],
+            late: AtomicU64::new(0),
+        }
+    }
+
+    /// Whether both came, and neither waited in vain.
+    pub fn has_met(&self) -> bool {
+        self.came[0].load(Ordering::SeqCst) > 0
+            && self.came[1].load(Ordering::SeqCst) > 0
+            && self.late.load(Ordering::SeqCst) == 0
+    }
+}
+
 #[test]
 fn run_commits_cross(rt: HostRuntime) -> Result<(), Fail> {
     let alloc = rt.alloc();
-    let gate = Meeting {
-        came: [AtomicU64::new(0), AtomicU64::new(0)],
-        late: AtomicU64::new(0),
-    };
+    let gate = Meeting::new();
     let rows = format!(in alloc; "{HEAD}{NORTH}")?;
     let words = format!(in alloc; "{RUN} 2")?;
     let mut desk = desk_of(alloc, &rows, READINGS, Vec::new(alloc))?;
     assert_eq!(rt; status_of(&rt, alloc, &words, &mut desk, &gate)?, 0);
-    assert!(rt; gate.came[0].load(Ordering::SeqCst) > 0);
-    assert!(rt; gate.came[1].load(Ordering::SeqCst) > 0);
-    assert_eq!(rt; gate.late.load(Ordering::SeqCst), 0);
+    assert!(rt; gate.has_met());
+    Ok(())
+}
+
+// Keeps the greatest number of a worker that came.
+#[derive(Drop)]
+struct Greatest {
+    worker: AtomicU64,
+}
+
+impl Gate for Greatest {
+    fn at(&self, worker: u32) {
+        self.worker.fetch_max(u64::from(worker), Ordering::SeqCst);
+    }
+}
+
+// A run with one worker has no second one, whatever a run has where no number is given.
+#[test]
+fn one_worker_works_alone(rt: HostRuntime) -> Result<(), Fail> {
+    let alloc = rt.alloc();
+    let gate = Greatest {
+        worker: AtomicU64::new(0),
+    };
+    let rows = format!(in alloc; "{HEAD}{NORTH}")?;
+    let words = format!(in alloc; "{RUN} 1")?;
+    let mut desk = desk_of(alloc, &rows, READINGS, Vec::new(alloc))?;
+    assert_eq!(rt; status_of(&rt, alloc, &words, &mut desk, &gate)?, 0);
+    assert_eq!(rt; gate.worker.load(Ordering::SeqCst), 1);
     Ok(())
 }

@@ -1,4 +1,5 @@
-// What `run` makes of the bytes of its two files.
+//! What `run` makes of the bytes of its two files.
+
 ghost use Rattle.std.specs.Prelude.{◌≤◌, ◌^◌, length, map, IfOk};
 ghost use Rattle.meteragg.specs.RunTexts.{TextsEnd, AreTextsOf, texts_of};
 

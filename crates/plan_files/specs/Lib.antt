@@ -1,3 +1,4 @@
+pub mod AcceptedFiles
 pub mod Faults
 pub mod Filling
 pub mod Gathering
@@ -8,3 +9,5 @@ pub mod PlanForms
 pub mod PlanRows
 pub mod Readings
 pub mod Rows
+pub mod SpelledFiles
+pub mod Spelling

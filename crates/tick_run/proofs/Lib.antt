@@ -25,3 +25,4 @@ pub mod FinishLemmas
 pub mod RangeLemmas
 pub mod MeterLemmas
 pub mod MetersLemmas
+pub mod RowsOf

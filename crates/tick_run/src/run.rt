@@ -2,7 +2,7 @@
 
 ghost use Rattle.std.specs.Prelude.{◌≡◌, ◌+◌, ◌≤◌, List, [], IfOk};
 ghost use Rattle.group_plan.specs.Plans.{last_tick, IsWithinLimits};
-ghost use Rattle.group_plan.specs.Tables.{IsReadingTable};
+ghost use Rattle.group_plan.specs.Tables.{IsPresenceTable, IsReadingTable};
 ghost use Rattle.link_lanes.specs.Lanes.{Slot};
 ghost use Rattle.link_lanes.specs.Racks.{slots, posts_of, HasRoom};
 ghost use Rattle.mask_stream.specs.ChaMaskTables.{plan_of, words_of};
@@ -12,7 +12,7 @@ ghost use Rattle.transcript_log.specs.Journal.{IsJournalAfter};
 ghost use Rattle.group_book.specs.Books.{shape_of};
 ghost use Rattle.tick_run.specs.Running.{IsRunning, starting};
 ghost use Rattle.tick_run.specs.Sending.{KeptFates};
-ghost use Rattle.tick_run.specs.Finished.{IsFinished};
+ghost use Rattle.tick_run.specs.Finished.{IsFinished, HasRowsOf};
 ghost use Rattle.tick_run.specs.Meters.{AreMeters};
 
 use crate::RunError;
@@ -83,6 +83,13 @@ fn readings_are_limited(readings: &Readings)
     let _rounds = readings.plan().rounds();
 }
 
+/// Learns that only members have a reading.
+fn presence_is_of_members(presence: &Presence)
+    ensures { IsPresenceTable presence.now.plan presence.now.table }
+{
+    let _plan = presence.plan();
+}
+
 /// Runs a plan by ticks, from the first to the last: its readings are sent and taken, its rounds are closed, answered and
 /// ended. Frames are hidden under the stream words of the keys, and go through the lanes of the rack.
 pub fn run_plan<R: Threads + Wait + Sync, G: Gate>(
@@ -103,10 +110,12 @@ pub fn run_plan<R: Threads + Wait + Sync, G: Gate>(
     requires most { workers ≤ 16 }
     ensures finished { IfOk result (λ f. IsFinished readings.now (table_of keys.now) (slots (λ b. meaning (b.vtable, b.value)) rack.old) f.book f.transcript) }
     ensures posts { IfOk result (λ f. posts_of rack.new ≡ posts_of_entries f.transcript.entries) }
+    ensures report { IfOk result (λ f. HasRowsOf f.transcript.entries f.book) }
 {
     readings_are_limited(readings);
     let masks = ChaMasks::new(keys);
     let presence = Presence::of(alloc, readings)?;
+    presence_is_of_members(&presence);
     let run = Running {
         book: Book::new(alloc, plan, &presence)?,
         transcript: Transcript::empty(alloc, plan)?,

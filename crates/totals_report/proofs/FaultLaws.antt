@@ -1,7 +1,7 @@
 -- The first faulty line of a text.
-use Rattle.std.proofs.Common.{◌≡◌, ◌≢◌, ◌<◌, ◌+◌, ◌==◌, ℕ, Bool, true, false, cond, List, [], ◌∷◌, ◌++◌, length, length-append, refl, sym, ap, ◌∙◌, arith, Option, Some, None, Result, Ok, Err, append_assoc, inl, inr, subst}
+use Rattle.std.proofs.Common.{◌≡◌, ◌≢◌, ◌<◌, ◌+◌, ℕ, true, false, List, [], ◌∷◌, ◌++◌, length, length-append, refl, sym, ap, ◌∙◌, arith, Option, Some, None, Result, Ok, Err, append_assoc, inl, inr, subst}
 use Rattle.std.specs.Prelude.{bytes_eq}
-use Rattle.std.specs.List.{join_with_byte, onto_first}
+use Rattle.std.specs.List.{join_with_byte}
 use Rattle.std.proofs.lemmas.List.Elements.{All-cons, All-nil}
 use Rattle.std.proofs.lemmas.Slice.Eq.{bytes_eq-Decides}
 use Rattle.field_texts.specs.Parts.{parts}
@@ -18,20 +18,7 @@ use Rattle.totals_report.proofs.RowLaws.{line_clean, line_fields, row_again, row
 use Rattle.totals_report.proofs.ReportLaws.{lines_cons, report_back}
 use Rattle.field_texts.proofs.Choices.{pick}
 use Rattle.field_texts.proofs.TextLaws.{AllClean, clean, joined_parts, parts_at, parts_clean}
-
--- ---- the parts of a text have no mark
-
-clean_first : (mark c : ℕ) (texts : List (List ℕ)) → (c == mark) ≡ false → AllClean mark texts → AllClean mark (onto_first c texts)
-clean_first mark c [] other h = ((let t : clean mark (c ∷ []) ≡ true = rw other refl in t), tt)
-clean_first mark c (text ∷ texts) other h = ((let t : clean mark (c ∷ text) ≡ true = rw (other, h.0) refl in t), h.1)
-
-pub parts_are_clean : (mark : ℕ) (text : List ℕ) → AllClean mark (parts mark text)
-parts_are_clean mark [] = (refl, tt)
-parts_are_clean mark (c ∷ cs) = by_test (c == mark) refl (parts_are_clean mark cs)
-  where
-    by_test : (b : Bool) → (c == mark) ≡ b → AllClean mark (parts mark cs) → AllClean mark (cond b ([] ∷ parts mark cs) (onto_first c (parts mark cs)))
-    by_test true e h = (refl, h)
-    by_test false e h = clean_first mark c (parts mark cs) e h
+use Rattle.transcript_text.proofs.WholeLines.{parts_are_clean}
 
 -- ---- what does not begin with a row
 

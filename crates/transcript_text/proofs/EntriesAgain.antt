@@ -21,7 +21,7 @@ use Rattle.transcript_text.proofs.LineAgain.{row_again}
 use Rattle.transcript_text.proofs.CleanFields.{clean_fields, comma, newline}
 use Rattle.transcript_text.proofs.EntriesBack.{Follow, text_cons}
 
-cut_entry : (version : Version) (e : Entry) (rest : List ℕ) → AllClean 44 (fields_of version e) → AllClean 10 (fields_of version e)
+pub cut_entry : (version : Version) (e : Entry) (rest : List ℕ) → AllClean 44 (fields_of version e) → AllClean 10 (fields_of version e)
     → (parts 10 (entry_text version e ++ 10 ∷ rest) ≡ entry_text version e ∷ parts 10 rest) × (parts 44 (entry_text version e) ≡ fields_of version e)
 unfolding entry_text
 cut_entry version e rest a b = (parts_at 10 (entry_text version e) rest (clean_joined 10 44 (fields_of version e) refl b), parts_joined 44 _ _ a)
@@ -30,7 +30,7 @@ last_row : (version : Version) (plan : PlanView) (last k : ℕ) → k < 2 ^ 64 �
 unfolding row_of
 last_row version plan last k b = let n = number_again k b in rw n refl
 
-last_again : (version : Version) (plan : PlanView) (n last count : ℕ) → count < 2 ^ 64 → entries_from version plan n last count (parts 10 (ended (codes "end," ++ decimal count))) ≡ Ok []
+pub last_again : (version : Version) (plan : PlanView) (n last count : ℕ) → count < 2 ^ 64 → entries_from version plan n last count (parts 10 (ended (codes "end," ++ decimal count))) ≡ Ok []
 last_again version plan n last count b =
     let line : List ℕ = codes "end," ++ decimal count in
     let whole : clean 10 line ≡ true = clean_append 10 (codes "end,") (decimal count) refl (clean_decimal 10 count (omega arith) b) in

@@ -29,21 +29,21 @@ use Rattle.transcript_text.proofs.SpanAgain.{meters_stated, plan_again, stated_f
 -- ---- lines and their fields
 
 -- a line is cut off, and into its fields
-record Cut (line : List ℕ) (fs : List (List ℕ)) : Type 0 where
-  cut : (rest : List ℕ) → parts 10 (ended line ++ rest) ≡ line ∷ parts 10 rest
+pub record Cut (line : List ℕ) (fs : List (List ℕ)) : Type 0 where
+  pub cut : (rest : List ℕ) → parts 10 (ended line ++ rest) ≡ line ∷ parts 10 rest
   fields : parts 44 line ≡ fs
 
-cut_line : (line rest : List ℕ) → clean 10 line ≡ true → parts 10 (ended line ++ rest) ≡ line ∷ parts 10 rest
+pub cut_line : (line rest : List ℕ) → clean 10 line ≡ true → parts 10 (ended line ++ rest) ≡ line ∷ parts 10 rest
 cut_line line rest c = ap (parts 10) (append_assoc line (10 ∷ []) rest) ∙ parts_at 10 line rest c
 
 cut_fields : (f : List ℕ) (fs : List (List ℕ)) → AllClean 44 (f ∷ fs) → AllClean 10 (f ∷ fs) → Cut (joined (f ∷ fs)) (f ∷ fs)
 cut_fields f fs a b = record { cut = λ rest. cut_line (joined (f ∷ fs)) rest (clean_joined 10 44 (f ∷ fs) refl b); fields = parts_joined 44 f fs a }
 
-cut_title : (version : Version) → Cut (title version) (title version ∷ [])
+pub cut_title : (version : Version) → Cut (title version) (title version ∷ [])
 cut_title One = cut_fields (title One) [] (refl, tt) (refl, tt)
 cut_title Two = cut_fields (title Two) [] (refl, tt) (refl, tt)
 
-cut_begin : Cut (codes "begin") (codes "begin" ∷ [])
+pub cut_begin : Cut (codes "begin") (codes "begin" ∷ [])
 cut_begin = cut_fields (codes "begin") [] (refl, tt) (refl, tt)
 
 number_clean : (stop n : ℕ) → stop < 48 → n < 2 ^ 32 → clean stop (decimal n) ≡ true
@@ -62,22 +62,22 @@ name_clean stop (c ∷ cs) s h =
         absurd (let o : true ≡ false = sym is ∙ ap is_name_byte same ∙ s in cc)
     by_byte false e is rest = rw e rest
 
-cut_rounds : (rounds : ℕ) → rounds < 2 ^ 32 → Cut (joined (rounds_fields rounds)) (rounds_fields rounds)
+pub cut_rounds : (rounds : ℕ) → rounds < 2 ^ 32 → Cut (joined (rounds_fields rounds)) (rounds_fields rounds)
 cut_rounds rounds b =
     cut_fields (codes "rounds") (decimal rounds ∷ []) (refl, (number_clean 44 rounds (omega arith) b, tt)) (refl, (number_clean 10 rounds (omega arith) b, tt))
 
-cut_windows : (w1 w2 : ℕ) → w1 < 2 ^ 32 → w2 < 2 ^ 32 → Cut (joined (windows_fields w1 w2)) (windows_fields w1 w2)
+pub cut_windows : (w1 w2 : ℕ) → w1 < 2 ^ 32 → w2 < 2 ^ 32 → Cut (joined (windows_fields w1 w2)) (windows_fields w1 w2)
 cut_windows w1 w2 a b =
     cut_fields (codes "windows") (decimal w1 ∷ decimal w2 ∷ []) (refl, (number_clean 44 w1 (omega arith) a, (number_clean 44 w2 (omega arith) b, tt)))
     (refl, (number_clean 10 w1 (omega arith) a, (number_clean 10 w2 (omega arith) b, tt)))
 
 -- a group's name is one, and its numbers are small
-record IsHeadGroup (g : GroupPlan) : Type 0 where
+pub record IsHeadGroup (g : GroupPlan) : Type 0 where
   name : is_name g.name ≡ true
   meters : g.meters < 2 ^ 32
   floor : g.floor < 2 ^ 32
 
-cut_group : (g : GroupPlan) → IsHeadGroup g → Cut (joined (group_fields g)) (group_fields g)
+pub cut_group : (g : GroupPlan) → IsHeadGroup g → Cut (joined (group_fields g)) (group_fields g)
 cut_group g is =
     let letters = test_of (nat_le 1 (length g.name) && nat_le (length g.name) 16) (list_all is_name_byte g.name) is.name in
     let each : (stop : ℕ) → stop < 48 → is_name_byte stop ≡ false → clean stop (codes "group") ≡ true → AllClean stop (group_fields g) =
@@ -85,13 +85,13 @@ cut_group g is =
     cut_fields (codes "group") (g.name ∷ decimal g.meters ∷ decimal g.floor ∷ []) (each 44 (omega arith) refl refl) (each 10 (omega arith) refl refl)
 
 -- a span's numbers are small
-record IsHeadSpan (s : Span) : Type 0 where
+pub record IsHeadSpan (s : Span) : Type 0 where
   group : s.group < 2 ^ 32
   meter : s.meter < 2 ^ 32
   from : s.from < 2 ^ 32
   until : s.until < 2 ^ 32
 
-cut_member : (s : Span) → IsHeadSpan s → Cut (joined (member_fields s)) (member_fields s)
+pub cut_member : (s : Span) → IsHeadSpan s → Cut (joined (member_fields s)) (member_fields s)
 cut_member s is =
     let each : (stop : ℕ) → stop < 48 → clean stop (codes "member") ≡ true → AllClean stop (member_fields s) =
     λ stop b w. (w, (number_clean stop s.group b is.group, (number_clean stop s.meter b is.meter, (number_clean stop s.from b is.from, (number_clean stop s.until b is.until, tt))))) in
@@ -160,7 +160,7 @@ start_again version plan limits rest =
 
 -- ---- groups
 
-abbrev AreHeadGroups : List GroupPlan → Type 0
+abbrev pub AreHeadGroups : List GroupPlan → Type 0
 AreHeadGroups [] = Unit {0}
 AreHeadGroups (g ∷ gs) = IsHeadGroup g × AreHeadGroups gs
 
@@ -179,7 +179,7 @@ groups_again version start n groups (g ∷ gs) are rest =
 
 -- ---- spans
 
-abbrev AreHeadSpans : List Span → Type 0
+abbrev pub AreHeadSpans : List Span → Type 0
 AreHeadSpans [] = Unit {0}
 AreHeadSpans (s ∷ ss) = IsHeadSpan s × AreHeadSpans ss
 
@@ -223,7 +223,7 @@ members_again Two start n groups more none fit are rest = spans_again start n No
 
 -- ---- a plan's groups and spans
 
-groups_fit : (groups : List Group) → ((g : ℕ) → g < length groups → is_name (name_of groups g) ≡ true) → ((g : ℕ) → size groups g ≤ 256) → ((g : ℕ) → floor_of groups g ≤ size groups g)
+pub groups_fit : (groups : List Group) → ((g : ℕ) → g < length groups → is_name (name_of groups g) ≡ true) → ((g : ℕ) → size groups g ≤ 256) → ((g : ℕ) → floor_of groups g ≤ size groups g)
     → AreHeadGroups (map stated groups)
 groups_fit [] names meters floors = tt
 groups_fit (x ∷ xs) names meters floors =
@@ -233,7 +233,7 @@ groups_fit (x ∷ xs) names meters floors =
       groups_fit xs (λ g lt. names (suc g) (omega (arith, lt))) (λ g. meters (suc g)) (λ g. floors (suc g)),
     )
 
-spans_fit : (plan : PlanView) → IsWithinLimits plan → (last : Option Span) (ss : List Span) → AreStated plan.rounds (map stated plan.groups) last ss → AreHeadSpans ss
+pub spans_fit : (plan : PlanView) → IsWithinLimits plan → (last : Option Span) (ss : List Span) → AreStated plan.rounds (map stated plan.groups) last ss → AreHeadSpans ss
 spans_fit plan limits last [] fit = tt
 spans_fit plan limits last (s ∷ ss) fit =
     let f = fitting plan.rounds (map stated plan.groups) last s fit.0 in
@@ -266,7 +266,7 @@ plan_is version plan n is has =
 
 -- ---- the head
 
-head_flat : (x y z groups members begin rest : List ℕ) → (((x ++ y ++ z) ++ groups ++ members) ++ begin) ++ rest ≡ x ++ (y ++ (z ++ (groups ++ (members ++ (begin ++ rest)))))
+pub head_flat : (x y z groups members begin rest : List ℕ) → (((x ++ y ++ z) ++ groups ++ members) ++ begin) ++ rest ≡ x ++ (y ++ (z ++ (groups ++ (members ++ (begin ++ rest)))))
 head_flat x y z groups members begin rest =
     append_assoc ((x ++ y ++ z) ++ groups ++ members) begin rest
     ∙ append_assoc ((x ++ y ++ z) ++ groups) members (begin ++ rest)

@@ -21,7 +21,7 @@ use Rattle.transcript_text.proofs.HeadBack.{group_back, member_back}
 
 -- ---- the first three lines
 
-opens : {A : Type 0} (n : ℕ) (read : List (List ℕ) → Result A ReadError) (line : List ℕ) (next : List (List ℕ)) → 0 < length next → next_line n read (line ∷ next) ≡ with_rest next (read (parts 44 line))
+pub opens : {A : Type 0} (n : ℕ) (read : List (List ℕ) → Result A ReadError) (line : List ℕ) (next : List (List ℕ)) → 0 < length next → next_line n read (line ∷ next) ≡ with_rest next (read (parts 44 line))
 opens n read line [] some = absurd (omega arith)
 opens n read line (x ∷ xs) some = refl
 
@@ -61,7 +61,7 @@ module _ (version : Version) (bytes line1 rest1 : List ℕ) (cut1 : parts 10 byt
 
 -- ---- the lines after them
 
-head_opens : (version : Version) (start : Start) (n : ℕ) (last : Option Span) (groups : List GroupPlan) (spans : List Span) (line : List ℕ) (next : List (List ℕ)) → 0 < length next
+pub head_opens : (version : Version) (start : Start) (n : ℕ) (last : Option Span) (groups : List GroupPlan) (spans : List Span) (line : List ℕ) (next : List (List ℕ)) → 0 < length next
     → head_from version start n last groups spans (line ∷ next)
     ≡ after_head_row version start n last groups spans next (λ l gs ss. head_from version start (n + 1) l gs ss next) (head_row version n start.rounds groups last (parts 44 line))
 unfolding head_from

@@ -4,12 +4,14 @@ use Rattle.std.specs.Prelude.{codes, IsTrue, slice_get}
 use Rattle.std.specs.Str.{bytes_eq}
 use Rattle.std.specs.List.{join_with_byte, range_with_len}
 use Rattle.std.proofs.lemmas.Bool.Decides.{nat_tests}
+use Rattle.std.proofs.lemmas.List.Elements.{All-cons, All-nil}
 use Rattle.std.proofs.lemmas.List.FromFn.{length-map-range_with_len}
 use Rattle.group_plan.specs.declared.plan.GroupPlan.{GroupPlan}
 use Rattle.group_plan.specs.declared.plan.PlanError.{PlanError}
 use Rattle.group_plan.specs.declared.plan.members.Span.{Span}
 use Rattle.group_plan.specs.Plans.{Group, PlanView, floor_of, floor_or, name_of, name_or, size, size_or}
-use Rattle.group_plan.specs.NewPlans.{first_fault, plan_of, stated}
+use Rattle.group_plan.specs.Names.{is_name}
+use Rattle.group_plan.specs.NewPlans.{AreNamed, first_fault, plan_of, stated}
 use Rattle.group_plan.specs.Spans.{group_with, rounds_given, with_spans}
 use Rattle.group_plan.proofs.Groups.{stated-group_of}
 use Rattle.transcript_text.specs.declared.version.Version.{Version}
@@ -24,10 +26,12 @@ use Rattle.transcript_text.specs.Parts.{at}
 use Rattle.transcript_text.specs.Spelling.{ended, group_fields, groups_text, head_text, joined, member_fields, members_text, rounds_fields, start_text, stated_spans, title, windows_fields}
 use Rattle.transcript_text.specs.Heads.{AreStated, HeadRead, after_head_row, at_begin, has_version, head_from, head_number, head_of, head_row, is_two, next_line, plan_at, rounds_of, span_fits, start_of, title_of, two_numbers, unless_fault, windows_of, with_rest}
 use Rattle.transcript_text.specs.ReadBack.{HasHead}
+use Rattle.transcript_text.specs.Transcripts.{IsPlan}
 use Rattle.field_texts.proofs.Choices.{is_word, pick}
 use Rattle.transcript_text.proofs.Choices.{bind_ok, long_of, spell_one, spell_three, spell_two, test_of}
 use Rattle.field_texts.proofs.TextLaws.{joined_parts}
 use Rattle.transcript_text.proofs.HeadBack.{begin_back, group_back, member_back, number_back}
+use Rattle.transcript_text.proofs.PlanIs.{plan_is}
 use Rattle.transcript_text.proofs.SpanWalk.{spans_stated}
 
 -- ---- the first three lines
@@ -115,6 +119,7 @@ record HeadRest (version : Version) (start : Start) (last : Option Span) (groups
   no_group : (s : Span) → last ≡ Some s → more_groups ≡ []
   stated : AreStated start.rounds (groups ++ more_groups) last more_spans
   no_span : is_two version ≡ false → more_spans ≡ []
+  named : AreNamed more_groups
 
 begin_is : (n : ℕ) (rest : List (List ℕ)) (r : Result PlanView ReadError) (h : HeadRead) → at_begin n rest r ≡ Ok h → (r ≡ Ok h.plan) × (rest ≡ h.rest)
 begin_is n rest (Ok plan) h e = let same : record { plan = plan; line = n + 1; rest = rest } ≡ h = cc in (ap (λ (x : HeadRead). Ok x.plan) same, ap (λ (x : HeadRead). x.rest) same)
@@ -148,6 +153,7 @@ head_back version start n last groups spans (line ∷ next ∷ more) h is =
           no_group = λ s e. absurd (let none = b.first in let o : None ≡ Some s = sym none ∙ e in cc);
           stated = subst (λ gs. AreStated start.rounds gs last rest.more_spans) all rest.stated;
           no_span = rest.no_span;
+          named = All-cons (λ x. IsTrue (is_name x.name)) g rest.more_groups b.name rest.named;
         }
     by_row (Ok (row.Member s)) r is ih =
         let b = member_back version n start.rounds groups last (parts 44 line) s r in
@@ -167,6 +173,7 @@ head_back version start n last groups spans (line ∷ next ∷ more) h is =
           no_group = λ t e. refl;
           stated = (subst (λ gs. IsTrue (span_fits start.rounds gs last s)) (sym (append-nil groups)) b.fits, subst (λ gs. AreStated start.rounds gs (Some s) rest.more_spans) same rest.stated);
           no_span = λ no. absurd (let two = b.version_2 in let o : false ≡ true = sym no ∙ two in cc);
+          named = All-nil (λ x. IsTrue (is_name x.name));
         }
     by_row (Ok row.Begin) r is ih =
         let b = begin_back version n start.rounds groups last (parts 44 line) r in
@@ -181,6 +188,7 @@ head_back version start n last groups spans (line ∷ next ∷ more) h is =
           no_group = λ t e. refl;
           stated = tt;
           no_span = λ no. refl;
+          named = All-nil (λ x. IsTrue (is_name x.name));
         }
     by_row (Err f) r is ih = absurd cc
 
@@ -244,6 +252,7 @@ head_has Two plan few none = tt
 pub record IsHeadRead (version : Version) (ps : List (List ℕ)) (h : HeadRead) : Type 0 where
   pub text : join_with_byte 10 ps ≡ head_text version h.plan ++ join_with_byte 10 h.rest
   pub has : HasHead version h.plan
+  pub plan : IsPlan h.plan
 
 pub head_is : (version : Version) (ps : List (List ℕ)) (h : HeadRead) → head_of version ps ≡ Ok h → IsHeadRead version ps h
 unfolding head_of head_text
@@ -270,4 +279,5 @@ head_is version ps h is =
     record {
       text = text ∙ ap (λ (plan : PlanView). (start_text version plan ++ groups_text (map stated plan.groups) ++ members_text (stated_spans plan) ++ tail) ++ last) (sym p.made);
       has = subst (λ (plan : PlanView). HasHead version plan) (sym p.made) has;
+      plan = subst IsPlan (sym p.made) (plan_is groups start.rounds start.w1 start.w2 spans p.sound rest.named rest.stated gs);
     }

@@ -18,6 +18,7 @@ mod FrameTexts
 mod EntryBack
 mod EntriesBack
 mod SpanWalk
+mod PlanIs
 mod HeadText
 mod ReadLemmas
 mod EntryAgain
@@ -27,4 +28,10 @@ mod CleanFields
 mod EntriesAgain
 mod SpanAgain
 mod HeadAgain
-mod ReadAgain
+pub mod ReadAgain
+pub mod WholeLines
+mod Located
+mod EntryFaults
+mod HeadFaults
+mod FirstFaults
+mod LineNumbers

@@ -23,7 +23,7 @@ steps : (version : Version) (bytes : List ℕ) (h : HeadRead) (es : List Entry) 
 unfolding read_of
 steps version bytes h es a b = rw a (rw b refl)
 
-read_again : (version : Version) (t : TranscriptView) → HasText version t → length t.entries < 2 ^ 64 → read_of version (text_of version t) ≡ Ok t
+pub read_again : (version : Version) (t : TranscriptView) → HasText version t → length t.entries < 2 ^ 64 → read_of version (text_of version t) ≡ Ok t
 unfolding text_of
 read_again version t is few =
     let plan = is.transcript.plan in

@@ -5,3 +5,5 @@ pub mod Parts
 pub mod Reading
 pub mod Heads
 pub mod ReadBack
+pub mod Faults
+pub mod EntryLines

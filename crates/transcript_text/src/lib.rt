@@ -2,6 +2,7 @@
 #![tactic(auto)]
 
 mod cut;
+mod entry_lines;
 mod fault;
 mod fields;
 mod head;
@@ -15,6 +16,7 @@ mod version;
 mod writer;
 mod writing;
 
+pub use entry_lines::entry_line;
 pub use fault::ReadError;
 pub use reader::{read, read_old};
 pub use round_members::members;

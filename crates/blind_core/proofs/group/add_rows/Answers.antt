@@ -6,8 +6,8 @@ pub loop-low-init : goal.loop-low-init
 loop-low-init g c =
     rows_begin _ _ _ _ _ _ _ (c.into_iter-low-iterator.ensures.into_iter_gives ∙ c.members-low-items.ensures.members) c.members-low-items.ensures.set c.requires.places c.requires.within
 
-pub take_row-row-requires : goal.take_row-row-requires
-take_row-row-requires g c =
+pub take_row-row-requires-clause-higher : goal.take_row-row-requires-clause-higher
+take_row-row-requires-clause-higher g c =
     rows_ends _ _ _ _ _ _ _ _ _ c.in-Some.low c.next.new.self c.without-higher.result c.loop-low.invariant c.in-Some.ensures.steps c.without-higher.ensures
 
 pub loop-low-preserved : goal.loop-low-preserved

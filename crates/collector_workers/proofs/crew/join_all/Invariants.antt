@@ -1,6 +1,7 @@
-use Rattle.std.proofs.Common.{◌≡◌, ◌+◌, vec_len, All}
+use Rattle.std.proofs.Common.{◌≡◌, ◌+◌, ◌++◌, reverse, vec_len, All}
 use Rattle.shared_book.specs.Ends.{IsPassOf, view}
 use Rattle.shared_book.specs.Turns.{StartsWith}
+use Rattle.collector_workers.specs.Gathering.{numbers_of}
 use Rattle.collector_workers.proofs.crew.join_all.Given as goal
 
 abbrev pub invariant-loop-pass : goal.invariant-loop-pass
@@ -11,6 +12,7 @@ invariant-loop-pass l = record {
   number : (view l.first).number ≡ (view l.fn.first).number;
   made : (view l.first).made ≡ (view l.fn.first).made;
   out : (view l.first).out + vec_len l.fn.passes ≡ (view l.fn.first).out + vec_len l.passes;
+  joined : (view l.first).joined ++ reverse (numbers_of l.passes.items) ≡ (view l.fn.first).joined ++ reverse (numbers_of l.fn.passes.items);
   all : All (IsPassOf l.shared) l.passes.items;
 }
 

@@ -1,5 +1,6 @@
 use Rattle.std.proofs.Common.{◌+◌, refl, ap, subst, sym, ◌∙◌, List, []}
 use Rattle.group_plan.specs.Plans.{last_tick}
+use Rattle.group_plan.specs.Tables.{IsPresenceTable, PresenceView}
 use Rattle.pair_keys.specs.Keys.{table_of}
 use Rattle.mask_stream.specs.ChaMaskTables.{words_of}
 use Rattle.lossy_link.specs.Arrivals.{Arrival}
@@ -7,6 +8,7 @@ use Rattle.transcript_text.specs.Transcripts.{TranscriptView, no_entries}
 use Rattle.tick_run.specs.Running.{IsRunning, starting}
 use Rattle.tick_run.proofs.StateLemmas.{starts}
 use Rattle.tick_run.proofs.FinishLemmas.{finishes, kept-fresh}
+use Rattle.tick_run.proofs.RowsOf.{rows-are}
 use Rattle.tick_run.proofs.run.run_plan.Goals as goal
 
 pub run_ticks-requires-clause-running : goal.run_ticks-requires-clause-running
@@ -24,6 +26,13 @@ returns-clause-finished g c =
     let kept = c.in_ok-book.ensures.fates _ (kept-fresh _ _ _ c.args.plan.now c.in_ok-empty.field-0 c.requires.posts refl c.in_ok-empty.ensures) in
     finishes c.args.readings.now (table_of c.args.keys.now) (words_of c.new-masks.result) _ _ _ (last_tick c.args.readings.now.plan + 1) c.in_ok-book.field-0.book c.in_ok-book.field-0.transcript c.in_ok-book.field-0.link
     c.readings_are_limited.ensures.limits c.readings_are_limited.ensures.table c.new-masks.ensures.words refl c.in_ok-book.ensures.running kept c.lines_are_legal.ensures
+
+pub returns-clause-report : goal.returns-clause-report
+returns-clause-report g c =
+    let finished = returns-clause-finished g c in
+    let p = c.in_ok-presence.ensures in
+    rows-are c.args.readings.now (table_of c.args.keys.now) _ c.in_ok-book.field-0.book c.in_ok-book.field-0.transcript
+    (subst (λ (p : PresenceView). IsPresenceTable p.plan p.table) p c.presence_is_of_members.ensures) finished
 
 pub returns-clause-posts : goal.returns-clause-posts
 returns-clause-posts g c =

@@ -22,10 +22,10 @@ pub collect-requires-clause-ready : goal.collect-requires-clause-ready
 collect-requires-clause-ready g c κs within =
     let ends = c.into_par_iter.ensures in
     let readings = c.args.readings.now in
-    let n : length c.groups.result.now ≡ length readings.plan.groups = ap length (c.groups.ensures.groups ∙ ap (λ p. map stated p.groups) c.plan.ensures.plan) ∙ length-map (readings.plan.groups) stated in
-    let limits : IsWithinLimits readings.plan = subst IsWithinLimits c.plan.ensures.plan c.groups.ensures.limits in
+    let n : length c.groups-groups.result.now ≡ length readings.plan.groups = ap length (c.groups-groups.ensures.groups ∙ ap (λ p. map stated p.groups) c.plan.ensures.plan) ∙ length-map (readings.plan.groups) stated in
+    let limits : IsWithinLimits readings.plan = subst IsWithinLimits c.plan.ensures.plan c.groups-groups.ensures.limits in
     let most : length readings.plan.groups ≤ 256 = limits.groups in
-    let inside = nat_range-All (λ i. CanSend readings c.args.book.now (plan_of c.args.masks.now) c.args.tags.now c.args.tick i) 0 (length c.groups.result.now)
+    let inside = nat_range-All (λ i. CanSend readings c.args.book.now (plan_of c.args.masks.now) c.args.tags.now c.args.tick i) 0 (length c.groups-groups.result.now)
     (λ i low high. record {
       presence = c.requires.presence;
       masks = c.requires.masks;
@@ -33,18 +33,20 @@ collect-requires-clause-ready g c κs within =
       few = omega arith;
       heard = c.requires.heard;
     }) in
-    rw (c.map.ensures.base, c.map.ensures.f, ends.0, ends.1) (λ k d lt. (inside k d lt, λ y p. tt))
+    rw (c.map.ensures.base, c.with_min_len.ensures.base, c.map.ensures.f, ends.0, ends.1) (λ k d lt. (inside k d lt, λ y p. tt))
 
 pub returns : goal.returns
 returns g c =
     let ends = c.into_par_iter.ensures in
+    let start = ap (λ r. r.start) c.with_min_len.ensures.base ∙ ends.0 in
+    let end = ap (λ r. r.end) c.with_min_len.ensures.base ∙ ends.1 in
     let readings = c.args.readings.now in
-    let m = length c.groups.result.now in
+    let m = length c.groups-groups.result.now in
     let whole : m - 0 ≡ m = omega arith in
-    let n : m ≡ length readings.plan.groups = ap length (c.groups.ensures.groups ∙ ap (λ p. map stated p.groups) c.plan.ensures.plan) ∙ length-map (readings.plan.groups) stated in
+    let n : m ≡ length readings.plan.groups = ap length (c.groups-groups.ensures.groups ∙ ap (λ p. map stated p.groups) c.plan.ensures.plan) ∙ length-map (readings.plan.groups) stated in
     IfOk-then c.collect.result _ _ c.collect.ensures (λ v h.
     let chain = rw (c.map.ensures.base, c.map.ensures.f) at h.1 in
-    let places = chain.1 ∙ (λ i. nat_range (ends.0 i) (ends.1 i)) ∙ ap (range_with_len 0) (whole ∙ n) in
+    let places = chain.1 ∙ (λ i. nat_range (start i) (end i)) ∙ ap (range_with_len 0) (whole ∙ n) in
     let P : ℕ → Result (Vec Frame Global) AllocError → Type 0
     = λ k frames. IfOk frames (λ f. f.items ≡ frames_due (run_shape readings) (clock_of readings.plan) (reading readings.table) (words_of c.args.masks.now) (past c.args.book.now) c.args.tags.now c.args.tick k) in
     subst (λ (xs : List ℕ). AllZip P xs v.items) places (subst (λ (ys : List (Result (Vec Frame Global) AllocError)). AllZip P chain.0 ys) (sym h.2) chain.2))

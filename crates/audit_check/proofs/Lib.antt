@@ -1,0 +1,11 @@
+pub mod TellLemmas
+pub mod JournalLemmas
+pub mod PrefixLemmas
+pub mod PossibleLemmas
+pub mod HonestLemmas
+pub mod PresenceLemmas
+pub mod RowLemmas
+pub mod SayLemmas
+pub mod AnswerLemmas
+pub mod TotalLemmas
+pub mod EndLemmas

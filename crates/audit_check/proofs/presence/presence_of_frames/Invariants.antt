@@ -1,0 +1,13 @@
+use Rattle.std.proofs.Common.{◌≤◌, length, drop}
+use Rattle.transcript_log.specs.Events.{lines_of}
+use Rattle.audit_check.specs.Presence.{IsNoted}
+use Rattle.audit_check.proofs.presence.presence_of_frames.Given as goal
+
+abbrev pub invariant-loop-at : goal.invariant-loop-at
+invariant-loop-at l = record {
+  noted : IsNoted l.plan (lines_of (drop l.at l.entries)) l.readings;
+  within : l.at ≤ length l.entries;
+}
+
+abbrev pub decreases-loop-at : goal.decreases-loop-at
+decreases-loop-at l = l.at

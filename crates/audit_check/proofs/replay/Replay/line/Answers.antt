@@ -1,0 +1,25 @@
+use Rattle.std.proofs.Common.{sym, subst}
+use Rattle.group_plan.specs.Plans.{IsWithinLimits}
+use Rattle.group_plan.specs.Tables.{PresenceView, IsPresenceTable}
+use Rattle.group_book.specs.Books.{shape_of}
+use Rattle.group_book.specs.Replay.{IsJournal}
+use Rattle.audit_check.specs.Replays.{Replays}
+use Rattle.audit_check.proofs.AnswerLemmas.{none_replayed, some_replayed}
+use Rattle.audit_check.proofs.replay.Replay.line.Goals as goal
+
+pub returns-in-Some : goal.returns-in-Some
+returns-in-Some c =
+    subst (λ x. Replays c.args.self.now.book c.args.line.now c.answer.result x c.answer.new.self.answered.items) (sym c.answer.ensures.book)
+    (some_replayed c.args.self.now.book c.args.line.now c.in-Some.tag c.say.new.book c.args.self.now.answered.items c.answer.new.self.answered.items c.answer.result
+    (subst IsWithinLimits c.plan.ensures c.rounds-rounds.ensures.limits)
+    (subst (λ (p : PresenceView). IsPresenceTable p.plan p.table) c.presence.ensures c.plan-plan.ensures.table)
+    c.requires.fits c.if-not-say.ensures
+    (subst (IsJournal (shape_of c.say.new.book)) c.journal-lines.ensures.lines c.journal-lines.ensures.journal)
+    c.requires.answered c.in-Some.ensures c.answer.ensures.answered)
+
+pub returns-in-None : goal.returns-in-None
+returns-in-None c =
+    none_replayed c.args.self.now.book c.args.line.now c.say.new.book c.args.self.now.answered.items
+    (subst IsWithinLimits c.plan.ensures c.rounds-rounds.ensures.limits) c.requires.fits c.if-not-say.ensures
+    (subst (IsJournal (shape_of c.say.new.book)) c.journal-lines.ensures.lines c.journal-lines.ensures.journal)
+    c.requires.answered c.in-None.ensures

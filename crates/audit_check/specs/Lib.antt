@@ -1,0 +1,9 @@
+pub mod Audits
+pub mod Statements
+pub mod Steps
+pub mod Presence
+pub mod Deciding
+pub mod Rows
+pub mod Replays
+pub mod Answers
+pub mod Ends

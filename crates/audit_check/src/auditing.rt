@@ -1,0 +1,80 @@
+ghost use Rattle.std.specs.Prelude.{◌≡◌, ◌<◌, ◌^◌, length, All};
+ghost use Rattle.transcript_log.specs.Events.{lines_of};
+ghost use Rattle.transcript_text.specs.Transcripts.{Fits};
+ghost use Rattle.audit_check.specs.Audits.{AuditEnds};
+ghost use Rattle.audit_check.specs.Ends.{LinesEnd, ReplayEnds, RowsEnd};
+ghost use Rattle.audit_check.specs.Presence.{IsPresenceOf};
+ghost use Rattle.audit_check.specs.Replays.{Begins};
+
+use crate::comparing::{count_totals, first_difference, row_at};
+use crate::presence::presence_of_frames;
+use crate::replay::Replay;
+use crate::{AuditCounts, AuditError};
+use group_book::Book;
+use group_plan::Plan;
+use std::alloc::Global;
+use totals_report::{Report, ReportRow, rows_of};
+use transcript_log::Entry;
+use transcript_text::{Transcript, entry_line};
+
+// The first entry whose line is not possible, where there is one.
+fn first_impossible(replay: &mut Replay, plan: &Plan, entries: &[Entry]) -> Option<usize>
+    requires fits { All (Fits plan.now) entries.now }
+    requires presence { IsPresenceOf plan.now (lines_of entries.now) replay.old.book.presence }
+    requires begins { Begins replay.old.book.presence (length entries.now) replay.old.book replay.old.answered.items }
+    ensures { LinesEnd plan.now (lines_of entries.now) result replay.new.book }
+{
+    let mut at = 0;
+    while at < entries.len() {
+        if !replay.line(&entries[at].line) {
+            return Some(at);
+        }
+        at += 1;
+    }
+    None
+}
+
+// The book of a transcript's lines, where all are possible.
+fn replay(alloc: Global, transcript: &Transcript) -> Result<Book, AuditError>
+    ensures { ReplayEnds transcript.now result }
+{
+    let plan = transcript.plan();
+    let entries = transcript.entries();
+    let presence = presence_of_frames(alloc, plan, entries)?;
+    let mut replay = Replay::new(alloc, &presence, entries.len() as u64)?;
+    match first_impossible(&mut replay, plan, entries) {
+        None => Ok(replay.book),
+        Some(entry) => Err(AuditError::Line(entry_line(plan, entry as u64))),
+    }
+}
+
+// What the rows have, where they are those that the frames give.
+fn confirm(from_frames: &[ReportRow], reported: &[ReportRow]) -> Result<AuditCounts, AuditError>
+    requires { length from_frames.now < 2 ^ 31 }
+    ensures { RowsEnd from_frames.now reported.now result }
+{
+    match first_difference(from_frames, reported) {
+        None => Ok(AuditCounts {
+            rows: reported.len() as u32,
+            totals: count_totals(reported) as u32,
+        }),
+        Some(at) => Err(AuditError::Row {
+            at: at as u32 + 1,
+            from_frames: row_at(from_frames, at),
+            reported: row_at(reported, at),
+        }),
+    }
+}
+
+/// Whether the rows of a report are what the frames of a transcript give, one for each group and round in order.
+pub fn audit(
+    alloc: Global,
+    transcript: &Transcript,
+    report: &Report,
+) -> Result<AuditCounts, AuditError>
+    ensures { AuditEnds transcript.now report.now result }
+{
+    let book = replay(alloc, transcript)?;
+    let rows = rows_of(alloc, &book)?;
+    confirm(rows.rows(), report.rows())
+}

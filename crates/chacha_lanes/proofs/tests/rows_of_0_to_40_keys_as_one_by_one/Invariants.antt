@@ -1,0 +1,6 @@
+use Rattle.std.proofs.Common.{◌≡◌, length}
+use Rattle.chacha_lanes.proofs.tests.rows_of_0_to_40_keys_as_one_by_one.Given as goal
+
+-- one word for each key so far
+abbrev pub invariant-loop-number : goal.invariant-loop-number
+invariant-loop-number g l = length l.row.words ≡ l.number

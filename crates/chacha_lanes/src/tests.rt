@@ -1,0 +1,59 @@
+use crate::{WordRow, stream_word};
+
+fn key_ending_in(last: u8) -> [u8; 32] {
+    let mut key = [0; 32];
+    key[31] = last;
+    key
+}
+
+// The key ends in this byte, and its other bytes are 0. The words are published with RFC 8439 (A.1) and with the
+// ChaCha20 of TLS drafts, whose stream number has 64 bits.
+#[test]
+fn published_words(rt: HostRuntime) {
+    let rows = [
+        (0, 0, 0x903d_f1a0_ade0_b876),
+        (1, 0, 0x96b2_1f9f_5af0_4045),
+        (0, 1, 0xfb78_15c6_d6df_3fef),
+    ];
+    for (last, round, word) in rows {
+        let key = key_ending_in(last);
+        let mut row = WordRow::new(round);
+        row.put(&key);
+        row.put(&key);
+        assert_eq!(rt; row.words().as_slice(), [word, word].as_slice());
+        assert_eq!(rt; stream_word(&key, round), word);
+    }
+}
+
+// Words that look random, and the same at each run.
+fn next_word(seed: u64) -> u64 {
+    let mixed = (seed ^ (seed >> 31)).wrapping_mul(0x9e37_79b9_7f4a_7c15);
+    (mixed ^ (mixed >> 29)).wrapping_add(0xbf58_476d_1ce4_e5b9)
+}
+
+fn key_of(number: u64) -> [u8; 32] {
+    let mut key = [0; 32];
+    let mut word = number;
+    for place in 0..32 {
+        word = next_word(word);
+        key[place] = (word >> 56) as u8;
+    }
+    key
+}
+
+#[test]
+fn rows_of_0_to_40_keys_as_one_by_one(rt: HostRuntime) {
+    for count in 0..41 {
+        let round = (next_word(count) >> 32) as u32;
+        let mut row = WordRow::new(round);
+        for number in 0..count {
+            row.put(&key_of(64 * count + number));
+        }
+        let words = row.words();
+        assert_eq!(rt; words.len() as u64, count);
+        for number in 0..count {
+            let word = stream_word(&key_of(64 * count + number), round);
+            assert_eq!(rt; words.get(number as usize).copied(), Some(word));
+        }
+    }
+}

@@ -1,0 +1,6 @@
+use Rattle.std.proofs.Common.{take}
+use Rattle.ideal_masks.proofs.ShiftLemmas.{Moved, less}
+use Rattle.ideal_masks.proofs.shifting.unshift.Given as goal
+
+abbrev pub invariant-loop-offset : goal.invariant-loop-offset
+invariant-loop-offset l = Moved less (take l.offset-index l.offsets) l.fn.table l.table

@@ -1,0 +1,77 @@
+//! The chain of a round: those that answered, ascending, and the least silent survivor.
+ghost use Rattle.std.specs.Prelude.{◌≡◌, ◌&&◌, IsTrue};
+ghost use Rattle.missing_round.specs.Sets.{is_member};
+ghost use Rattle.std.specs.List.{filter};
+ghost use Rattle.transcript_log.specs.Schedule.{is_answer_sent, survivors as survivors_of};
+ghost use Rattle.group_book.specs.Books.{shape_of, past, has_round};
+ghost use Rattle.ideal_masks.specs.Chains.{IsChain};
+
+use group_book::Book;
+use group_plan::{Kind, Tag};
+use missing_round::MeterSet;
+
+/// An announced round: its survivors, those of them that sent their answer, and the least of the others.
+#[derive(Clone, Copy, Debug)]
+pub(crate) struct Chain {
+    pub survivors: MeterSet,
+    pub answered: MeterSet,
+    pub end: Option<u8>,
+}
+
+/// A pair word that moves, by its higher meter.
+#[derive(Clone, Copy, Debug)]
+pub(crate) struct Link {
+    pub high: u8,
+    pub by: u64,
+}
+
+/// Whether the meter sent its answer.
+pub(crate) fn is_answer_sent(book: &Book, group: u16, round: u32, meter: u8) -> bool
+    ensures { result ≡ is_answer_sent (shape_of book.now) group round meter (past book.now) }
+{
+    let tag = Tag {
+        group,
+        round,
+        meter,
+        kind: Kind::Answer,
+    };
+    book.posted(tag).is_some()
+}
+
+// Whether the meter is a survivor that sent its answer.
+fn has_answered(book: &Book, group: u16, round: u32, survivors: MeterSet, meter: u8) -> bool
+    ensures { result ≡ (is_member meter survivors && is_answer_sent (shape_of book.now) group round meter (past book.now)) }
+{
+    survivors.has(meter) && is_answer_sent(book, group, round, meter)
+}
+
+// Those of the survivors that sent their answer.
+fn answered(book: &Book, group: u16, round: u32, survivors: MeterSet) -> MeterSet
+    requires { survivors ≡ survivors_of (shape_of book.now) group round (past book.now) }
+    ensures { result ≡ filter (λ i. is_answer_sent (shape_of book.now) group round i (past book.now)) survivors }
+{
+    let mut answered = MeterSet::empty();
+    for meter in 0..book.plan().meters(group) {
+        if has_answered(book, group, round, survivors, meter as u8) {
+            answered = answered.with(meter as u8);
+        }
+    }
+    answered
+}
+
+/// The chain of a round, where it is announced.
+pub(crate) fn chain_of(book: &Book, group: u16, round: u32) -> Option<Chain>
+    requires { IsTrue (has_round book.now group round) }
+    ensures { IsChain (shape_of book.now) group round (past book.now) result }
+{
+    if book.announced(group, round).is_none() {
+        return None;
+    }
+    let survivors = book.outcome(group, round).survivors;
+    let answered = answered(book, group, round, survivors);
+    Some(Chain {
+        survivors,
+        answered,
+        end: survivors.minus(answered).nth(0),
+    })
+}

@@ -1,0 +1,7 @@
+pub mod DrawLemmas
+pub mod MadeLengths
+pub mod MadePlan
+pub mod MadeReadings
+pub mod MadeReads
+pub mod MadeValues
+pub mod SizeLemmas

@@ -1,0 +1,130 @@
+-- How commands end, from how their parts do.
+use Rattle.std.proofs.Common.{◌≡◌, List, [], ◌∷◌, ℕ, length, inl, inr, subst, sym, ap, ◌∙◌, refl, Result, Ok, Err}
+use Rattle.std.specs.Prelude.{Option, None, Some}
+use Rattle.desk_outside.specs.Desk.{View}
+use Rattle.link_lanes.specs.Lanes.{Meaning}
+use Rattle.transcript_text.specs.declared.version.Version.TheVariants.{One}
+use Rattle.transcript_text.specs.Transcripts.{TranscriptView}
+use Rattle.transcript_text.specs.ReadBack.{HasText}
+use Rattle.transcript_text.specs.Spelling.{text_of, transcript_text}
+use Rattle.meteragg.specs.declared.texts.Refusal.{Refusal}
+use Rattle.meteragg.specs.declared.texts.Refusal.TheVariants as refusal
+use Rattle.meteragg.specs.RunTexts.{TextsEnd}
+use Rattle.meteragg.specs.declared.outcome.Outcome.{Outcome}
+use Rattle.meteragg.specs.Words.{RunNames, Size}
+use Rattle.meteragg.specs.Calls.{IsRead, after_fetches, putting, PutsEnd}
+use Rattle.meteragg.specs.Ends.{fetched_by, put_by, RunEnds, RefusesReadings, audited_line, AuditCommandEnds, made_file_of, made_plan_text, made_readings_text, put_where, LoadEnds, converted_line, ConvertEnds}
+use Rattle.audit_check.specs.declared.answers.AuditCounts.{AuditCounts}
+use Rattle.plan_files.specs.declared.fault.FileError.{FileError}
+use Rattle.plan_files.specs.PlanFiles.{plan_of}
+use Rattle.plan_files.specs.Readings.{readings_of}
+use Rattle.load_maker.specs.Made.{made_plan, made_file, made_readings}
+use Rattle.load_maker.specs.MadeFiles.{AreRead}
+use Rattle.meteragg.specs.Audits.{Audited, AuditRefuses}
+use Rattle.meteragg.specs.Runs.{Texts, Makes}
+use Rattle.meteragg.proofs.RunLemmas.{is_only}
+
+-- the texts of a run are put and said
+pub run_ends : (cupboard : List Meaning) (names : RunNames) (v u w : View) (texts : Texts) (outcome : Outcome) (plan readings p r transcript report summary : List ℕ)
+    → IsRead (v.held names.plan) plan → IsRead (v.held names.readings) readings → u ≡ after_fetches (fetched_by names) v → p ≡ plan → r ≡ readings
+    → Makes cupboard p r texts → transcript ≡ texts.transcript → report ≡ texts.report → summary ≡ texts.summary
+    → PutsEnd (putting names.transcript transcript ∷ putting names.report report ∷ []) summary u w outcome → RunEnds cupboard names v w outcome
+run_ends cupboard names v u w texts outcome plan readings p r transcript report summary plan_read readings_read after plan_is readings_is made t_is r_is s_is ends =
+    let made_here : Makes cupboard plan readings texts =
+    subst (λ bytes. Makes cupboard plan bytes texts) readings_is (subst (λ bytes. Makes cupboard bytes r texts) plan_is made)
+    in
+    let by_transcript : PutsEnd (putting names.transcript texts.transcript ∷ putting names.report report ∷ []) summary u w outcome =
+    subst (λ t. PutsEnd (putting names.transcript t ∷ putting names.report report ∷ []) summary u w outcome) t_is ends
+    in
+    let by_report : PutsEnd (put_by names texts) summary u w outcome =
+    subst (λ t. PutsEnd (putting names.transcript texts.transcript ∷ putting names.report t ∷ []) summary u w outcome) r_is by_transcript
+    in
+    let by_summary : PutsEnd (put_by names texts) texts.summary u w outcome = subst (λ s. PutsEnd (put_by names texts) s u w outcome) s_is by_report in
+    let here : PutsEnd (put_by names texts) texts.summary (after_fetches (fetched_by names) v) w outcome =
+    subst (λ u. PutsEnd (put_by names texts) texts.summary u w outcome) after by_summary
+    in
+    inr (plan, readings, plan_read, readings_read, inr (texts, made_here, is_only cupboard plan readings texts made_here, here))
+
+-- the transcript of an old text is put
+pub convert_ends : (old transcript : List ℕ) (v u w : View) (t : TranscriptView) (outcome : Outcome) (bytes given text line : List ℕ) (lines : ℕ)
+    → IsRead (v.held old) bytes → u ≡ after_fetches (old ∷ []) v → given ≡ bytes → HasText One t → given ≡ text_of One t
+    → text ≡ transcript_text t → line ≡ converted_line lines → lines ≡ length t.entries
+    → PutsEnd (putting transcript text ∷ []) line u w outcome → ConvertEnds old transcript v w outcome
+convert_ends old transcript v u w t outcome bytes given text line lines is after given_is has found text_is line_is lines_are ends =
+    let by_text : PutsEnd (putting transcript (transcript_text t) ∷ []) line u w outcome = subst (λ x. PutsEnd (putting transcript x ∷ []) line u w outcome) text_is ends in
+    let by_line : PutsEnd (putting transcript (transcript_text t) ∷ []) (converted_line (length t.entries)) u w outcome =
+    subst (λ x. PutsEnd (putting transcript (transcript_text t) ∷ []) x u w outcome) (line_is ∙ ap converted_line lines_are) by_text
+    in
+    let here : PutsEnd (putting transcript (transcript_text t) ∷ []) (converted_line (length t.entries)) (after_fetches (old ∷ []) v) w outcome =
+    subst (λ u. PutsEnd (putting transcript (transcript_text t) ∷ []) (converted_line (length t.entries)) u w outcome) after by_line
+    in
+    inr (bytes, is, inr (t, has, sym given_is ∙ found, here))
+
+-- what the files say is refused
+pub audit_refused : (transcript report : List ℕ) (v w : View) (outcome : Outcome) (tb rb given other : List ℕ)
+    → IsRead (v.held transcript) tb → IsRead (v.held report) rb → w ≡ after_fetches (transcript ∷ report ∷ []) v → given ≡ tb → other ≡ rb
+    → AuditRefuses transcript report given other outcome → AuditCommandEnds transcript report v w outcome
+audit_refused transcript report v w outcome tb rb given other t_read r_read after given_is other_is refused =
+    let here : AuditRefuses transcript report tb rb outcome =
+    subst (λ bytes. AuditRefuses transcript report tb bytes outcome) other_is (subst (λ bytes. AuditRefuses transcript report bytes other outcome) given_is refused)
+    in
+    inr (tb, rb, t_read, r_read, inl (here, after))
+
+-- a report is confirmed
+pub audit_ends : (transcript report : List ℕ) (v u w : View) (counts : AuditCounts) (outcome : Outcome) (tb rb given other line : List ℕ)
+    → IsRead (v.held transcript) tb → IsRead (v.held report) rb → u ≡ after_fetches (transcript ∷ report ∷ []) v → given ≡ tb → other ≡ rb
+    → Audited given other (Ok counts) → line ≡ audited_line counts.rows counts.totals
+    → PutsEnd [] line u w outcome → AuditCommandEnds transcript report v w outcome
+audit_ends transcript report v u w counts outcome tb rb given other line t_read r_read after given_is other_is audited line_is ends =
+    let here : Audited tb rb (Ok counts) = subst (λ bytes. Audited tb bytes (Ok counts)) other_is (subst (λ bytes. Audited bytes other (Ok counts)) given_is audited)
+    in
+    let by_line : PutsEnd [] (audited_line counts.rows counts.totals) u w outcome = subst (λ x. PutsEnd [] x u w outcome) line_is ends in
+    inr (tb, rb, t_read, r_read, inr (counts, here, subst (λ u. PutsEnd [] (audited_line counts.rows counts.totals) u w outcome) after by_line))
+
+-- the made files are read as what they were made of, so no run refuses them
+pub made_plan_is_read : (cupboard : List Meaning) (size : Size) (p r : List ℕ) (why : Refusal) (fault : FileError) → p ≡ made_plan_text size
+    → AreRead size.seed size.groups size.meters size.rounds → why ≡ refusal.Plan fault → TextsEnd cupboard p r (Err why) → ⊥
+made_plan_is_read cupboard size p r why fault p_is made why_is ends =
+    let bad : plan_of p ≡ Err fault = subst (λ x. TextsEnd cupboard p r (Err x)) why_is ends in
+    let well : plan_of p ≡ Ok (made_file_of size) = ap plan_of p_is ∙ made.plan in
+    cc
+
+plan_of_made : (size : Size) → (made_file_of size).plan ≡ made_plan size.groups size.meters size.rounds
+unfolding made_file
+plan_of_made size = refl
+
+not_both : {A E : Type 0} (r : Result A E) (a : A) (e : E) → r ≡ Ok a → r ≡ Err e → ⊥
+not_both r a e well bad = cc
+
+readings_not_refused : (cupboard : List Meaning) (size : Size) (p r : List ℕ) (fault : FileError) → p ≡ made_plan_text size → r ≡ made_readings_text size
+    → AreRead size.seed size.groups size.meters size.rounds → RefusesReadings cupboard p r fault → ⊥
+readings_not_refused cupboard size p r fault p_is r_is made (file, slots, plan_is, lanes_are, bad) =
+    let well : plan_of p ≡ Ok (made_file_of size) = ap plan_of p_is ∙ made.plan in
+    let same : made_file_of size ≡ file = cc in
+    let plan : file.plan ≡ made_plan size.groups size.meters size.rounds = ap (λ f. f.plan) (sym same) ∙ plan_of_made size in
+    not_both (readings_of file.plan r) (made_readings size.seed size.groups size.meters size.rounds) fault (ap (λ plan. readings_of plan r) plan ∙ ap (readings_of (made_plan size.groups size.meters size.rounds)) r_is ∙ made.readings) bad
+
+pub made_readings_are_read : (cupboard : List Meaning) (size : Size) (p r : List ℕ) (why : Refusal) (fault : FileError) → p ≡ made_plan_text size → r ≡ made_readings_text size
+    → AreRead size.seed size.groups size.meters size.rounds → why ≡ refusal.Readings fault → TextsEnd cupboard p r (Err why) → ⊥
+made_readings_are_read cupboard size p r why fault p_is r_is made why_is ends =
+    readings_not_refused cupboard size p r fault p_is r_is made (subst (λ x. TextsEnd cupboard p r (Err x)) why_is ends)
+
+-- the texts of a load are put, where there is a name, and said
+pub load_ends : (cupboard : List Meaning) (size : Size) (name given : Option (List ℕ)) (v w : View) (texts : Texts) (outcome : Outcome) (p r transcript summary : List ℕ)
+    → name ≡ given → p ≡ made_plan_text size → r ≡ made_readings_text size → Makes cupboard p r texts
+    → transcript ≡ texts.transcript → summary ≡ texts.summary
+    → PutsEnd (put_where given transcript) summary v w outcome → LoadEnds cupboard size name v w outcome
+load_ends cupboard size name given v w texts outcome p r transcript summary name_is p_is r_is made t_is s_is ends =
+    let here : Makes cupboard (made_plan_text size) (made_readings_text size) texts =
+    subst (λ bytes. Makes cupboard (made_plan_text size) bytes texts) r_is (subst (λ bytes. Makes cupboard bytes r texts) p_is made)
+    in
+    let by_transcript : PutsEnd (put_where given texts.transcript) summary v w outcome = subst (λ t. PutsEnd (put_where given t) summary v w outcome) t_is ends in
+    let by_summary : PutsEnd (put_where given texts.transcript) texts.summary v w outcome =
+    subst (λ s. PutsEnd (put_where given texts.transcript) s v w outcome) s_is by_transcript
+    in
+    inr (
+      texts,
+      here,
+      is_only cupboard (made_plan_text size) (made_readings_text size) texts here,
+      subst (λ n. PutsEnd (put_where n texts.transcript) texts.summary v w outcome) (sym name_is) by_summary,
+    )

@@ -1,0 +1,347 @@
+//! The command `audit`: what it confirms, and the first line or row that it doesn't.
+
+use crate::fixtures::{
+    NORTH, OLD_TRANSCRIPT, RUN, TRANSCRIPT, desk_of as run_desk, held, replaced, status_of,
+};
+use collector_workers::Free;
+use desk_outside::MemoryDesk;
+use std::alloc::Global;
+use std::test::Fail;
+
+const REPORT: &str = "group,round,survivors,missing,outcome,total\nnorth,0,3,-,total,60\n";
+
+// A desk that holds a transcript and a report, and fails these calls.
+fn desk_of(
+    alloc: Global,
+    transcript: &str,
+    report: &str,
+    failing: Vec<u64>,
+) -> Result<MemoryDesk, Fail> {
+    let mut desk = MemoryDesk::new(failing);
+    desk.place("t.txt", transcript.as_bytes())?;
+    desk.place("report.csv", report.as_bytes())?;
+    Ok(desk)
+}
+
+// Each row: its name, what stands in the transcript and what in its place, the same of the report, the status, and what is
+// then complained, or said where the status is 0.
+static AUDITS: [(&str, &str, &str, &str, &str, u8, &str); 27] = [
+    ("unchanged", "", "", "", "", 0, "audit: rows=1 totals=1"),
+    (
+        "total_61_reported",
+        "",
+        "",
+        "total,60",
+        "total,61",
+        9,
+        "row 1: from frames north,0,3,-,total,60, reported north,0,3,-,total,61",
+    ),
+    (
+        "report without its row",
+        "",
+        "",
+        "north,0,3,-,total,60\n",
+        "",
+        9,
+        "row 1: from frames north,0,3,-,total,60, reported nothing",
+    ),
+    (
+        "report with a row too many",
+        "",
+        "",
+        "north,0,3,-,total,60\n",
+        "north,0,3,-,total,60\nnorth,1,0,-,open,\n",
+        9,
+        "row 2: from frames nothing, reported north,1,0,-,open,",
+    ),
+    (
+        "report with a cut row",
+        "",
+        "",
+        "total,60\n",
+        "total,60",
+        7,
+        "report.csv line 2: Line",
+    ),
+    (
+        "report without its heading",
+        "",
+        "",
+        "group,round",
+        "group;round",
+        7,
+        "report.csv line 1: Line",
+    ),
+    (
+        "a bad report before an impossible line",
+        "1,t,0,0,r,0,fresh",
+        "1,t,0,0,r,0,again",
+        "total,60\n",
+        "total,60",
+        7,
+        "report.csv line 2: Line",
+    ),
+    (
+        "audit_without_end_line",
+        "end,20\n",
+        "",
+        "",
+        "",
+        7,
+        "t.txt line 26: NoEnd",
+    ),
+    (
+        "again_for_fresh",
+        "1,t,0,0,r,0,fresh",
+        "1,t,0,0,r,0,again",
+        "",
+        "",
+        7,
+        "t.txt line 9: impossible",
+    ),
+    (
+        "late for fresh",
+        "2,t,0,0,m,1,fresh",
+        "2,t,0,0,m,1,late",
+        "",
+        "",
+        7,
+        "t.txt line 17: impossible",
+    ),
+    (
+        "void for fresh",
+        "3,t,0,0,a,2,fresh",
+        "3,t,0,0,a,2,void",
+        "",
+        "",
+        7,
+        "t.txt line 24: impossible",
+    ),
+    (
+        "word_raised_by_1",
+        "b0b9d4e209a2296c",
+        "b0b9d4e209a2296d",
+        "",
+        "",
+        7,
+        "t.txt line 25: impossible",
+    ),
+    (
+        "word_raised_by_half",
+        "b0b9d4e209a2296c",
+        "30b9d4e209a2296c",
+        "",
+        "",
+        7,
+        "t.txt line 21: impossible",
+    ),
+    (
+        "another total",
+        "3,e,0,0,total,60",
+        "3,e,0,0,total,61",
+        "",
+        "",
+        7,
+        "t.txt line 25: impossible",
+    ),
+    (
+        "an end without a total",
+        "3,e,0,0,total,60",
+        "3,e,0,0,none,1",
+        "",
+        "",
+        7,
+        "t.txt line 25: impossible",
+    ),
+    (
+        "a thin end",
+        "3,e,0,0,total,60",
+        "3,e,0,0,thin,-",
+        "",
+        "",
+        7,
+        "t.txt line 25: impossible",
+    ),
+    (
+        "a closing with a missing meter",
+        "1,c,0,0,announced,-",
+        "1,c,0,0,announced,2",
+        "",
+        "",
+        7,
+        "t.txt line 12: impossible",
+    ),
+    (
+        "a thin closing",
+        "1,c,0,0,announced,-",
+        "1,c,0,0,thin,-",
+        "",
+        "",
+        7,
+        "t.txt line 12: impossible",
+    ),
+    (
+        "a second closing",
+        "1,c,0,0,announced,-",
+        "1,c,0,0,already,-",
+        "",
+        "",
+        7,
+        "t.txt line 12: impossible",
+    ),
+    (
+        "an announcement without a frame",
+        "1,s,0,0,m,0,1,4d020200000000000000000000000000000000000000000000000000000000000000000000000000000000000000000000000000",
+        "1,s,0,0,m,0,-,void",
+        "",
+        "",
+        7,
+        "t.txt line 13: impossible",
+    ),
+    (
+        "a taken reading without a frame",
+        "0,s,0,0,r,0,1,4d02010000000000000000000000000000000000000000000000000000000000000000000000000000000000b0b9d4e209a2296c",
+        "0,s,0,0,r,0,-,void",
+        "",
+        "",
+        7,
+        "t.txt line 9: impossible",
+    ),
+    (
+        "an announcement with another set",
+        "1,s,0,0,m,0,1,4d02020000000000000000000000000000000000000000000000000000000000000000000000000000000000",
+        "1,s,0,0,m,0,1,4d02020000000000000000000000000000000000000000000000000000000000000000000000000000000004",
+        "",
+        "",
+        7,
+        "t.txt line 13: impossible",
+    ),
+    (
+        "an answer before its announcement came",
+        "2,t,0,0,m,0,fresh\n",
+        "2,t,0,0,r,0,again\n",
+        "",
+        "",
+        7,
+        "t.txt line 19: impossible",
+    ),
+    (
+        "another tick and another fate",
+        "2,s,0,0,a,2,1,",
+        "2,s,0,0,a,2,3+16,",
+        "",
+        "",
+        0,
+        "audit: rows=1 totals=1",
+    ),
+    (
+        "a transcript of version 1",
+        "transcript 2",
+        "transcript 1",
+        "",
+        "",
+        7,
+        "t.txt line 1: Head",
+    ),
+    (
+        "survivors miscounted",
+        "",
+        "",
+        "0,3,-",
+        "0,2,-",
+        9,
+        "row 1: from frames north,0,3,-,total,60, reported north,0,2,-,total,60",
+    ),
+    (
+        "an open round",
+        "3,e,0,0,total,60\nend,20",
+        "end,19",
+        "total,60",
+        "open,",
+        0,
+        "audit: rows=1 totals=0",
+    ),
+];
+
+#[test]
+fn audits(rt: HostRuntime) -> Result<(), Fail> {
+    let alloc = rt.alloc();
+    for case in AUDITS.iter() {
+        let (name, there, instead, row, other, status, text) = *case;
+        let transcript = replaced(alloc, TRANSCRIPT, there, instead)?;
+        let report = replaced(alloc, REPORT, row, other)?;
+        let mut desk = desk_of(alloc, &transcript, &report, Vec::new(alloc))?;
+        let answer = status_of(&rt, alloc, "audit t.txt report.csv", &mut desk, &Free)?;
+        assert_eq!(rt; answer, status, "at {name}");
+        if status == 0 {
+            let wanted = format!(in alloc; "{text}\n")?;
+            assert_eq!(rt; desk.said(), wanted.as_bytes(), "at {name}");
+            assert_eq!(rt; desk.complained(), b"".as_slice(), "at {name}");
+        } else {
+            let wanted = format!(in alloc; "meteragg: {text}\n")?;
+            assert_eq!(rt; desk.complained(), wanted.as_bytes(), "at {name}");
+            assert_eq!(rt; desk.said(), b"".as_slice(), "at {name}");
+        }
+    }
+    Ok(())
+}
+
+// `raised_word_explained`: the readings 11, 20 and 30 explain the raised word. And a text of version 1 is no transcript.
+#[test]
+fn explained_and_old(rt: HostRuntime) -> Result<(), Fail> {
+    let alloc = rt.alloc();
+    let raised = replaced(alloc, TRANSCRIPT, "b0b9d4e209a2296c", "b0b9d4e209a2296d")?;
+    let raised = replaced(alloc, &raised, "total,60", "total,61")?;
+    let report = replaced(alloc, REPORT, "total,60", "total,61")?;
+    for (transcript, report, status) in [
+        (raised.as_str(), report.as_str(), 0),
+        (OLD_TRANSCRIPT, REPORT, 7),
+    ] {
+        let mut desk = desk_of(alloc, transcript, report, Vec::new(alloc))?;
+        let answer = status_of(&rt, alloc, "audit t.txt report.csv", &mut desk, &Free)?;
+        assert_eq!(rt; answer, status);
+    }
+    Ok(())
+}
+
+#[test]
+fn failing_calls_of_audit(rt: HostRuntime) -> Result<(), Fail> {
+    let alloc = rt.alloc();
+    for (failing, status, complaint) in [
+        (0, 3, "meteragg: cannot read t.txt\n"),
+        (1, 3, "meteragg: cannot read report.csv\n"),
+        (2, 4, "meteragg: cannot print\n"),
+    ] {
+        let mut desk = desk_of(alloc, TRANSCRIPT, REPORT, vec![in alloc; failing]?)?;
+        let answer = status_of(&rt, alloc, "audit t.txt report.csv", &mut desk, &Free)?;
+        assert_eq!(rt; answer, status, "at {failing}");
+        assert_eq!(rt; desk.complained(), complaint.as_bytes(), "at {failing}");
+    }
+    Ok(())
+}
+
+// A reading of a meter that is no member of the round can't be explained, whatever its frame.
+#[test]
+fn frame_of_no_member(rt: HostRuntime) -> Result<(), Fail> {
+    let alloc = rt.alloc();
+    let rows = format!(in alloc; "rounds,2\nwindows,1,2\n{NORTH}member,0,2,1,2\n")?;
+    let mut desk = run_desk(
+        alloc,
+        &rows,
+        "north,0,10,20,\nnorth,1,1,2,3\n",
+        Vec::new(alloc),
+    )?;
+    assert_eq!(rt; status_of(&rt, alloc, RUN, &mut desk, &Free)?, 0);
+    let further =
+        "\n0,s,0,0,r,2,1,4d020102000000000000000000000000000000000000000000000000000000000000000000000000000000000000000000000001\n1,t,";
+    let text = replaced(alloc, held(&desk, "t.txt"), "\n1,t,", further)?;
+    let text = replaced(alloc, &text, "end,34", "end,35")?;
+    desk.place("t.txt", text.as_bytes())?;
+    assert_eq!(rt;
+        status_of(&rt, alloc, "audit t.txt report.csv", &mut desk, &Free)?,
+        7
+    );
+    let complaint = b"meteragg: t.txt line 9: impossible\n".as_slice();
+    assert_eq!(rt; desk.complained(), complaint);
+    Ok(())
+}

@@ -1,0 +1,47 @@
+//! What `help` and `version` say.
+
+/// The usage: each command with its words, what the words may be, the statuses, and where the formats stand.
+pub const USAGE: &str = "meteragg: the total of each group of smart meters, and no meter's reading.
+
+Commands
+  run PLAN READINGS REPORT TRANSCRIPT [WORKERS]
+      run the plan on the readings; write the report and the transcript
+  audit TRANSCRIPT REPORT
+      check the report against the transcript alone, with no key and no reading
+  make SEED GROUPS METERS ROUNDS PLAN READINGS
+      make a plan and readings from a seed, and write them
+  load SEED GROUPS METERS ROUNDS WORKERS [TRANSCRIPT]
+      make a plan and readings from a seed, run them, and print the summary
+  convert OLD TRANSCRIPT
+      write a transcript of version 1 as a transcript of version 2
+  help, --help, -h
+      print this text
+  version, --version, -V
+      print the name and the version
+
+Words
+  WORKERS  1 to 16 threads that collect; run has 4 where it is left out
+  SEED     0 to 18446744073709551615
+  GROUPS   1 to 256
+  METERS   2 to 256, in each group
+  ROUNDS   1 to 4096; GROUPS times METERS times ROUNDS is at most 131072, and
+           GROUPS times METERS times (METERS - 1) at most 2097152
+  All other words are file names. No two names of one command are equal.
+
+Statuses
+   0  done
+   1  out of memory
+   2  the words are not a command
+   3  a file cannot be read, or is longer than 268435456 bytes
+   4  a file cannot be written, or the result cannot be printed
+   5  the plan has a fault
+   6  the readings have a fault
+   7  the transcript or the report has a fault
+   9  the report says something else than the transcript
+  10  a lane of the plan does not exist or does not take its argument
+
+docs/FORMATS.md describes the files, and what is printed at each status.
+";
+
+/// The program's name and version.
+pub const VERSION: &str = "meteragg 0.9.0\n";
