@@ -1,0 +1,56 @@
+-- Where a transcript is the first table's and the tables agree, nothing is refused.
+use Rattle.std.proofs.Common.{◌≡◌, ℕ, List, length, sym, ap, ◌∙◌, subst, refl}
+use Rattle.std.specs.Prelude.{reverse, slice_get, Some, Result, Ok, Err}
+use Rattle.group_plan.specs.Tables.{ReadingsView, reading}
+use Rattle.transcript_log.specs.declared.Entry.{Entry}
+use Rattle.transcript_log.specs.declared.Line.{Line}
+use Rattle.transcript_log.specs.Events.{lines_of, events_of}
+use Rattle.transcript_log.specs.Tables.{Masks}
+use Rattle.transcript_text.specs.declared.version.Version.TheVariants.{Two}
+use Rattle.transcript_text.specs.declared.fault.ReadError.{ReadError}
+use Rattle.transcript_text.specs.Transcripts.{TranscriptView}
+use Rattle.transcript_text.specs.Heads.{read_of}
+use Rattle.transcript_text.proofs.ReadAgain.{read_back}
+use Rattle.ideal_masks.specs.declared.Differ.{Differ}
+use Rattle.ideal_masks.specs.declared.Differ.TheVariants as differ
+use Rattle.ideal_masks.specs.Offsets.{Agree}
+use Rattle.twin_worlds.specs.declared.rows.MovedRow.{MovedRow}
+use Rattle.twin_worlds.specs.declared.answers.TwinError.{TwinError}
+use Rattle.twin_worlds.specs.declared.answers.TwinError.TheVariants as twin
+use Rattle.twin_worlds.specs.Twins.{IsTextOf, lines_under, IsFirstOther, Disagree, TwinEnds}
+use Rattle.twin_worlds.specs.Statements.{FindsTwins, IsHonest}
+use Rattle.twin_worlds.proofs.CompareLemmas.{get-map}
+
+-- one text has one transcript
+same-text : (m : Masks) (x y : ReadingsView) (text : List ℕ) (t u : TranscriptView) → IsHonest m x y text t → IsTextOf u text → t ≡ u
+same-text m x y text t u honest is = let one : ◌≡◌ {A = Result TranscriptView ReadError} (Ok t) (Ok u) = sym (read_back text t honest.few honest.sound honest.text_is) ∙ is.read in cc one
+
+-- no line is another than the one that is due
+no-other : (m : Masks) (x : ReadingsView) (t : TranscriptView) (k : ℕ) (expected found : Line) (tick : ℕ) (fate : List ℕ) → lines_of t.entries ≡ lines_under x m t → IsFirstOther m x t k expected found tick fate → ⊥
+no-other m x t k expected found tick fate lines other =
+    let e : Entry = record { tick = tick; fate = fate; line = found } in
+    let both : Some expected ≡ Some found = sym other.expected_is ∙ ap (λ ls. slice_get ls k) (sym lines) ∙ get-map (λ (z : Entry). z.line) t.entries k e other.entry in
+    other.other (cc both)
+
+no-difference : (x y : ReadingsView) (t : TranscriptView) (cause : Differ) → Agree x.plan.groups (reading x.table) (reading y.table) (reverse (events_of t.entries)) → Disagree x y t cause → ⊥
+no-difference x y t (differ.Presence g r i) agree is = is.ends.differs (agree.presence g r i)
+no-difference x y t (differ.Total g r a b) agree is =
+    let first = is.ends.1 in
+    first.differ (first.first ∙ agree.totals g r first.opened ∙ sym first.second)
+no-difference x y t differ.Memory agree is = is.known refl
+
+pub honest-have-twins : (m : Masks) (x y : ReadingsView) (text : List ℕ) (t : TranscriptView) (result : Result (List MovedRow) TwinError) → IsHonest m x y text t → TwinEnds m x y text result → FindsTwins result
+honest-have-twins m x y text t (Ok rows) honest ends = tt
+honest-have-twins m x y text t (Err (twin.Transcript refusal)) honest ends =
+    let both : ◌≡◌ {A = Result TranscriptView ReadError} (Ok t) (Err refusal) = sym (read_back text t honest.few honest.sound honest.text_is) ∙ ends.1 in
+    absurd (cc both)
+honest-have-twins m x y text t (Err twin.Head) honest ends =
+    let same = same-text m x y text t ends.0 honest ends.1 in
+    absurd (ends.2 (ap (λ z. z.plan) (sym same) ∙ honest.plan_is))
+honest-have-twins m x y text t (Err (twin.NotThis line expected found tick fate)) honest ends =
+    let same = same-text m x y text t ends.0 honest ends.1 in
+    absurd (no-other m x ends.0 ends.3.0 expected found tick fate (subst (λ z. lines_of z.entries ≡ lines_under x m z) same honest.lines_are) ends.3.2)
+honest-have-twins m x y text t (Err (twin.Differ cause)) honest ends =
+    let same = same-text m x y text t ends.0 honest ends.1.text_of in
+    absurd (no-difference x y ends.0 cause (subst (λ z. Agree x.plan.groups (reading x.table) (reading y.table) (reverse (events_of z.entries))) same honest.agree) ends.2)
+honest-have-twins m x y text t (Err twin.Memory) honest ends = tt

@@ -1,0 +1,9 @@
+pub mod PostedFrames
+pub mod EventSteps
+pub mod ReplayLoop
+pub mod WorldFrames
+pub mod CompareLemmas
+pub mod MovedLemmas
+pub mod TwinLemmas
+pub mod RowTexts
+pub mod HonestLemmas

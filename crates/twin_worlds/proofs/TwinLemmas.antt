@@ -1,0 +1,98 @@
+-- The parts of a twin, put together.
+use Rattle.std.proofs.Common.{◌≡◌, ℕ, ◌^◌, ◌<◌, List, take, refl, sym, ap, ◌∙◌, subst, arith}
+use Rattle.std.specs.Prelude.{reverse, slice_get, Option, Some, None, Result, Ok, Err}
+use Rattle.chacha_lanes.proofs.WordBounds.{mask_word_small}
+use Rattle.mask_stream.specs.KeyStreams.{word_of as stream_word_of, streams}
+use Rattle.pair_keys.specs.Keys.{Keys}
+use Rattle.group_plan.specs.Plans.{PlanView}
+use Rattle.group_plan.specs.Tables.{ReadingsView, IsReadingTable, reading}
+use Rattle.transcript_log.specs.declared.Line.{Line}
+use Rattle.transcript_log.specs.Events.{lines_of, events_of}
+use Rattle.transcript_log.specs.Tables.{Masks, IsMasks}
+use Rattle.transcript_log.specs.Transcript.{transcript}
+use Rattle.transcript_log.proofs.ScheduleLemmas.{after-reverse}
+use Rattle.transcript_text.specs.Transcripts.{TranscriptView}
+use Rattle.ideal_masks.specs.declared.Offset.{Offset}
+use Rattle.ideal_masks.specs.ListTables.{MaskTable, masks_in, mask_table_of}
+use Rattle.ideal_masks.specs.Offsets.{Agree, offsets, shift}
+use Rattle.ideal_masks.specs.Isolation.{offsets_between}
+use Rattle.ideal_masks.proofs.FiniteTables.{keeps_lines}
+use Rattle.ideal_masks.proofs.TwoWorlds.{two_worlds}
+use Rattle.twin_worlds.specs.declared.rows.MovedRow.{MovedRow}
+use Rattle.twin_worlds.specs.declared.answers.TwinError.{TwinError}
+use Rattle.twin_worlds.specs.declared.answers.TwinError.TheVariants as twin
+use Rattle.twin_worlds.specs.MovedRows.{rows_of, AreMoved}
+use Rattle.twin_worlds.specs.Twins.{IsTextOf, lines_under, IsRecord, shifted, AreTwins, IsFirstOther, TwinEnds}
+use Rattle.twin_worlds.specs.Ends.{LinesEnd, AgreementEnds}
+use Rattle.twin_worlds.proofs.MovedLemmas.{rows-table, are-moved}
+
+-- ---- the stream words of keys
+
+word_small : (key : Option (List ℕ)) (round : ℕ) → stream_word_of key round < 2 ^ 64
+word_small None round = omega arith
+word_small (Some key) round = mask_word_small key round
+
+pub streams_small : (keys : Keys) → IsMasks (streams keys)
+streams_small keys = record { own = λ g r i. word_small _ r; pair = λ g r i j. word_small _ r }
+
+-- ---- the first world
+
+-- under the finite table of the masks m the readings give the lines that they give under m
+same-lines : (x : ReadingsView) (m : Masks) (w : MaskTable) (t : TranscriptView) → IsReadingTable x.plan x.table → w ≡ mask_table_of x.plan m → lines_under x (masks_in w) t ≡ lines_under x m t
+same-lines x m w t table is = ap (λ z. lines_under x (masks_in z) t) is ∙ keeps_lines x.plan x.table m (events_of t.entries) table
+
+pub record-of : (m : Masks) (x : ReadingsView) (text : List ℕ) (w : MaskTable) (t : TranscriptView) → IsReadingTable x.plan x.table → w ≡ mask_table_of x.plan m → IsTextOf t text → t.plan ≡ x.plan
+    → lines_of t.entries ≡ lines_under x (masks_in w) t → IsRecord m x text t
+record-of m x text w t table is text_of plan_is lines = record { text_of = text_of; plan_is = plan_is; lines_are = lines ∙ same-lines x m w t table is }
+
+other-line : (m : Masks) (x : ReadingsView) (w : MaskTable) (t : TranscriptView) (k : ℕ) (expected found : Line) (tick : ℕ) (fate : List ℕ) → IsReadingTable x.plan x.table → w ≡ mask_table_of x.plan m
+    → IsFirstOther (masks_in w) x t k expected found tick fate → IsFirstOther m x t k expected found tick fate
+other-line m x w t k expected found tick fate table is other =
+    let same = same-lines x m w t table is in
+    record {
+      entry = other.entry;
+      before = other.before ∙ ap (take k) same;
+      expected_is = ap (λ ls. slice_get ls k) (sym same) ∙ other.expected_is;
+      other = other.other;
+      writable = other.writable;
+    }
+
+-- the lines are refused
+pub lines-refused : (m : Masks) (x y : ReadingsView) (text : List ℕ) (w : MaskTable) (t : TranscriptView) (e : TwinError) → IsReadingTable x.plan x.table → w ≡ mask_table_of x.plan m → IsTextOf t text → t.plan ≡ x.plan
+    → LinesEnd (masks_in w) x t (Err e) → TwinEnds m x y text (Err e)
+lines-refused m x y text w t (twin.Transcript refusal) table is text_of plan_is ends = absurd ends
+lines-refused m x y text w t twin.Head table is text_of plan_is ends = absurd ends
+lines-refused m x y text w t (twin.NotThis line expected found tick fate) table is text_of plan_is ends =
+    (t, text_of, plan_is, (ends.0, ends.1, other-line m x w t ends.0 expected found tick fate table is ends.2))
+lines-refused m x y text w t (twin.Differ cause) table is text_of plan_is ends = absurd ends
+lines-refused m x y text w t twin.Memory table is text_of plan_is ends = tt
+
+-- ---- the second world
+
+-- the tables don't agree
+pub tables-refused : (m : Masks) (x y : ReadingsView) (text : List ℕ) (t : TranscriptView) (e : TwinError) → IsRecord m x text t → AgreementEnds x y t (Err e) → TwinEnds m x y text (Err e)
+tables-refused m x y text t (twin.Transcript refusal) is ends = absurd ends
+tables-refused m x y text t twin.Head is ends = absurd ends
+tables-refused m x y text t (twin.NotThis line expected found tick fate) is ends = absurd ends
+tables-refused m x y text t (twin.Differ cause) is ends = (t, is, ends)
+tables-refused m x y text t twin.Memory is ends = tt
+
+-- the tables agree, and these are the moved words
+pub twins-are : (m : Masks) (x y : ReadingsView) (text : List ℕ) (w : MaskTable) (t : TranscriptView) (list : List Offset) (rows : List MovedRow) → IsMasks m → IsReadingTable x.plan x.table → y.plan ≡ x.plan
+    → w ≡ mask_table_of x.plan m → IsRecord m x text t → AgreementEnds x y t (Ok list) → rows ≡ rows_of (masks_in w) list → TwinEnds m x y text (Ok rows)
+twins-are m x y text w t list rows small table plans is record_is agreed rows_are =
+    let events = events_of t.entries in
+    let groups = x.plan.groups in
+    let given : rows ≡ rows_of m (offsets_between x.plan x.table y.table events)
+    = rows_are ∙ ap (λ z. rows_of (masks_in z) list) is ∙ rows-table x.plan m list agreed.2 ∙ ap (rows_of m) agreed.1 in
+    let worlds : Agree groups (reading x.table) (reading y.table) (reverse events) → transcript groups (reading y.table) (shifted x y t m) events ≡ lines_under x m t
+    = rw (← after-reverse events) (two_worlds groups (reading x.table) (reading y.table) m events table.of_members) in (
+      t,
+      record_is,
+      record {
+        agree = agreed.0;
+        second = record_is.lines_are ∙ sym (worlds agreed.0) ∙ ap (λ p. transcript p.groups (reading y.table) (shifted x y t m) events) (sym plans);
+        rows_are = given;
+        moved = subst (AreMoved x.plan m (shifted x y t m)) (sym given) (are-moved x.plan (offsets groups (reading x.table) (reading y.table) (reverse events)) m small);
+      },
+    )

@@ -1,0 +1,49 @@
+-- How the parts of a twin end.
+use Rattle.std.specs.Prelude.{◌≡◌, ◌≢◌, ℕ, List, reverse, Result, Ok, Err, ⊤}
+use Rattle.group_plan.specs.Plans.{PlanView}
+use Rattle.group_plan.specs.Tables.{ReadingsView, reading}
+use Rattle.transcript_log.specs.Events.{lines_of, events_of}
+use Rattle.transcript_log.specs.Tables.{Masks}
+use Rattle.transcript_text.specs.declared.version.Version.TheVariants.{Two}
+use Rattle.transcript_text.specs.declared.fault.ReadError.TheVariants as fault
+use Rattle.transcript_text.specs.Transcripts.{TranscriptView}
+use Rattle.transcript_text.specs.EntryLines.{entry_line}
+use Rattle.transcript_text.specs.Heads.{read_of}
+use Rattle.ideal_masks.specs.declared.Offset.{Offset}
+use Rattle.ideal_masks.specs.Offsets.{Agree}
+use Rattle.ideal_masks.specs.Order.{AreOfPlan}
+use Rattle.ideal_masks.specs.Isolation.{offsets_between}
+use Rattle.twin_worlds.specs.declared.answers.TwinError.{TwinError}
+use Rattle.twin_worlds.specs.declared.answers.TwinError.TheVariants as twin
+use Rattle.twin_worlds.specs.Twins.{IsTextOf, lines_under, IsFirstOther, Disagree}
+
+-- the bytes are the text of a transcript, or are refused so; want of memory is free
+abbrev pub TextEnds : List ℕ → Result TranscriptView TwinError → Type 0
+TextEnds text (Ok t) = IsTextOf t text
+TextEnds text (Err (twin.Transcript refusal)) = (refusal ≢ fault.Memory) × (read_of Two text ≡ Err refusal)
+TextEnds text (Err twin.Memory) = ⊤
+TextEnds text (Err _) = ⊥
+
+-- the bytes are the text of a transcript of this plan, or of another one
+abbrev pub HeadEnds : PlanView → List ℕ → Result TranscriptView TwinError → Type 0
+HeadEnds plan text (Ok t) = IsTextOf t text × (t.plan ≡ plan)
+HeadEnds plan text (Err (twin.Transcript refusal)) = (refusal ≢ fault.Memory) × (read_of Two text ≡ Err refusal)
+HeadEnds plan text (Err twin.Head) = (t : TranscriptView) × IsTextOf t text × (t.plan ≢ plan)
+HeadEnds plan text (Err twin.Memory) = ⊤
+HeadEnds plan text (Err _) = ⊥
+
+-- the lines are those of x under m, or this is the first that isn't
+abbrev pub LinesEnd : Masks → ReadingsView → TranscriptView → Result (Unit {0}) TwinError → Type 0
+LinesEnd m x t (Ok done) = lines_of t.entries ≡ lines_under x m t
+LinesEnd m x t (Err (twin.NotThis line expected found tick fate)) = (k : ℕ) × (line ≡ entry_line t.plan k) × IsFirstOther m x t k expected found tick fate
+LinesEnd m x t (Err twin.Memory) = ⊤
+LinesEnd m x t (Err _) = ⊥
+
+-- the tables agree, and these are their offsets; or they don't, by this cause
+abbrev pub AgreementEnds : ReadingsView → ReadingsView → TranscriptView → Result (List Offset) TwinError → Type 0
+AgreementEnds x y t (Ok list) =
+    Agree x.plan.groups (reading x.table) (reading y.table) (reverse (events_of t.entries))
+    × (list ≡ offsets_between x.plan x.table y.table (events_of t.entries)) × AreOfPlan x.plan list
+AgreementEnds x y t (Err (twin.Differ cause)) = Disagree x y t cause
+AgreementEnds x y t (Err twin.Memory) = ⊤
+AgreementEnds x y t (Err _) = ⊥

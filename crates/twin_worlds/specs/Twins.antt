@@ -1,0 +1,82 @@
+-- How `twin` ends: x and y are the two tables of readings, m the mask words, and t the transcript whose text is judged.
+use Rattle.std.specs.Prelude.{◌≡◌, ◌≢◌, ℕ, List, take, reverse, slice_get, Some, Result, Ok, Err, ⊤}
+use Rattle.group_plan.specs.Tables.{ReadingsView, reading}
+use Rattle.transcript_log.specs.declared.Line.{Line}
+use Rattle.transcript_log.specs.Events.{lines_of, events_of}
+use Rattle.transcript_log.specs.Tables.{Masks}
+use Rattle.transcript_log.specs.Transcript.{transcript}
+use Rattle.transcript_text.specs.declared.version.Version.TheVariants.{Two}
+use Rattle.transcript_text.specs.declared.fault.ReadError.TheVariants as fault
+use Rattle.transcript_text.specs.Transcripts.{TranscriptView, IsTranscript}
+use Rattle.transcript_text.specs.Spelling.{transcript_text}
+use Rattle.transcript_text.specs.EntryLines.{entry_line}
+use Rattle.transcript_text.specs.Heads.{read_of}
+use Rattle.transcript_text.specs.Writing.{IsWritable}
+use Rattle.ideal_masks.specs.declared.Differ.{Differ}
+use Rattle.ideal_masks.specs.declared.Differ.TheVariants as differ
+use Rattle.ideal_masks.specs.Offsets.{Agree, offsets, shift}
+use Rattle.ideal_masks.specs.Isolation.{offsets_between}
+use Rattle.ideal_masks.specs.OffsetEnds.{OffsetsEnd, HasNoWorlds}
+use Rattle.twin_worlds.specs.declared.rows.MovedRow.{MovedRow}
+use Rattle.twin_worlds.specs.declared.answers.TwinError.{TwinError}
+use Rattle.twin_worlds.specs.declared.answers.TwinError.TheVariants as twin
+use Rattle.twin_worlds.specs.MovedRows.{rows_of, AreMoved}
+
+-- ---- the transcript
+
+-- the bytes are the text of t
+pub record IsTextOf (t : TranscriptView) (text : List ℕ) : Type 0 where
+  pub sound : IsTranscript t
+  pub text_is : text ≡ transcript_text t
+  pub read : read_of Two text ≡ Ok t
+
+-- the lines that the readings x give under the masks m for the events of t
+abbrev pub lines_under : ReadingsView → Masks → TranscriptView → List Line
+lines_under x m t = transcript x.plan.groups (reading x.table) m (events_of t.entries)
+
+-- the bytes are the text of t, t is of the plan of x, and its lines are those of x under the masks m
+pub record IsRecord (m : Masks) (x : ReadingsView) (text : List ℕ) (t : TranscriptView) : Type 0 where
+  pub text_of : IsTextOf t text
+  pub plan_is : t.plan ≡ x.plan
+  pub lines_are : lines_of t.entries ≡ lines_under x m t
+
+-- ---- the second world
+
+-- the masks m, shifted so that y takes the place of x under the events of t
+abbrev pub shifted : ReadingsView → ReadingsView → TranscriptView → Masks → Masks
+shifted x y t m = shift (offsets x.plan.groups (reading x.table) (reading y.table) (reverse (events_of t.entries))) m
+
+-- the tables agree, y gives the lines of t under the shifted masks, and the rows are the words that the shift moves
+pub record AreTwins (m : Masks) (x y : ReadingsView) (t : TranscriptView) (rows : List MovedRow) : Type 0 where
+  pub agree : Agree x.plan.groups (reading x.table) (reading y.table) (reverse (events_of t.entries))
+  pub second : lines_of t.entries ≡ lines_under y (shifted x y t m) t
+  pub rows_are : rows ≡ rows_of m (offsets_between x.plan x.table y.table (events_of t.entries))
+  pub moved : AreMoved x.plan m (shifted x y t m) rows
+
+-- ---- what is wrong
+
+-- the line of entry k is the first that isn't the one of x under m: this one is due there, and that one stands there, at this tick and with this fate
+pub record IsFirstOther (m : Masks) (x : ReadingsView) (t : TranscriptView) (k : ℕ) (expected found : Line) (tick : ℕ) (fate : List ℕ) : Type 0 where
+  pub entry : slice_get t.entries k ≡ Some (record { tick = tick; fate = fate; line = found })
+  pub before : take k (lines_of t.entries) ≡ take k (lines_under x m t)
+  pub expected_is : slice_get (lines_under x m t) k ≡ Some expected
+  pub other : expected ≢ found
+  pub writable : IsWritable expected
+
+-- the first place where one table alone has a reading, or else the first opened round with other totals: then no masks at all make the transcripts one
+pub record Disagree (x y : ReadingsView) (t : TranscriptView) (cause : Differ) : Type 0 where
+  pub known : cause ≢ differ.Memory
+  pub ends : OffsetsEnd x y (events_of t.entries) (Err cause)
+  pub no_worlds : HasNoWorlds x y (events_of t.entries) cause
+
+-- ---- the answer
+
+-- the moved words; or the first cause in this order; want of memory is free
+abbrev pub TwinEnds : Masks → ReadingsView → ReadingsView → List ℕ → Result (List MovedRow) TwinError → Type 0
+TwinEnds m x y text (Ok rows) = (t : TranscriptView) × IsRecord m x text t × AreTwins m x y t rows
+TwinEnds m x y text (Err (twin.Transcript refusal)) = (refusal ≢ fault.Memory) × (read_of Two text ≡ Err refusal)
+TwinEnds m x y text (Err twin.Head) = (t : TranscriptView) × IsTextOf t text × (t.plan ≢ x.plan)
+TwinEnds m x y text (Err (twin.NotThis line expected found tick fate)) =
+    (t : TranscriptView) × IsTextOf t text × (t.plan ≡ x.plan) × ((k : ℕ) × (line ≡ entry_line t.plan k) × IsFirstOther m x t k expected found tick fate)
+TwinEnds m x y text (Err (twin.Differ cause)) = (t : TranscriptView) × IsRecord m x text t × Disagree x y t cause
+TwinEnds m x y text (Err twin.Memory) = ⊤

@@ -1,0 +1,61 @@
+//! The lines of a transcript, compared with those that a table of readings gives.
+
+ghost use Rattle.std.specs.Prelude.{◌≡◌, length};
+ghost use Rattle.transcript_log.specs.Events.{lines_of};
+ghost use Rattle.twin_worlds.specs.Comparing.{Decides, DifferAt};
+ghost use Rattle.twin_worlds.specs.Ends.{LinesEnd};
+ghost use Rattle.twin_worlds.specs.Worlds.{IsWorld, words_of};
+
+use crate::TwinError;
+use crate::replay::replay;
+use crate::world::World;
+use std::alloc::Global;
+use transcript_log::{Entry, Line};
+use transcript_text::{Transcript, entry_line};
+
+fn is_same(one: &Line, other: &Line) -> bool
+    ensures { Decides (one.now ≡ other.now) result }
+{
+    one == other
+}
+
+// The first entry whose line is another than the one at its place, where there is one.
+fn first_other(entries: &[Entry], lines: &[Line]) -> Option<usize>
+    requires { length lines.now ≡ length entries.now }
+    ensures { DifferAt (lines_of entries.now) lines.now result }
+{
+    for at in 0..entries.len() {
+        if !is_same(&entries[at].line, &lines[at]) {
+            return Some(at);
+        }
+    }
+    None
+}
+
+/// Whether the lines of a transcript are those that the world gives for its events, or else the first that isn't.
+pub(crate) fn confirm(
+    alloc: Global,
+    world: &World,
+    transcript: &Transcript,
+) -> Result<(), TwinError>
+    requires world { IsWorld world.now }
+    requires plan { transcript.now.plan ≡ world.now.readings.now.plan }
+    ensures { LinesEnd (words_of world.now) world.now.readings.now transcript.now result }
+{
+    let book = replay(alloc, world, transcript)?;
+    let entries = transcript.entries();
+    let lines = book.journal();
+    match first_other(entries, lines) {
+        None => Ok(()),
+        Some(at) => {
+            let entry = &entries[at];
+            Err(TwinError::NotThis {
+                line: entry_line(transcript.plan(), at as u64),
+                expected: lines[at],
+                found: entry.line,
+                tick: entry.tick,
+                fate: entry.fate,
+            })
+        }
+    }
+}

@@ -1,0 +1,23 @@
+//! Two worlds: the mask words under which other readings give a stored transcript, line by line.
+#![tactic(auto)]
+
+mod answers;
+mod comparing;
+mod heads;
+mod moving;
+mod replay;
+mod rows;
+mod twins;
+mod world;
+mod writing;
+
+pub use answers::TwinError;
+pub use rows::{MovedRow, MovedWords};
+pub use twins::twin;
+pub use writing::moved_text;
+
+pub mod laws;
+#[cfg(test)]
+mod table_tests;
+#[cfg(test)]
+mod tests;
