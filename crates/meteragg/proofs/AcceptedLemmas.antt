@@ -1,5 +1,5 @@
 -- Accepted files are done.
-use Rattle.std.proofs.Common.{◌≡◌, ◌≤◌, ◌<◌, ◌^◌, ◌⊎◌, ℕ, false, List, [], ◌∷◌, length, refl, sym, ap, ◌∙◌, subst, inl, inr, arith, Result, Ok, Err}
+use Rattle.std.proofs.Common.{◌≡◌, ◌≢◌, ◌≤◌, ◌<◌, ◌^◌, ◌⊎◌, ℕ, false, List, [], ◌∷◌, length, refl, sym, ap, ◌∙◌, subst, inl, inr, arith, Result, Ok, Err}
 use Rattle.std.specs.Prelude.{Option, Some, ◌*◌, ◌+◌, ◌-◌, slice_get}
 use Rattle.transcript_log.specs.Frames.{IsPossible}
 use Rattle.transcript_text.specs.declared.version.Version.TheVariants.{Two}
@@ -22,14 +22,22 @@ use Rattle.transcript_text.specs.declared.version.Version.TheVariants.{One}
 use Rattle.transcript_text.specs.ReadBack.{ReadsEach}
 use Rattle.transcript_text.specs.Heads.{read_of}
 use Rattle.transcript_text.proofs.ReadAgain.{reads_each}
+use Rattle.mask_stream.specs.KeyStreams.{streams}
+use Rattle.ideal_masks.specs.declared.Differ.TheVariants.{Presence, Total}
+use Rattle.twin_worlds.specs.declared.answers.TwinError.{TwinError}
+use Rattle.twin_worlds.specs.declared.answers.TwinError.TheVariants as twin
+use Rattle.twin_worlds.specs.MasksText.{masks_text}
+use Rattle.twin_worlds.specs.Twins.{TwinEnds}
+use Rattle.meteragg.specs.Twins.{TwinBytes, AreReadBy, TwinValues, AreTwinValues, Compared, RefusesFirst, RefusesSecond, TwinRefuses}
+use Rattle.meteragg.proofs.TwinLemmas.{agreeing_are_twins}
 use Rattle.meteragg.specs.declared.outcome.Outcome.{Outcome}
-use Rattle.meteragg.specs.declared.outcome.Outcome.TheVariants.{Done, NoMemory, BadWords, CannotRead, TooLong, CannotWrite, CannotPrint, BadPlan, BadReadings, BadTranscript, BadReport, Impossible, OtherRow, BadLane}
-use Rattle.meteragg.specs.Words.{RunNames, Size, Command, Run, Audit, Make, Load, Convert, Help, Version}
+use Rattle.meteragg.specs.declared.outcome.Outcome.TheVariants.{Done, NoMemory, BadWords, CannotRead, TooLong, CannotWrite, CannotPrint, BadPlan, BadReadings, BadTranscript, BadReport, Impossible, OtherRow, OtherPlan, OtherLine, OtherPresence, OtherTotal, BadLane}
+use Rattle.meteragg.specs.Words.{RunNames, TwinNames, Size, Command, Run, Audit, Twin, Make, Load, Convert, Help, Version}
 use Rattle.meteragg.specs.Calls.{most_bytes, EndsAtFetch, IsRead, after_fetches, Unread, Putting, putting, PutsEnd}
 use Rattle.transcript_text.specs.Spelling.{transcript_text}
-use Rattle.meteragg.specs.Ends.{fetched_by, put_by, converted_line, RefusesLane, RefusesReadings, RunRefuses, RunEnds, audited_line, AuditCommandEnds, made_plan_text, made_readings_text, made_line, MakeEnds, put_where, LoadRefuses, LoadEnds, ConvertRefuses, ConvertEnds, Ends}
+use Rattle.meteragg.specs.Ends.{fetched_by, put_by, converted_line, RefusesLane, RefusesReadings, RunRefuses, RunEnds, audited_line, AuditCommandEnds, compared_by, moved_line, TwinCommandEnds, made_plan_text, made_readings_text, made_line, MakeEnds, put_where, LoadRefuses, LoadEnds, ConvertRefuses, ConvertEnds, Ends}
 use Rattle.meteragg.specs.Outcomes.{status_of, IsFault}
-use Rattle.meteragg.specs.Accepted.{HoldsFile, RunAccepts, AuditAccepts, LoadAccepts, ConvertAccepts, Accepts, AcceptedIsDone}
+use Rattle.meteragg.specs.Accepted.{HoldsFile, RunAccepts, AuditAccepts, TwinAccepts, LoadAccepts, ConvertAccepts, Accepts, AcceptedIsDone}
 
 -- ---- what was read
 
@@ -76,6 +84,10 @@ puts_calm files line v w (BadTranscript name fault) ends = absurd ends
 puts_calm files line v w (BadReport name number) ends = absurd ends
 puts_calm files line v w (Impossible name number) ends = absurd ends
 puts_calm files line v w (OtherRow at from_frames reported) ends = absurd ends
+puts_calm files line v w (OtherPlan name) ends = absurd ends
+puts_calm files line v w (OtherLine name number expected) ends = absurd ends
+puts_calm files line v w (OtherPresence group round meter) ends = absurd ends
+puts_calm files line v w (OtherTotal group round first second) ends = absurd ends
 puts_calm files line v w (BadLane fault) ends = absurd ends
 
 -- fetches of which none finds too many bytes
@@ -94,6 +106,10 @@ unread_calm names v w (BadTranscript name fault) short ends = absurd ends
 unread_calm names v w (BadReport name line) short ends = absurd ends
 unread_calm names v w (Impossible name line) short ends = absurd ends
 unread_calm names v w (OtherRow at from_frames reported) short ends = absurd ends
+unread_calm names v w (OtherPlan name) short ends = absurd ends
+unread_calm names v w (OtherLine name line expected) short ends = absurd ends
+unread_calm names v w (OtherPresence group round meter) short ends = absurd ends
+unread_calm names v w (OtherTotal group round first second) short ends = absurd ends
 unread_calm names v w (BadLane fault) short ends = absurd ends
 
 one_is_short : (v w : View) (name told : List ℕ) → HoldsFile v name told → (last : List ℕ) → EndsAtFetch (name ∷ []) false v w last → IsLonger (v.held last) most_bytes → ⊥
@@ -140,6 +156,10 @@ nothing_refused cupboard names v p r (BadTranscript name fault) good p_read r_re
 nothing_refused cupboard names v p r (BadReport name line) good p_read r_read ends = absurd ends
 nothing_refused cupboard names v p r (Impossible name line) good p_read r_read ends = absurd ends
 nothing_refused cupboard names v p r (OtherRow at from_frames reported) good p_read r_read ends = absurd ends
+nothing_refused cupboard names v p r (OtherPlan name) good p_read r_read ends = absurd ends
+nothing_refused cupboard names v p r (OtherLine name line expected) good p_read r_read ends = absurd ends
+nothing_refused cupboard names v p r (OtherPresence group round meter) good p_read r_read ends = absurd ends
+nothing_refused cupboard names v p r (OtherTotal group round first second) good p_read r_read ends = absurd ends
 nothing_refused cupboard names v p r (BadLane fault) good p_read r_read ends = absurd (lanes_are_right cupboard names v good p fault p_read ends)
 
 run_calm : (cupboard : List Meaning) (names : RunNames) (v w : View) (outcome : Outcome) → RunAccepts cupboard names v → RunEnds cupboard names v w outcome → IsCalm outcome
@@ -196,6 +216,10 @@ audit_not_refused transcript report v tb rb (Impossible name line) good t_read r
 audit_not_refused transcript report v tb rb (OtherRow at one other) good t_read r_read (t, rows, texts, ends) =
     let same = audited_same transcript report v good tb rb t rows t_read r_read texts in
     absurd (no_difference t rows at one other (sym same.1 ∙ good.given ∙ ap rows_by_frames same.0) ends.first)
+audit_not_refused transcript report v tb rb (OtherPlan name) good t_read r_read ends = absurd ends
+audit_not_refused transcript report v tb rb (OtherLine name line expected) good t_read r_read ends = absurd ends
+audit_not_refused transcript report v tb rb (OtherPresence group round meter) good t_read r_read ends = absurd ends
+audit_not_refused transcript report v tb rb (OtherTotal group round first second) good t_read r_read ends = absurd ends
 audit_not_refused transcript report v tb rb (BadLane fault) good t_read r_read ends = absurd ends
 
 audit_calm : (transcript report : List ℕ) (v w : View) (outcome : Outcome) → AuditAccepts transcript report v → AuditCommandEnds transcript report v w outcome → IsCalm outcome
@@ -204,6 +228,96 @@ audit_calm transcript report v w outcome good (inl unread) =
 audit_calm transcript report v w outcome good (inr (tb, rb, t_read, r_read, inl refused)) = audit_not_refused transcript report v tb rb outcome good t_read r_read refused.0
 audit_calm transcript report v w outcome good (inr (tb, rb, t_read, r_read, inr (counts, audited, ends))) =
     puts_calm [] (audited_line counts.rows counts.totals) (after_fetches (transcript ∷ report ∷ []) v) w outcome ends
+
+-- ---- `twin`
+
+four_are_short : (v w : View) (one two three four a b c d : List ℕ) → HoldsFile v one a → HoldsFile v two b → HoldsFile v three c → HoldsFile v four d
+    → (last : List ℕ) → EndsAtFetch (one ∷ two ∷ three ∷ four ∷ []) false v w last → IsLonger (v.held last) most_bytes → ⊥
+four_are_short v w one two three four a b c d first second third fourth last (inl here) longer = not_longer v one a last first here.0 longer
+four_are_short v w one two three four a b c d first second third fourth last (inr (inl here)) longer = not_longer v two b last second here.0 longer
+four_are_short v w one two three four a b c d first second third fourth last (inr (inr (inl here))) longer = not_longer v three c last third here.0 longer
+four_are_short v w one two three four a b c d first second third fourth last (inr (inr (inr (inl here)))) longer = not_longer v four d last fourth here.0 longer
+four_are_short v w one two three four a b c d first second third fourth last (inr (inr (inr (inr none)))) longer = absurd none
+
+-- the bytes that were read are the accepted ones
+same_four : (names : TwinNames) (v : View) (good : TwinAccepts names v) (bytes : TwinBytes) → AreReadBy names v bytes → good.bytes ≡ bytes
+same_four names v good bytes read =
+    let plan : good.bytes.plan ≡ bytes.plan = read_is v names.plan good.bytes.plan bytes.plan good.plan read.plan in
+    let readings : good.bytes.readings ≡ bytes.readings = read_is v names.readings good.bytes.readings bytes.readings good.readings read.readings in
+    let other : good.bytes.other ≡ bytes.other = read_is v names.other good.bytes.other bytes.other good.other read.other in
+    let transcript : good.bytes.transcript ≡ bytes.transcript = read_is v names.transcript good.bytes.transcript bytes.transcript good.transcript read.transcript in
+    ap (λ p. record { plan = p; readings = good.bytes.readings; other = good.bytes.other; transcript = good.bytes.transcript }) plan
+    ∙ ap (λ r. record { plan = bytes.plan; readings = r; other = good.bytes.other; transcript = good.bytes.transcript }) readings
+    ∙ ap (λ o. record { plan = bytes.plan; readings = bytes.readings; other = o; transcript = good.bytes.transcript }) other
+    ∙ ap (λ t. record { plan = bytes.plan; readings = bytes.readings; other = bytes.other; transcript = t }) transcript
+
+-- so no fault of the first three files is theirs
+plan_not_refused : (names : TwinNames) (v : View) (good : TwinAccepts names v) (fault : FileError) → plan_of good.bytes.plan ≡ Err fault → ⊥
+plan_not_refused names v good fault bad = ok_or_err _ _ _ good.of_bytes.plan bad
+
+first_not_refused : (names : TwinNames) (v : View) (good : TwinAccepts names v) (fault : FileError) → RefusesFirst good.bytes fault → ⊥
+first_not_refused names v good fault (file, plan, bad) =
+    let same : good.values.file ≡ file = ok_same _ _ _ good.of_bytes.plan plan in
+    ok_or_err _ _ _ (ap (λ f. readings_of f.plan good.bytes.readings) (sym same) ∙ good.of_bytes.first) bad
+
+second_not_refused : (names : TwinNames) (v : View) (good : TwinAccepts names v) (fault : FileError) → RefusesSecond good.bytes fault → ⊥
+second_not_refused names v good fault (file, first, plan, is, bad) =
+    let same : good.values.file ≡ file = ok_same _ _ _ good.of_bytes.plan plan in
+    ok_or_err _ _ _ (ap (λ f. readings_of f.plan good.bytes.other) (sym same) ∙ good.of_bytes.second) bad
+
+-- the values of accepted bytes are the accepted ones
+same_values : (names : TwinNames) (v : View) (good : TwinAccepts names v) (values : TwinValues) → AreTwinValues good.bytes values → good.values ≡ values
+same_values names v good values are =
+    let file : good.values.file ≡ values.file = ok_same _ _ _ good.of_bytes.plan are.plan in
+    let first : good.values.first ≡ values.first =
+    ok_same _ _ _ (ap (λ f. readings_of f.plan good.bytes.readings) (sym file) ∙ good.of_bytes.first) are.first
+    in
+    let second : good.values.second ≡ values.second =
+    ok_same _ _ _ (ap (λ f. readings_of f.plan good.bytes.other) (sym file) ∙ good.of_bytes.second) are.second
+    in
+    ap (λ f. record { file = f; first = good.values.first; second = good.values.second }) file
+    ∙ ap (λ x. record { file = values.file; first = x; second = good.values.second }) first
+    ∙ ap (λ y. record { file = values.file; first = values.first; second = y }) second
+
+-- of which `twin` answers no cause
+none_compared : (names : TwinNames) (v : View) (good : TwinAccepts names v) (error : TwinError) → Compared good.bytes (Err error) → error ≢ twin.Memory → ⊥
+none_compared names v good error (values, are, ends) known =
+    let here : TwinEnds (streams good.values.file.keys) good.values.first good.values.second good.bytes.transcript (Err error) =
+    subst (λ values. TwinEnds (streams values.file.keys) values.first values.second good.bytes.transcript (Err error)) (sym (same_values names v good values are)) ends
+    in
+    known (agreeing_are_twins (streams good.values.file.keys) good.values.first good.values.second good.bytes.transcript good.lines error good.recorded good.agree here)
+
+twin_not_refused : (names : TwinNames) (v : View) (good : TwinAccepts names v) (outcome : Outcome) → TwinRefuses names good.bytes outcome → IsCalm outcome
+twin_not_refused names v good Done ends = absurd ends
+twin_not_refused names v good NoMemory ends = inr (inr refl)
+twin_not_refused names v good BadWords ends = absurd ends
+twin_not_refused names v good (CannotRead name) ends = absurd ends
+twin_not_refused names v good (TooLong name) ends = absurd ends
+twin_not_refused names v good (CannotWrite name) ends = absurd ends
+twin_not_refused names v good CannotPrint ends = absurd ends
+twin_not_refused names v good (BadPlan name fault) ends = absurd (plan_not_refused names v good fault ends.1)
+twin_not_refused names v good (BadReadings name fault) (inl ends) = absurd (first_not_refused names v good fault ends.1)
+twin_not_refused names v good (BadReadings name fault) (inr ends) = absurd (second_not_refused names v good fault ends.1)
+twin_not_refused names v good (BadTranscript name fault) ends = absurd (none_compared names v good (twin.Transcript fault) ends.1 (λ is. cc))
+twin_not_refused names v good (BadReport name line) ends = absurd ends
+twin_not_refused names v good (Impossible name line) ends = absurd ends
+twin_not_refused names v good (OtherRow at from_frames reported) ends = absurd ends
+twin_not_refused names v good (OtherPlan name) ends = absurd (none_compared names v good twin.Head ends.1 (λ is. cc))
+twin_not_refused names v good (OtherLine name line expected) (named, (found, ends)) = absurd (none_compared names v good (twin.NotThis line expected.line found expected.tick expected.fate) ends (λ is. cc))
+twin_not_refused names v good (OtherPresence group round meter) ends = absurd (none_compared names v good (twin.Differ (Presence group round meter)) ends (λ is. cc))
+twin_not_refused names v good (OtherTotal group round first second) ends = absurd (none_compared names v good (twin.Differ (Total group round first second)) ends (λ is. cc))
+twin_not_refused names v good (BadLane fault) ends = absurd ends
+
+twin_calm : (names : TwinNames) (v w : View) (outcome : Outcome) → TwinAccepts names v → TwinCommandEnds names v w outcome → IsCalm outcome
+twin_calm names v w outcome good (inl unread) =
+    unread_calm (compared_by names) v w outcome
+    (four_are_short v w names.plan names.readings names.other names.transcript good.bytes.plan good.bytes.readings good.bytes.other good.bytes.transcript
+    good.plan good.readings good.other good.transcript)
+    unread
+twin_calm names v w outcome good (inr (bytes, read, inl refused)) =
+    twin_not_refused names v good outcome (subst (λ bytes. TwinRefuses names bytes outcome) (sym (same_four names v good bytes read)) refused.0)
+twin_calm names v w outcome good (inr (bytes, read, inr (rows, compared, ends))) =
+    puts_calm (putting names.masks (masks_text rows) ∷ []) (moved_line (length rows)) (after_fetches (compared_by names) v) w outcome ends
 
 -- ---- `make` and `load`
 
@@ -225,6 +339,10 @@ load_not_refused cupboard size (BadTranscript name fault) good ends = absurd end
 load_not_refused cupboard size (BadReport name line) good ends = absurd ends
 load_not_refused cupboard size (Impossible name line) good ends = absurd ends
 load_not_refused cupboard size (OtherRow at one other) good ends = absurd ends
+load_not_refused cupboard size (OtherPlan name) good ends = absurd ends
+load_not_refused cupboard size (OtherLine name line expected) good ends = absurd ends
+load_not_refused cupboard size (OtherPresence group round meter) good ends = absurd ends
+load_not_refused cupboard size (OtherTotal group round first second) good ends = absurd ends
 load_not_refused cupboard size (BadLane fault) good ends = absurd (ok_or_err _ _ _ good.lanes ends)
 
 load_calm : (cupboard : List Meaning) (size : Size) (transcript : Option (List ℕ)) (v w : View) (outcome : Outcome) → LoadAccepts cupboard size
@@ -255,6 +373,10 @@ text_not_refused old v bytes (BadTranscript name fault) good is ends = absurd (o
 text_not_refused old v bytes (BadReport name line) good is ends = absurd ends
 text_not_refused old v bytes (Impossible name line) good is ends = absurd ends
 text_not_refused old v bytes (OtherRow at from_frames reported) good is ends = absurd ends
+text_not_refused old v bytes (OtherPlan name) good is ends = absurd ends
+text_not_refused old v bytes (OtherLine name line expected) good is ends = absurd ends
+text_not_refused old v bytes (OtherPresence group round meter) good is ends = absurd ends
+text_not_refused old v bytes (OtherTotal group round first second) good is ends = absurd ends
 text_not_refused old v bytes (BadLane fault) good is ends = absurd ends
 
 convert_calm : (old transcript : List ℕ) (v w : View) (outcome : Outcome) → ConvertAccepts old v → ConvertEnds old transcript v w outcome → IsCalm outcome
@@ -268,6 +390,7 @@ convert_calm old transcript v w outcome good (inr (bytes, is, inr (t, has, text,
 command_calm : (cupboard : List Meaning) (command : Command) (v w : View) (outcome : Outcome) → Accepts cupboard command v → Ends cupboard (Some command) v w outcome → IsCalm outcome
 command_calm cupboard (Run names workers) v w outcome good ends = run_calm cupboard names v w outcome good ends
 command_calm cupboard (Audit transcript report) v w outcome good ends = audit_calm transcript report v w outcome good ends
+command_calm cupboard (Twin names) v w outcome good ends = twin_calm names v w outcome good ends
 command_calm cupboard (Make size plan readings) v w outcome good ends = make_calm size plan readings v w outcome ends
 command_calm cupboard (Load size workers transcript) v w outcome good ends = load_calm cupboard size transcript v w outcome good ends
 command_calm cupboard (Convert old transcript) v w outcome good ends = convert_calm old transcript v w outcome good ends

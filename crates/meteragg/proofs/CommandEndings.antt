@@ -1,7 +1,7 @@
 -- How commands end, from how their parts do.
-use Rattle.std.proofs.Common.{◌≡◌, List, [], ◌∷◌, ℕ, length, inl, inr, subst, sym, ap, ◌∙◌, refl, Result, Ok, Err}
+use Rattle.std.proofs.Common.{◌≡◌, List, [], ◌∷◌, ℕ, Bool, true, false, length, inl, inr, subst, sym, ap, ◌∙◌, refl, Result, Ok, Err}
 use Rattle.std.specs.Prelude.{Option, None, Some}
-use Rattle.desk_outside.specs.Desk.{View}
+use Rattle.desk_outside.specs.Desk.{View, IsLonger, after_step}
 use Rattle.link_lanes.specs.Lanes.{Meaning}
 use Rattle.transcript_text.specs.declared.version.Version.TheVariants.{One}
 use Rattle.transcript_text.specs.Transcripts.{TranscriptView}
@@ -11,9 +11,13 @@ use Rattle.meteragg.specs.declared.texts.Refusal.{Refusal}
 use Rattle.meteragg.specs.declared.texts.Refusal.TheVariants as refusal
 use Rattle.meteragg.specs.RunTexts.{TextsEnd}
 use Rattle.meteragg.specs.declared.outcome.Outcome.{Outcome}
-use Rattle.meteragg.specs.Words.{RunNames, Size}
-use Rattle.meteragg.specs.Calls.{IsRead, after_fetches, putting, PutsEnd}
-use Rattle.meteragg.specs.Ends.{fetched_by, put_by, RunEnds, RefusesReadings, audited_line, AuditCommandEnds, made_file_of, made_plan_text, made_readings_text, put_where, LoadEnds, converted_line, ConvertEnds}
+use Rattle.meteragg.specs.declared.outcome.Outcome.TheVariants.{Done, NoMemory, BadWords, CannotRead, TooLong, CannotWrite, CannotPrint, BadPlan, BadReadings, BadTranscript, BadReport, Impossible, OtherRow, OtherPlan, OtherLine, OtherPresence, OtherTotal, BadLane}
+use Rattle.twin_worlds.specs.declared.rows.MovedRow.{MovedRow}
+use Rattle.twin_worlds.specs.MasksText.{masks_text}
+use Rattle.meteragg.specs.Twins.{TwinBytes, AreReadBy, Compared, TwinRefuses}
+use Rattle.meteragg.specs.Words.{RunNames, TwinNames, Size}
+use Rattle.meteragg.specs.Calls.{most_bytes, HasFetched, EndsAtFetch, Unread, IsRead, after_fetches, putting, PutsEnd}
+use Rattle.meteragg.specs.Ends.{fetched_by, put_by, RunEnds, RefusesReadings, audited_line, AuditCommandEnds, compared_by, moved_line, TwinCommandEnds, made_file_of, made_plan_text, made_readings_text, put_where, LoadEnds, converted_line, ConvertEnds}
 use Rattle.audit_check.specs.declared.answers.AuditCounts.{AuditCounts}
 use Rattle.plan_files.specs.declared.fault.FileError.{FileError}
 use Rattle.plan_files.specs.PlanFiles.{plan_of}
@@ -127,4 +131,130 @@ load_ends cupboard size name given v w texts outcome p r transcript summary name
       here,
       is_only cupboard (made_plan_text size) (made_readings_text size) texts here,
       subst (λ n. PutsEnd (put_where n texts.transcript) texts.summary v w outcome) (sym name_is) by_summary,
+    )
+
+-- ---- `twin`
+
+-- a fetch leaves what the names hold
+held_after_two : (a b : List ℕ) (v u : View) → u ≡ after_fetches (a ∷ b ∷ []) v → u.held ≡ v.held
+unfolding after_step
+held_after_two a b v u after = ap (λ v. v.held) after
+
+read_after_two : (a b name bytes : List ℕ) (v u : View) → u ≡ after_fetches (a ∷ b ∷ []) v → IsRead (u.held name) bytes → IsRead (v.held name) bytes
+read_after_two a b name bytes v u after is = subst (λ held. IsRead (held name) bytes) (held_after_two a b v u after) is
+
+-- what ends the fetch of two files, ends that of four
+some_of_two : (a b c d : List ℕ) (v w : View) → HasFetched (a ∷ b ∷ []) v w → HasFetched (a ∷ b ∷ c ∷ d ∷ []) v w
+some_of_two a b c d v w (inl none) = inl none
+some_of_two a b c d v w (inr (inl one)) = inr (inl one)
+some_of_two a b c d v w (inr (inr two)) = inr (inr (inl two))
+
+last_of_two : (a b c d last : List ℕ) (failed : Bool) (v w : View) → EndsAtFetch (a ∷ b ∷ []) failed v w last → EndsAtFetch (a ∷ b ∷ c ∷ d ∷ []) failed v w last
+last_of_two a b c d last failed v w (inl here) = inl here
+last_of_two a b c d last failed v w (inr (inl here)) = inr (inl here)
+last_of_two a b c d last failed v w (inr (inr none)) = absurd none
+
+pub first_unread : (a b c d : List ℕ) (v w : View) (outcome : Outcome) → Unread (a ∷ b ∷ []) v w outcome → Unread (a ∷ b ∷ c ∷ d ∷ []) v w outcome
+first_unread a b c d v w Done ends = absurd ends
+first_unread a b c d v w NoMemory ends = some_of_two a b c d v w ends
+first_unread a b c d v w BadWords ends = absurd ends
+first_unread a b c d v w (CannotRead name) ends = last_of_two a b c d name.now true v w ends
+first_unread a b c d v w (TooLong name) ends = (last_of_two a b c d name.now false v w ends.0, ends.1)
+first_unread a b c d v w (CannotWrite name) ends = absurd ends
+first_unread a b c d v w CannotPrint ends = absurd ends
+first_unread a b c d v w (BadPlan name fault) ends = absurd ends
+first_unread a b c d v w (BadReadings name fault) ends = absurd ends
+first_unread a b c d v w (BadTranscript name fault) ends = absurd ends
+first_unread a b c d v w (BadReport name line) ends = absurd ends
+first_unread a b c d v w (Impossible name line) ends = absurd ends
+first_unread a b c d v w (OtherRow at from_frames reported) ends = absurd ends
+first_unread a b c d v w (OtherPlan name) ends = absurd ends
+first_unread a b c d v w (OtherLine name line expected) ends = absurd ends
+first_unread a b c d v w (OtherPresence group round meter) ends = absurd ends
+first_unread a b c d v w (OtherTotal group round first second) ends = absurd ends
+first_unread a b c d v w (BadLane fault) ends = absurd ends
+
+-- and so does what ends the fetch of the other two
+pub then_unread : (a b c d : List ℕ) (v u w : View) (outcome : Outcome) → u ≡ after_fetches (a ∷ b ∷ []) v → Unread (c ∷ d ∷ []) u w outcome
+    → Unread (a ∷ b ∷ c ∷ d ∷ []) v w outcome
+then_unread a b c d v u w Done after ends = absurd ends
+then_unread a b c d v u w NoMemory after ends = inr (inr (subst (λ u. HasFetched (c ∷ d ∷ []) u w) after ends))
+then_unread a b c d v u w BadWords after ends = absurd ends
+then_unread a b c d v u w (CannotRead name) after ends = inr (inr (subst (λ u. EndsAtFetch (c ∷ d ∷ []) true u w name.now) after ends))
+then_unread a b c d v u w (TooLong name) after ends = (
+  inr (inr (subst (λ u. EndsAtFetch (c ∷ d ∷ []) false u w name.now) after ends.0)),
+  subst (λ held. IsLonger (held name.now) most_bytes) (held_after_two a b v u after) ends.1,
+)
+then_unread a b c d v u w (CannotWrite name) after ends = absurd ends
+then_unread a b c d v u w CannotPrint after ends = absurd ends
+then_unread a b c d v u w (BadPlan name fault) after ends = absurd ends
+then_unread a b c d v u w (BadReadings name fault) after ends = absurd ends
+then_unread a b c d v u w (BadTranscript name fault) after ends = absurd ends
+then_unread a b c d v u w (BadReport name line) after ends = absurd ends
+then_unread a b c d v u w (Impossible name line) after ends = absurd ends
+then_unread a b c d v u w (OtherRow at from_frames reported) after ends = absurd ends
+then_unread a b c d v u w (OtherPlan name) after ends = absurd ends
+then_unread a b c d v u w (OtherLine name line expected) after ends = absurd ends
+then_unread a b c d v u w (OtherPresence group round meter) after ends = absurd ends
+then_unread a b c d v u w (OtherTotal group round first second) after ends = absurd ends
+then_unread a b c d v u w (BadLane fault) after ends = absurd ends
+
+-- the bytes of four files that were read one after the other
+four_read : (names : TwinNames) (v u : View) (p r o t : List ℕ) → IsRead (v.held names.plan) p → IsRead (v.held names.readings) r
+    → u ≡ after_fetches (names.plan ∷ names.readings ∷ []) v → IsRead (u.held names.other) o → IsRead (u.held names.transcript) t
+    → AreReadBy names v (record { plan = p; readings = r; other = o; transcript = t })
+four_read names v u p r o t p_read r_read after o_read t_read = record {
+  plan = p_read;
+  readings = r_read;
+  other = read_after_two names.plan names.readings names.other o v u after o_read;
+  transcript = read_after_two names.plan names.readings names.transcript t v u after t_read;
+}
+
+four_after : (names : TwinNames) (v u w : View) → u ≡ after_fetches (names.plan ∷ names.readings ∷ []) v → w ≡ after_fetches (names.other ∷ names.transcript ∷ []) u
+    → w ≡ after_fetches (compared_by names) v
+four_after names v u w first second = second ∙ ap (after_fetches (names.other ∷ names.transcript ∷ [])) first
+
+-- the four texts that are compared are the bytes that were read
+same_texts : (P : TwinBytes → Type 0) (p r o t gp gr go gt : List ℕ) → gp ≡ p → gr ≡ r → go ≡ o → gt ≡ t
+    → P (record { plan = gp; readings = gr; other = go; transcript = gt }) → P (record { plan = p; readings = r; other = o; transcript = t })
+same_texts P p r o t gp gr go gt p_is r_is o_is t_is holds =
+    subst (λ x. P (record { plan = p; readings = r; other = o; transcript = x })) t_is
+    (subst (λ x. P (record { plan = p; readings = r; other = x; transcript = gt })) o_is
+    (subst (λ x. P (record { plan = p; readings = x; other = go; transcript = gt })) r_is
+    (subst (λ x. P (record { plan = x; readings = gr; other = go; transcript = gt })) p_is holds)))
+
+-- what the four files say is refused
+pub twin_refused : (names : TwinNames) (v u w : View) (outcome : Outcome) (p r o t gp gr go gt : List ℕ) → IsRead (v.held names.plan) p
+    → IsRead (v.held names.readings) r → u ≡ after_fetches (names.plan ∷ names.readings ∷ []) v → IsRead (u.held names.other) o → IsRead (u.held names.transcript) t
+    → w ≡ after_fetches (names.other ∷ names.transcript ∷ []) u → gp ≡ p → gr ≡ r → go ≡ o → gt ≡ t
+    → TwinRefuses names (record { plan = gp; readings = gr; other = go; transcript = gt }) outcome → TwinCommandEnds names v w outcome
+twin_refused names v u w outcome p r o t gp gr go gt p_read r_read first o_read t_read second p_is r_is o_is t_is refused =
+    inr (
+      record { plan = p; readings = r; other = o; transcript = t },
+      four_read names v u p r o t p_read r_read first o_read t_read,
+      inl (same_texts (λ bytes. TwinRefuses names bytes outcome) p r o t gp gr go gt p_is r_is o_is t_is refused, four_after names v u w first second),
+    )
+
+-- the file of the moved words is put
+pub twin_ends : (names : TwinNames) (v u x w : View) (outcome : Outcome) (rows : List MovedRow) (count : ℕ) (p r o t gp gr go gt text line : List ℕ)
+    → IsRead (v.held names.plan) p → IsRead (v.held names.readings) r → u ≡ after_fetches (names.plan ∷ names.readings ∷ []) v
+    → IsRead (u.held names.other) o → IsRead (u.held names.transcript) t → x ≡ after_fetches (names.other ∷ names.transcript ∷ []) u
+    → gp ≡ p → gr ≡ r → go ≡ o → gt ≡ t → Compared (record { plan = gp; readings = gr; other = go; transcript = gt }) (Ok rows)
+    → text ≡ masks_text rows → line ≡ moved_line count → count ≡ length rows
+    → PutsEnd (putting names.masks text ∷ []) line x w outcome → TwinCommandEnds names v w outcome
+twin_ends names v u x w outcome rows count p r o t gp gr go gt text line p_read r_read first o_read t_read second p_is r_is o_is t_is compared text_is line_is count_is ends =
+    let by_text : PutsEnd (putting names.masks (masks_text rows) ∷ []) line x w outcome =
+    subst (λ text. PutsEnd (putting names.masks text ∷ []) line x w outcome) text_is ends
+    in
+    let by_line : PutsEnd (putting names.masks (masks_text rows) ∷ []) (moved_line (length rows)) x w outcome =
+    subst (λ line. PutsEnd (putting names.masks (masks_text rows) ∷ []) line x w outcome) (line_is ∙ ap moved_line count_is) by_text
+    in
+    inr (
+      record { plan = p; readings = r; other = o; transcript = t },
+      four_read names v u p r o t p_read r_read first o_read t_read,
+      inr (
+        rows,
+        same_texts (λ bytes. Compared bytes (Ok rows)) p r o t gp gr go gt p_is r_is o_is t_is compared,
+        subst (λ x. PutsEnd (putting names.masks (masks_text rows) ∷ []) (moved_line (length rows)) x w outcome) (four_after names v u x first second) by_line,
+      ),
     )

@@ -1,5 +1,8 @@
 pub mod AcceptedLemmas
 mod CommandEndings
+mod CupboardLemmas
 pub mod RunLemmas
 pub mod StoredLemmas
 mod StreamLemmas
+mod TwinLemmas
+pub mod ComplaintLemmas

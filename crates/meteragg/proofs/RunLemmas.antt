@@ -303,7 +303,7 @@ makes cupboard plan_bytes readings_bytes file lanes slots readings book t texts 
 
 -- ---- refusals
 
-but_memory : (what : FileCause) (claim : Type 0) → (what ≡ cause.Memory → ⊥) → ButMemory what claim → claim
+pub but_memory : (what : FileCause) (claim : Type 0) → (what ≡ cause.Memory → ⊥) → ButMemory what claim → claim
 but_memory cause.Memory claim other is = absurd (other refl)
 but_memory cause.Row claim other is = is
 but_memory cause.Fields claim other is = is

@@ -1,4 +1,4 @@
--- The audit finds no fault in what a run stored.
+-- What a run stored: the audit finds no fault in it, and it is the record of the readings.
 use Rattle.std.proofs.Common.{◌≡◌, ◌^◌, ◌<◌, ℕ, List, sym, ap, ◌∙◌, subst, Result, Ok}
 use Rattle.std.specs.Prelude.{Option}
 use Rattle.link_lanes.specs.Lanes.{Meaning}
@@ -16,7 +16,10 @@ use Rattle.audit_check.specs.Statements.{IsHonest, FindsNone}
 use Rattle.audit_check.proofs.HonestLemmas.{honest_are_accepted}
 use Rattle.meteragg.specs.Runs.{Values, plan_in, readings_in, row_in, transcript_in, Texts, Makes}
 use Rattle.meteragg.specs.Audits.{AreAuditTexts, Audited, RunsAreConfirmed}
-use Rattle.meteragg.proofs.RunLemmas.{bounded}
+use Rattle.transcript_log.specs.Events.{events_of}
+use Rattle.transcript_log.specs.Transcript.{transcript}
+use Rattle.meteragg.specs.Twins.{RunsAreRecorded}
+use Rattle.meteragg.proofs.RunLemmas.{bounded, plan_of_readings}
 
 same_ok : {A E : Type 0} (r : Result A E) (a b : A) → r ≡ Ok a → r ≡ Ok b → a ≡ b
 same_ok r a b first second = cc
@@ -51,3 +54,22 @@ runs_are_confirmed cupboard p r texts made = record {
   read = record { sound = made.told.sound; transcript = made.told.read_back; report = made.told.rows_back };
   none = no_fault cupboard p r texts made;
 }
+
+-- the transcript of a run is the record of its readings
+pub runs_are_recorded : RunsAreRecorded
+runs_are_recorded cupboard p r texts made =
+    let plan : made.values.readings.plan ≡ plan_in made.values =
+    plan_of_readings (plan_in made.values) r made.values.readings made.of_bytes.readings
+    in (
+      made.values.file,
+      made.values.readings,
+      transcript_in made.values made.entries,
+      made.of_bytes.plan,
+      made.of_bytes.readings,
+      record {
+        text_of = record { sound = made.told.sound; text_is = made.told.transcript; read = made.told.read_back };
+        plan_is = sym plan;
+        lines_are = made.run.lines
+            ∙ ap (λ plan. transcript plan.groups (readings_in made.values) (streams made.values.file.keys) (events_of made.entries)) (sym plan);
+      },
+    )

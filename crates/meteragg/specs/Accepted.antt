@@ -1,5 +1,5 @@
 -- What is enough for a command to be done.
-use Rattle.std.specs.Prelude.{◌≡◌, ◌≤◌, ◌⊎◌, ℕ, List, length, Option, Some, Ok}
+use Rattle.std.specs.Prelude.{◌≡◌, ◌≤◌, ◌⊎◌, ℕ, List, length, reverse, Option, Some, Ok}
 use Rattle.desk_outside.specs.Desk.{View, Rose}
 use Rattle.link_lanes.specs.Lanes.{Meaning, Slot}
 use Rattle.link_lanes.specs.Fits.{hung_by}
@@ -10,10 +10,16 @@ use Rattle.transcript_text.specs.declared.version.Version.TheVariants.{One}
 use Rattle.transcript_text.specs.Transcripts.{TranscriptView}
 use Rattle.transcript_text.specs.ReadBack.{HasText}
 use Rattle.transcript_text.specs.Spelling.{text_of}
-use Rattle.meteragg.specs.Words.{RunNames, Size, Command, Run, Audit, Make, Load, Convert, Help, Version}
+use Rattle.group_plan.specs.Tables.{reading}
+use Rattle.mask_stream.specs.KeyStreams.{streams}
+use Rattle.transcript_log.specs.Events.{events_of}
+use Rattle.ideal_masks.specs.Offsets.{Agree}
+use Rattle.twin_worlds.specs.Twins.{IsRecord}
+use Rattle.meteragg.specs.Words.{RunNames, TwinNames, Size, Command, Run, Audit, Twin, Make, Load, Convert, Help, Version}
 use Rattle.meteragg.specs.Calls.{most_bytes}
 use Rattle.meteragg.specs.Ends.{made_file_of}
 use Rattle.meteragg.specs.Audits.{AreAuditTexts}
+use Rattle.meteragg.specs.Twins.{TwinBytes, TwinValues, AreTwinValues}
 use Rattle.meteragg.specs.Runs.{Values, AreValues}
 
 -- the desk tells that the name holds these bytes, and they are not too many
@@ -42,6 +48,20 @@ pub record AuditAccepts (transcript report : List ℕ) (v : View) : Type 0 where
   pub possible : IsPossible lines.plan.groups (lines_in lines)
   pub given : rows ≡ rows_by_frames lines
 
+-- the three files of `twin` have values, TRANSCRIPT holds the record of the first table under the stream words of the keys, and the second table agrees
+-- with the first in every opened total
+pub record TwinAccepts (names : TwinNames) (v : View) : Type 0 where
+  pub bytes : TwinBytes
+  pub plan : HoldsFile v names.plan bytes.plan
+  pub readings : HoldsFile v names.readings bytes.readings
+  pub other : HoldsFile v names.other bytes.other
+  pub transcript : HoldsFile v names.transcript bytes.transcript
+  pub values : TwinValues
+  pub of_bytes : AreTwinValues bytes values
+  pub lines : TranscriptView
+  pub recorded : IsRecord (streams values.file.keys) values.first bytes.transcript lines
+  pub agree : Agree values.first.plan.groups (reading values.first.table) (reading values.second.table) (reverse (events_of lines.entries))
+
 -- the cupboard has the lane of the files of a size
 pub record LoadAccepts (cupboard : List Meaning) (size : Size) : Type 0 where
   pub slots : List Slot
@@ -59,6 +79,7 @@ pub record ConvertAccepts (old : List ℕ) (v : View) : Type 0 where
 abbrev pub Accepts : List Meaning → Command → View → Type 0
 Accepts cupboard (Run names workers) v = RunAccepts cupboard names v
 Accepts cupboard (Audit transcript report) v = AuditAccepts transcript report v
+Accepts cupboard (Twin names) v = TwinAccepts names v
 Accepts cupboard (Make size plan readings) v = Unit {0}
 Accepts cupboard (Load size workers transcript) v = LoadAccepts cupboard size
 Accepts cupboard (Convert old transcript) v = ConvertAccepts old v

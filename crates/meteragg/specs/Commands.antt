@@ -4,9 +4,15 @@ use Rattle.std.specs.Option.{option_map}
 use Rattle.std.specs.Borrow.{Bor}
 use Rattle.load_maker.specs.Sizes.{is_within}
 use Rattle.meteragg.specs.declared.words.Size.{Size as KeptSize}
+use Rattle.meteragg.specs.declared.words.TwinFiles.{TwinFiles}
 use Rattle.meteragg.specs.declared.words.Command.{Command as Kept}
 use Rattle.meteragg.specs.declared.words.Command.TheVariants as kept
-use Rattle.meteragg.specs.Words.{Size, Command, Run, Audit, Make, Load, Convert, Help, Version, names_of}
+use Rattle.meteragg.specs.Words.{TwinNames, Size, Command, Run, Audit, Twin, Make, Load, Convert, Help, Version, names_of}
+
+-- the names of the files of `twin`
+abbrev pub twin_names_of : TwinFiles → TwinNames
+twin_names_of files =
+    record { plan = files.plan.now; readings = files.readings.now; other = files.other.now; transcript = files.transcript.now; masks = files.masks.now }
 
 -- the size that is meant
 abbrev pub size_in : KeptSize → Size
@@ -20,6 +26,7 @@ name_in name = option_map (λ n. n.now) name
 abbrev pub asked : Kept → Command
 asked (kept.Run words) = Run (names_of words.files) words.workers
 asked (kept.Audit files) = Audit files.transcript.now files.report.now
+asked (kept.Twin files) = Twin (twin_names_of files)
 asked (kept.Make words) = Make (size_in words.size) words.plan.now words.readings.now
 asked (kept.Load words) = Load (size_in words.size) words.workers (name_in words.transcript)
 asked (kept.Convert files) = Convert files.old.now files.transcript.now

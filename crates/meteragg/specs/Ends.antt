@@ -16,12 +16,15 @@ use Rattle.transcript_text.specs.Heads.{read_of}
 use Rattle.meteragg.specs.declared.usage.TheConstants.{USAGE, VERSION}
 use Rattle.meteragg.specs.declared.outcome.Outcome.{Outcome}
 use Rattle.meteragg.specs.declared.outcome.Outcome.TheVariants.{NoMemory, BadWords, BadPlan, BadReadings, BadTranscript, BadLane}
-use Rattle.meteragg.specs.Words.{RunNames, Size, Command, Run, Audit, Make, Load, Convert, Help, Version}
+use Rattle.meteragg.specs.Words.{RunNames, TwinNames, Size, Command, Run, Audit, Twin, Make, Load, Convert, Help, Version}
 use Rattle.meteragg.specs.Calls.{IsRead, after_fetches, Unread, Putting, putting, PutsEnd}
 use Rattle.plan_files.specs.Spelling.{plan_text, readings_text}
 use Rattle.load_maker.specs.Made.{made_file, made_readings}
 use Rattle.audit_check.specs.declared.answers.AuditCounts.{AuditCounts}
 use Rattle.meteragg.specs.Audits.{Audited, AuditRefuses}
+use Rattle.twin_worlds.specs.declared.rows.MovedRow.{MovedRow}
+use Rattle.twin_worlds.specs.MasksText.{masks_text}
+use Rattle.meteragg.specs.Twins.{TwinBytes, AreReadBy, Compared, TwinRefuses}
 use Rattle.meteragg.specs.Runs.{Texts, Makes, IsOnly}
 
 -- ---- `run PLAN READINGS REPORT TRANSCRIPT [WORKERS]`
@@ -82,6 +85,29 @@ AuditCommandEnds transcript report v w outcome =
     ⊎ ((tb rb : List ℕ) × IsRead (v.held transcript) tb × IsRead (v.held report) rb
     × ((AuditRefuses transcript report tb rb outcome × (w ≡ after_fetches (transcript ∷ report ∷ []) v))
     ⊎ Confirms tb rb (after_fetches (transcript ∷ report ∷ []) v) w outcome))
+
+-- ---- `twin PLAN READINGS OTHER TRANSCRIPT MASKS`
+
+-- the files that it fetches, in order
+abbrev pub compared_by : TwinNames → List (List ℕ)
+compared_by names = names.plan ∷ names.readings ∷ names.other ∷ names.transcript ∷ []
+
+-- the line that it says
+unfoldable pub moved_line : ℕ → List ℕ
+moved_line rows = ended (codes "twin: moved=" ++ decimal rows)
+
+-- the tables agree, and the file of the moved words is put and their number said
+abbrev pub MasksPut : TwinNames → TwinBytes → View → View → Outcome → Type 0
+MasksPut names bytes v w outcome =
+    (rows : List MovedRow) × Compared bytes (Ok rows) × PutsEnd (putting names.masks (masks_text rows) ∷ []) (moved_line (length rows)) v w outcome
+
+-- how it ends: a file is not read, or what they say is refused, or the file of the moved words is put
+abbrev pub TwinCommandEnds : TwinNames → View → View → Outcome → Type 0
+TwinCommandEnds names v w outcome =
+    Unread (compared_by names) v w outcome
+    ⊎ ((bytes : TwinBytes) × AreReadBy names v bytes
+    × ((TwinRefuses names bytes outcome × (w ≡ after_fetches (compared_by names) v))
+    ⊎ MasksPut names bytes (after_fetches (compared_by names) v) w outcome))
 
 -- ---- `make SEED GROUPS METERS ROUNDS PLAN READINGS`
 
@@ -158,6 +184,7 @@ abbrev pub Ends : List Meaning → Option Command → View → View → Outcome 
 Ends cupboard None v w outcome = (outcome ≡ BadWords) × (w ≡ v)
 Ends cupboard (Some (Run names workers)) v w outcome = RunEnds cupboard names v w outcome
 Ends cupboard (Some (Audit transcript report)) v w outcome = AuditCommandEnds transcript report v w outcome
+Ends cupboard (Some (Twin names)) v w outcome = TwinCommandEnds names v w outcome
 Ends cupboard (Some (Make size plan readings)) v w outcome = MakeEnds size plan readings v w outcome
 Ends cupboard (Some (Load size workers transcript)) v w outcome = LoadEnds cupboard size transcript v w outcome
 Ends cupboard (Some (Convert old transcript)) v w outcome = ConvertEnds old transcript v w outcome

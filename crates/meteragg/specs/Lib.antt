@@ -6,6 +6,8 @@ pub mod Outcomes
 pub mod Runs
 pub mod RunTexts
 pub mod Audits
+pub mod Twins
+pub mod TwinTexts
 pub mod Ends
 pub mod Accepted
 pub mod Promise

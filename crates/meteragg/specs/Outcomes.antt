@@ -4,10 +4,13 @@ use Rattle.std.specs.Fmt.{decimal}
 use Rattle.desk_outside.specs.Desk.{View, Complained, IsPrefixOf, after_step}
 use Rattle.plan_files.specs.declared.fault.FileError.{FileError}
 use Rattle.meteragg.specs.declared.outcome.Outcome.{Outcome}
-use Rattle.meteragg.specs.declared.outcome.Outcome.TheVariants.{Done, NoMemory, BadWords, CannotRead, TooLong, CannotWrite, CannotPrint, BadPlan, BadReadings, BadTranscript, BadReport, Impossible, OtherRow, BadLane}
+use Rattle.meteragg.specs.declared.outcome.Outcome.TheVariants.{Done, NoMemory, BadWords, CannotRead, TooLong, CannotWrite, CannotPrint, BadPlan, BadReadings, BadTranscript, BadReport, Impossible, OtherRow, OtherPlan, OtherLine, OtherPresence, OtherTotal, BadLane}
 use Rattle.meteragg.specs.Causes.{cause_text, rack_cause_name, read_error_name}
 use Rattle.transcript_text.specs.Faults.{fault_line}
 use Rattle.transcript_text.specs.declared.fault.ReadError.{ReadError}
+use Rattle.transcript_text.specs.declared.version.Version.TheVariants.{Two}
+use Rattle.transcript_text.specs.Spelling.{entry_text}
+use Rattle.transcript_text.specs.Writing.{IsWritable}
 use Rattle.totals_report.specs.declared.row.ReportRow.{ReportRow}
 use Rattle.totals_report.specs.Texts.{row_line}
 
@@ -25,6 +28,10 @@ status_of (BadTranscript name fault) = 7
 status_of (BadReport name line) = 7
 status_of (Impossible name line) = 7
 status_of (OtherRow at from_frames reported) = 9
+status_of (OtherPlan name) = 7
+status_of (OtherLine name line expected) = 7
+status_of (OtherPresence group round meter) = 8
+status_of (OtherTotal group round first second) = 8
 status_of (BadLane fault) = 10
 
 -- the complaint of a file: its name, the row, and the cause
@@ -62,9 +69,15 @@ complaint_of (BadTranscript name fault) = line_complaint name.now (fault_line fa
 complaint_of (BadReport name line) = line_complaint name.now line (codes "Line")
 complaint_of (Impossible name line) = line_complaint name.now line (codes "impossible")
 complaint_of (OtherRow at from_frames reported) = row_complaint at from_frames reported
+complaint_of (OtherPlan name) = codes "meteragg: " ++ name.now ++ codes ": other plan\n"
+complaint_of (OtherLine name line expected) = line_complaint name.now line (codes "expected " ++ entry_text Two expected)
+complaint_of (OtherPresence group round meter) =
+    codes "meteragg: presence " ++ (decimal group ++ (codes " " ++ (decimal round ++ (codes " " ++ (decimal meter ++ codes "\n")))))
+complaint_of (OtherTotal group round first second) =
+    codes "meteragg: total " ++ (decimal group ++ (codes " " ++ (decimal round ++ (codes " " ++ (decimal first ++ (codes " " ++ (decimal second ++ codes "\n")))))))
 complaint_of (BadLane fault) = codes "meteragg: lane row " ++ (decimal fault.row ++ (codes ": " ++ (rack_cause_name fault.cause ++ codes "\n")))
 
--- the outcomes whose complaint is a text of its own, without a row of a report
+-- the outcomes whose complaint is a text of its own, without a row of a report or a line of a transcript
 abbrev pub IsText : Outcome → Type 0
 IsText (OtherRow at from_frames reported) = ⊥
 IsText Done = ⊤
@@ -79,7 +92,16 @@ IsText (BadReadings name fault) = ⊤
 IsText (BadTranscript name fault) = ⊤
 IsText (BadReport name line) = ⊤
 IsText (Impossible name line) = ⊤
+IsText (OtherPlan name) = ⊤
+IsText (OtherLine name line expected) = ⊥
+IsText (OtherPresence group round meter) = ⊤
+IsText (OtherTotal group round first second) = ⊤
 IsText (BadLane fault) = ⊤
+
+-- an expected line has a text
+abbrev pub HasComplaint : Outcome → Type 0
+HasComplaint (OtherLine name line expected) = IsWritable expected.line
+HasComplaint _ = ⊤
 
 -- the text was complained, or a prefix of it where that call failed, or nothing where no memory was found
 abbrev pub Complains : List ℕ → View → View → Type 0
@@ -102,6 +124,10 @@ Tells (BadTranscript name fault) v w = Complains (complaint_of (BadTranscript na
 Tells (BadReport name line) v w = Complains (complaint_of (BadReport name line)) v w
 Tells (Impossible name line) v w = Complains (complaint_of (Impossible name line)) v w
 Tells (OtherRow at from_frames reported) v w = Complains (complaint_of (OtherRow at from_frames reported)) v w
+Tells (OtherPlan name) v w = Complains (complaint_of (OtherPlan name)) v w
+Tells (OtherLine name line expected) v w = Complains (complaint_of (OtherLine name line expected)) v w
+Tells (OtherPresence group round meter) v w = Complains (complaint_of (OtherPresence group round meter)) v w
+Tells (OtherTotal group round first second) v w = Complains (complaint_of (OtherTotal group round first second)) v w
 Tells (BadLane fault) v w = Complains (complaint_of (BadLane fault)) v w
 
 -- the ends that come only of a fault of the desk
@@ -119,4 +145,8 @@ IsFault (BadTranscript name fault) = ⊥
 IsFault (BadReport name line) = ⊥
 IsFault (Impossible name line) = ⊥
 IsFault (OtherRow at from_frames reported) = ⊥
+IsFault (OtherPlan name) = ⊥
+IsFault (OtherLine name line expected) = ⊥
+IsFault (OtherPresence group round meter) = ⊥
+IsFault (OtherTotal group round first second) = ⊥
 IsFault (BadLane fault) = ⊥

@@ -12,6 +12,14 @@ pub record RunNames : Type 0 where
   pub report : List ℕ
   pub transcript : List ℕ
 
+-- the names of the files of `twin`
+pub record TwinNames : Type 0 where
+  pub plan : List ℕ
+  pub readings : List ℕ
+  pub other : List ℕ
+  pub transcript : List ℕ
+  pub masks : List ℕ
+
 -- a size of made files: the seed, and how many groups, meters of each, and rounds
 pub record Size : Type 0 where
   pub seed : ℕ
@@ -23,6 +31,7 @@ pub record Size : Type 0 where
 pub data Command : Type 0 where
   Run : (names : RunNames) (workers : ℕ) → Command
   Audit : (transcript report : List ℕ) → Command
+  Twin : (names : TwinNames) → Command
   Make : (size : Size) (plan readings : List ℕ) → Command
   Load : (size : Size) (workers : ℕ) (transcript : Option (List ℕ)) → Command
   Convert : (old transcript : List ℕ) → Command
@@ -94,6 +103,18 @@ abbrev pub audit_of : List (List ℕ) → Option Command
 audit_of (transcript ∷ report ∷ []) = audit_with transcript report
 audit_of _ = None
 
+-- `twin` with these files, where they are names
+unfoldable pub twin_with : (plan readings other transcript masks : List ℕ) → Option Command
+twin_with plan readings other transcript masks =
+    if are_names (plan ∷ readings ∷ other ∷ transcript ∷ masks ∷ [])
+    then Some (Twin (record { plan = plan; readings = readings; other = other; transcript = transcript; masks = masks }))
+    else None
+
+-- `twin PLAN READINGS OTHER TRANSCRIPT MASKS`
+abbrev pub twin_of : List (List ℕ) → Option Command
+twin_of (plan ∷ readings ∷ other ∷ transcript ∷ masks ∷ []) = twin_with plan readings other transcript masks
+twin_of _ = None
+
 -- a command that takes a size, where there is one
 abbrev pub with_size : Option Size → (Size → Option Command) → Option Command
 with_size None command = None
@@ -148,6 +169,7 @@ unfoldable pub command_by : List ℕ → List (List ℕ) → Option Command
 command_by verb words =
     if bytes_eq verb (codes "run") then run_of words
     else if bytes_eq verb (codes "audit") then audit_of words
+    else if bytes_eq verb (codes "twin") then twin_of words
     else if bytes_eq verb (codes "make") then make_of words
     else if bytes_eq verb (codes "load") then load_of words
     else if bytes_eq verb (codes "convert") then convert_of words

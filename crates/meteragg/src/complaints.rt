@@ -1,9 +1,12 @@
 //! The texts of complaints.
 
-ghost use Rattle.std.specs.Prelude.{◌≡◌, IfOk, string_bytes};
+ghost use Rattle.std.specs.Prelude.{◌≡◌, ◌++◌, IfOk, codes, string_bytes};
 ghost use Rattle.meteragg.specs.Causes.{key_text, plan_error_name, span_error_name, key_error_text, cause_text, rack_cause_name, read_error_name};
 ghost use Rattle.transcript_text.specs.Faults.{fault_line};
-ghost use Rattle.meteragg.specs.Outcomes.{file_complaint, line_complaint, row_or_nothing, row_complaint, IsText, complaint_of};
+ghost use Rattle.meteragg.specs.Outcomes.{file_complaint, line_complaint, row_or_nothing, row_complaint, IsText, HasComplaint, complaint_of};
+ghost use Rattle.transcript_text.specs.declared.version.Version.TheVariants.{Two};
+ghost use Rattle.transcript_text.specs.Spelling.{entry_text};
+ghost use Rattle.transcript_text.specs.Writing.{IsWritable};
 
 use crate::outcome::Outcome;
 use group_plan::{PlanError, SpanError};
@@ -12,7 +15,8 @@ use pair_keys::{KeyError, KeyId};
 use plan_files::{FileCause, FileError};
 use std::alloc::{AllocError, Global};
 use totals_report::{ReportRow, row_text};
-use transcript_text::ReadError;
+use transcript_log::Entry;
+use transcript_text::{ReadError, line_text};
 
 #[tactic(auto, unfolding(crate::specs::Causes::key_text))]
 fn key_text(alloc: Global, key: KeyId) -> Result<String, AllocError>
@@ -182,13 +186,32 @@ fn row_complaint(
     Ok(text)
 }
 
+// The complaint of a line of a transcript that should be another.
+#[tactic(auto, unfolding(crate::specs::Outcomes::line_complaint))]
+fn expected_complaint(
+    alloc: Global,
+    name: &str,
+    line: u64,
+    expected: &Entry,
+) -> Result<Vec<u8>, AllocError>
+    requires { IsWritable expected.now.line }
+    ensures { IfOk result (λ text. text.items ≡ line_complaint name.now line (codes "expected " ++ entry_text Two expected.now)) }
+{
+    let mut text = format!(in alloc; "meteragg: {name} line {line}: expected ")?.into_bytes();
+    text.extend_from_slice(&line_text(alloc, expected)?)?;
+    text.extend_from_slice(b"\n")?;
+    Ok(text)
+}
+
 // The text of a complaint of one line of text.
 #[tactic(auto, unfolding(crate::specs::Outcomes::complaint_of))]
 fn text_complaint(alloc: Global, outcome: &Outcome<'_>) -> Result<String, AllocError>
     ensures { IfOk result (λ text. IsText outcome.now → string_bytes text ≡ complaint_of outcome.now) }
 {
     match outcome {
-        Outcome::Done | Outcome::OtherRow { .. } => Ok(String::new(alloc)),
+        Outcome::Done | Outcome::OtherRow { .. } | Outcome::OtherLine { .. } => {
+            Ok(String::new(alloc))
+        }
         Outcome::NoMemory => String::from_str(alloc, "meteragg: no memory\n"),
         Outcome::BadWords => String::from_str(alloc, "meteragg: bad words\n"),
         Outcome::CannotRead(name) => format!(in alloc; "meteragg: cannot read {name}\n"),
@@ -206,6 +229,18 @@ fn text_complaint(alloc: Global, outcome: &Outcome<'_>) -> Result<String, AllocE
         }
         Outcome::BadReport(name, line) => line_complaint(alloc, name, *line, "Line"),
         Outcome::Impossible(name, line) => line_complaint(alloc, name, *line, "impossible"),
+        Outcome::OtherPlan(name) => format!(in alloc; "meteragg: {name}: other plan\n"),
+        Outcome::OtherPresence {
+            group,
+            round,
+            meter,
+        } => format!(in alloc; "meteragg: presence {group} {round} {meter}\n"),
+        Outcome::OtherTotal {
+            group,
+            round,
+            first,
+            second,
+        } => format!(in alloc; "meteragg: total {group} {round} {first} {second}\n"),
         Outcome::BadLane(fault) => {
             let row = fault.row;
             let cause = rack_cause_name(fault.cause);
@@ -217,6 +252,7 @@ fn text_complaint(alloc: Global, outcome: &Outcome<'_>) -> Result<String, AllocE
 /// The text of the complaint, none where the command was done.
 #[tactic(auto, unfolding(crate::specs::Outcomes::complaint_of))]
 pub fn complaint(alloc: Global, outcome: &Outcome<'_>) -> Result<Vec<u8>, AllocError>
+    requires { HasComplaint outcome.now }
     ensures { IfOk result (λ text. text.items ≡ complaint_of outcome.now) }
 {
     match outcome {
@@ -225,6 +261,11 @@ pub fn complaint(alloc: Global, outcome: &Outcome<'_>) -> Result<Vec<u8>, AllocE
             from_frames,
             reported,
         } => row_complaint(alloc, *at, from_frames, reported),
+        Outcome::OtherLine {
+            name,
+            line,
+            expected,
+        } => expected_complaint(alloc, name, *line, expected),
         _ => Ok(text_complaint(alloc, outcome)?.into_bytes()),
     }
 }

@@ -52,12 +52,12 @@ fn run_commits_cross_in_load(rt: HostRuntime) -> Result<(), Fail> {
     let Ok(transcript) = read(alloc, held(&desk, "t.txt").as_bytes()) else {
         panic!(rt; "no transcript")
     };
-    let mut sends = 0;
-    let mut takes = 0;
+    let mut sends = 0_u32;
+    let mut takes = 0_u32;
     for entry in transcript.entries() {
         match entry.line {
-            Line::Send { frame: Some(_), .. } => sends += 1,
-            Line::Take { .. } => takes += 1,
+            Line::Send { frame: Some(_), .. } => sends = sends.saturating_add(1),
+            Line::Take { .. } => takes = takes.saturating_add(1),
             _ => {}
         }
     }

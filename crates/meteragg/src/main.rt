@@ -24,6 +24,9 @@ mod run;
 #[cfg(test)]
 mod run_tests;
 mod texts;
+mod twin;
+#[cfg(test)]
+mod twin_tests;
 mod usage;
 mod words;
 

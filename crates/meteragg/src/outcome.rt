@@ -3,6 +3,7 @@
 use link_lanes::RackError;
 use plan_files::FileError;
 use totals_report::ReportRow;
+use transcript_log::Entry;
 use transcript_text::ReadError;
 
 /// How a command ends. A name is the word that named the file.
@@ -38,6 +39,28 @@ pub enum Outcome<'a> {
         at: u32,
         from_frames: Option<ReportRow>,
         reported: Option<ReportRow>,
+    },
+    /// The transcript is one of another plan.
+    OtherPlan(&'a str),
+    /// This line of the transcript, counted from 1, is the first that isn't the one of the readings under the keys; the
+    /// expected one, with the tick and the fate that stand there.
+    OtherLine {
+        name: &'a str,
+        line: u64,
+        expected: Entry,
+    },
+    /// One table of readings alone has one of this meter in this round; all are counted from 0.
+    OtherPresence {
+        group: u16,
+        round: u32,
+        meter: u8,
+    },
+    /// The two tables have these sums, in watt-hours, over the survivors of this opened round.
+    OtherTotal {
+        group: u16,
+        round: u32,
+        first: u64,
+        second: u64,
     },
     /// A lane row of the plan file gets no lane.
     BadLane(RackError),

@@ -34,14 +34,18 @@ pub enum Refusal {
     Memory,
 }
 
-// The texts of a finished run.
-fn finished_texts(alloc: Global, finished: &Finished) -> Result<RunTexts, AllocError>
-    ensures { IfOk result (λ kept. AreTextsOf finished.now.book finished.now.transcript (texts_of kept)) }
+// The texts of a finished run. The book goes before the longest text is written, so that both needn't fit.
+fn finished_texts(alloc: Global, finished: Finished) -> Result<RunTexts, AllocError>
+    ensures { IfOk result (λ kept. AreTextsOf finished.book finished.transcript (texts_of kept)) }
 {
+    let Finished { book, transcript } = finished;
+    let report = report(alloc, &book)?;
+    let summary = summary(alloc, &book)?;
+    drop(book);
     Ok(RunTexts {
-        transcript: write(alloc, &finished.transcript)?,
-        report: report(alloc, &finished.book)?,
-        summary: summary(alloc, &finished.book)?,
+        transcript: write(alloc, &transcript)?,
+        report,
+        summary,
     })
 }
 
@@ -88,7 +92,7 @@ pub fn run_texts<R: Threads + Wait + Sync, G: Gate>(
         Ok(finished) => finished,
         Err(RunError::Memory) => return Err(Refusal::Memory),
     };
-    match finished_texts(alloc, &finished) {
+    match finished_texts(alloc, finished) {
         Ok(texts) => Ok(texts),
         Err(AllocError) => Err(Refusal::Memory),
     }

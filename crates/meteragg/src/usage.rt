@@ -8,6 +8,9 @@ Commands
       run the plan on the readings; write the report and the transcript
   audit TRANSCRIPT REPORT
       check the report against the transcript alone, with no key and no reading
+  twin PLAN READINGS OTHER TRANSCRIPT MASKS
+      show that other readings with the same totals give the same transcript;
+      write the mask words that would differ
   make SEED GROUPS METERS ROUNDS PLAN READINGS
       make a plan and readings from a seed, and write them
   load SEED GROUPS METERS ROUNDS WORKERS [TRANSCRIPT]
@@ -36,7 +39,8 @@ Statuses
    4  a file cannot be written, or the result cannot be printed
    5  the plan has a fault
    6  the readings have a fault
-   7  the transcript or the report has a fault
+   7  the transcript or the report has a fault, or is not that of these files
+   8  the two tables of readings differ in a place or in an opened total
    9  the report says something else than the transcript
   10  a lane of the plan does not exist or does not take its argument
 

@@ -1,8 +1,8 @@
 //! The words of the command line.
 
 ghost use Rattle.std.specs.Prelude.{◌≡◌, ◌≤◌, ℕ, List, None, Some, IfSome, MatchOption, map, string_bytes};
-ghost use Rattle.meteragg.specs.Words.{Run, Audit, Make, Load, Convert, Help, Version, has_name, are_names, names_of, workers_of, run_with, run_of, size_of, audit_of, make_of, load_with, load_of, convert_of, alone, asks_help, asks_version, command_by, command_of};
-ghost use Rattle.meteragg.specs.Commands.{size_in, name_in, asked, IsSize, IsWithin};
+ghost use Rattle.meteragg.specs.Words.{Run, Audit, Twin, Make, Load, Convert, Help, Version, has_name, are_names, names_of, workers_of, run_with, run_of, size_of, audit_of, twin_with, twin_of, make_of, load_with, load_of, convert_of, alone, asks_help, asks_version, command_by, command_of};
+ghost use Rattle.meteragg.specs.Commands.{twin_names_of, size_in, name_in, asked, IsSize, IsWithin};
 
 use field_texts::{read_number, read_number_within};
 use load_maker::is_within;
@@ -35,6 +35,16 @@ pub struct RunWords<'a> {
 pub struct AuditFiles<'a> {
     pub transcript: &'a str,
     pub report: &'a str,
+}
+
+/// The names of the files of `twin`.
+#[derive(Clone, Copy, Debug)]
+pub struct TwinFiles<'a> {
+    pub plan: &'a str,
+    pub readings: &'a str,
+    pub other: &'a str,
+    pub transcript: &'a str,
+    pub masks: &'a str,
 }
 
 /// A size of made files.
@@ -80,6 +90,8 @@ pub enum Command<'a> {
     Run(RunWords<'a>),
     /// Checks a report against a transcript.
     Audit(AuditFiles<'a>),
+    /// Shows the mask words under which other readings give the same transcript.
+    Twin(TwinFiles<'a>),
     /// Makes the two files of a size.
     Make(MakeWords<'a>),
     /// Runs the files of a size in memory.
@@ -178,6 +190,44 @@ fn audit_words(words: &[String]) -> Option<AuditFiles<'_>>
             } else {
                 None
             }
+        }
+        _ => None,
+    }
+}
+
+// `twin` with these files, where the words are names.
+#[tactic(auto, unfolding(crate::specs::Words::twin_with))]
+fn twin_with<'a>(
+    plan: &'a str,
+    readings: &'a str,
+    other: &'a str,
+    transcript: &'a str,
+    masks: &'a str,
+) -> Option<TwinFiles<'a>>
+    ensures { MatchOption result (twin_with plan.now readings.now other.now transcript.now masks.now ≡ None)
+        (λ files. twin_with plan.now readings.now other.now transcript.now masks.now ≡ Some (Twin (twin_names_of files))) }
+{
+    if are_names(&[plan, readings, other, transcript, masks]) {
+        Some(TwinFiles {
+            plan,
+            readings,
+            other,
+            transcript,
+            masks,
+        })
+    } else {
+        None
+    }
+}
+
+// `twin` by the words behind the verb.
+fn twin_words(words: &[String]) -> Option<TwinFiles<'_>>
+    ensures { MatchOption result (twin_of (map string_bytes words.now) ≡ None)
+        (λ files. twin_of (map string_bytes words.now) ≡ Some (Twin (twin_names_of files))) }
+{
+    match words {
+        [plan, readings, other, transcript, masks] => {
+            twin_with(plan, readings, other, transcript, masks)
         }
         _ => None,
     }
@@ -321,6 +371,8 @@ fn command_by<'a>(verb: &str, words: &'a [String]) -> Option<Command<'a>>
         Some(Command::Run(run_words(words)?))
     } else if verb == "audit" {
         Some(Command::Audit(audit_words(words)?))
+    } else if verb == "twin" {
+        Some(Command::Twin(twin_words(words)?))
     } else if verb == "make" {
         Some(Command::Make(make_words(words)?))
     } else if verb == "load" {

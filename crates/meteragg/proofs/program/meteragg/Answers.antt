@@ -1,5 +1,6 @@
 use Rattle.meteragg.proofs.AcceptedLemmas.{accepted_is_done}
-use Rattle.meteragg.proofs.StoredLemmas.{runs_are_confirmed}
+use Rattle.meteragg.proofs.ComplaintLemmas.{has_complaint}
+use Rattle.meteragg.proofs.StoredLemmas.{runs_are_confirmed, runs_are_recorded}
 use Rattle.meteragg.proofs.program.meteragg.Goals as goal
 
 pub returns-clause-accepted : goal.returns-clause-accepted
@@ -8,3 +9,9 @@ returns-clause-accepted g c =
 
 pub returns-clause-confirmed : goal.returns-clause-confirmed
 returns-clause-confirmed g c = runs_are_confirmed
+
+pub returns-clause-recorded : goal.returns-clause-recorded
+returns-clause-recorded g c = runs_are_recorded
+
+pub tell-requires : goal.tell-requires
+tell-requires g c = has_complaint _ _ _ _ c.perform-outcome.result c.perform-outcome.ensures.ends

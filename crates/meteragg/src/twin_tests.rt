@@ -1,0 +1,290 @@
+//! The command `twin`: the words that move from one table of readings to another, and what it refuses.
+
+use crate::fixtures::{
+    HEAD, NORTH, READINGS, RUN, TRANSCRIPT, desk_of as run_desk, held, replaced, status_of,
+};
+use collector_workers::Free;
+use desk_outside::MemoryDesk;
+use std::alloc::Global;
+use std::test::Fail;
+
+const TWIN: &str = "twin plan.csv readings.csv other.csv t.txt masks.txt";
+
+// Each row: its name, the lane rows of the run, the other table, the status, and what is complained, or the lines of the
+// masks file and the number of them that is said.
+static TWINS: [(&str, &str, &str, u8, &str, u32); 8] = [
+    ("twin_of_itself", "", "north,0,10,20,30\n", 0, "", 0),
+    (
+        "one_pair_word_moves",
+        "",
+        "north,0,15,15,30\n",
+        0,
+        "pair,0,0,0,1,903df1a0ade0b876,903df1a0ade0b871\n",
+        1,
+    ),
+    (
+        "presence_differs",
+        "",
+        "north,0,10,20,\n",
+        8,
+        "presence 0 0 2",
+        0,
+    ),
+    (
+        "presence before totals",
+        "",
+        "north,0,11,,30\n",
+        8,
+        "presence 0 0 1",
+        0,
+    ),
+    (
+        "a total more",
+        "",
+        "north,0,10,20,31\n",
+        8,
+        "total 0 0 60 61",
+        0,
+    ),
+    (
+        "late_reading_left_out",
+        "lane,rules,0.0.r.2=2,0,0\n",
+        "north,0,15,15,0\n",
+        0,
+        "own,0,0,2,903df1a0ade0b876,903df1a0ade0b894\npair,0,0,0,1,903df1a0ade0b876,903df1a0ade0b871\n",
+        2,
+    ),
+    (
+        "lost_answer_gives_none",
+        "lane,rules,0.0.a.1=-,0,35\n",
+        "north,0,1,2,3\n",
+        8,
+        "total 0 0 60 6",
+        0,
+    ),
+    (
+        "lost_announcement_gives_none",
+        "lane,rules,0.0.m.1=-,0,35\n",
+        "north,0,1,2,3\n",
+        0,
+        "own,0,0,1,903df1a0ade0b876,903df1a0ade0b8ac\npair,0,0,0,2,903df1a0ade0b876,903df1a0ade0b87f\npair,0,0,1,2,903df1a0ade0b876,903df1a0ade0b852\n",
+        3,
+    ),
+];
+
+#[test]
+fn twins(rt: HostRuntime) -> Result<(), Fail> {
+    let alloc = rt.alloc();
+    for case in TWINS.iter() {
+        let (name, lanes, other, status, text, moved) = *case;
+        let rows = format!(in alloc; "{HEAD}{NORTH}{lanes}")?;
+        let mut desk = run_desk(alloc, &rows, READINGS, Vec::new(alloc))?;
+        assert_eq!(rt;
+            status_of(&rt, alloc, RUN, &mut desk, &Free)?,
+            0,
+            "at {name}"
+        );
+        desk.place("other.csv", other.as_bytes())?;
+        let before = desk.said().len();
+        assert_eq!(rt;
+            status_of(&rt, alloc, TWIN, &mut desk, &Free)?,
+            status,
+            "at {name}"
+        );
+        let (complaint, masks, said) = if status == 0 {
+            (
+                String::new(alloc),
+                format!(in alloc; "meteragg masks 1\n{text}end,{moved}\n")?,
+                format!(in alloc; "twin: moved={moved}\n")?,
+            )
+        } else {
+            (
+                format!(in alloc; "meteragg: {text}\n")?,
+                String::from_str(alloc, "nothing")?,
+                String::new(alloc),
+            )
+        };
+        assert_eq!(rt; desk.complained(), complaint.as_bytes(), "at {name}");
+        assert_eq!(rt; held(&desk, "masks.txt"), masks.as_str(), "at {name}");
+        assert_eq!(rt; &desk.said()[before..], said.as_bytes(), "at {name}");
+    }
+    Ok(())
+}
+
+// A desk that holds the files of the plain case and another table that agrees with its readings, and fails these calls.
+fn desk_of(alloc: Global, failing: Vec<u64>) -> Result<MemoryDesk, Fail> {
+    let rows = format!(in alloc; "{HEAD}{NORTH}")?;
+    let mut desk = run_desk(alloc, &rows, READINGS, failing)?;
+    desk.place("other.csv", b"north,0,15,15,30\n")?;
+    desk.place("t.txt", TRANSCRIPT.as_bytes())?;
+    Ok(desk)
+}
+
+// Each row: its name, the file, what stands in it, what stands there in its place, the status, and the complaint.
+static REFUSED: [(&str, &str, &str, &str, u8, &str); 13] = [
+    (
+        "a bad plan",
+        "plan.csv",
+        "north,3,2",
+        "north,3,x",
+        5,
+        "plan.csv row 4: Number",
+    ),
+    (
+        "bad readings",
+        "readings.csv",
+        "10,20,30",
+        "10,20",
+        6,
+        "readings.csv row 1: Fields",
+    ),
+    (
+        "another bad table",
+        "other.csv",
+        "15,15,30",
+        "15,15",
+        6,
+        "other.csv row 1: Fields",
+    ),
+    (
+        "a transcript cut short",
+        "t.txt",
+        "end,20\n",
+        "",
+        7,
+        "t.txt line 26: NoEnd",
+    ),
+    (
+        "a transcript of version 1",
+        "t.txt",
+        "transcript 2",
+        "transcript 1",
+        7,
+        "t.txt line 1: Head",
+    ),
+    (
+        "another plan",
+        "plan.csv",
+        "windows,1,2",
+        "windows,1,3",
+        7,
+        "t.txt: other plan",
+    ),
+    (
+        "readings_changed_after_run",
+        "readings.csv",
+        "10,20,30",
+        "11,20,30",
+        7,
+        "t.txt line 6: expected 0,s,0,0,r,0,1,4d02010000000000000000000000000000000000000000000000000000000000000000000000000000000000b0b9d4e209a2296d",
+    ),
+    (
+        "a word before another total",
+        "readings.csv",
+        "10,20,30",
+        "10,20,31",
+        7,
+        "t.txt line 8: expected 0,s,0,0,r,2,1,4d020102000000000000000000000000000000000000000000000000000000000000000000000000000000006fc20e5f521f47a9",
+    ),
+    (
+        "an absent reading was sent",
+        "readings.csv",
+        "10,20,30",
+        "10,20,",
+        7,
+        "t.txt line 8: expected 0,s,0,0,r,2,-,void",
+    ),
+    (
+        "a reading isn't in the transcript",
+        "t.txt",
+        "1,4d020102000000000000000000000000000000000000000000000000000000000000000000000000000000006fc20e5f521f47a8",
+        "-,void",
+        7,
+        "t.txt line 8: expected 0,s,0,0,r,2,-,4d020102000000000000000000000000000000000000000000000000000000000000000000000000000000006fc20e5f521f47a8",
+    ),
+    (
+        "again for fresh",
+        "t.txt",
+        "1,t,0,0,r,0,fresh",
+        "1,t,0,0,r,0,again",
+        7,
+        "t.txt line 9: expected 1,t,0,0,r,0,fresh",
+    ),
+    (
+        "another set announced, which changes no later line that is due",
+        "t.txt",
+        "1,c,0,0,announced,-",
+        "1,c,0,0,announced,2",
+        7,
+        "t.txt line 12: expected 1,c,0,0,announced,-",
+    ),
+    (
+        "another total",
+        "t.txt",
+        "3,e,0,0,total,60",
+        "3,e,0,0,total,61",
+        7,
+        "t.txt line 25: expected 3,e,0,0,total,60",
+    ),
+];
+
+#[test]
+fn twins_refused(rt: HostRuntime) -> Result<(), Fail> {
+    let alloc = rt.alloc();
+    for case in REFUSED.iter() {
+        let (name, file, there, instead, status, complaint) = *case;
+        let mut desk = desk_of(alloc, Vec::new(alloc))?;
+        let text = replaced(alloc, held(&desk, file), there, instead)?;
+        desk.place(file, text.as_bytes())?;
+        assert_eq!(rt;
+            status_of(&rt, alloc, TWIN, &mut desk, &Free)?,
+            status,
+            "at {name}"
+        );
+        let wanted = format!(in alloc; "meteragg: {complaint}\n")?;
+        assert_eq!(rt; desk.complained(), wanted.as_bytes(), "at {name}");
+        assert_eq!(rt; desk.calls().len(), 5, "at {name}");
+        assert_eq!(rt; desk.held("masks.txt").is_none(), true, "at {name}");
+    }
+    Ok(())
+}
+
+#[test]
+fn failing_calls_of_twin(rt: HostRuntime) -> Result<(), Fail> {
+    let alloc = rt.alloc();
+    for (failing, status, complaint, stored) in [
+        (0, 3, "cannot read plan.csv", false),
+        (1, 3, "cannot read readings.csv", false),
+        (2, 3, "cannot read other.csv", false),
+        (3, 3, "cannot read t.txt", false),
+        (4, 4, "cannot write masks.txt", false),
+        (5, 4, "cannot print", true),
+    ] {
+        let mut desk = desk_of(alloc, vec![in alloc; failing]?)?;
+        assert_eq!(rt;
+            status_of(&rt, alloc, TWIN, &mut desk, &Free)?,
+            status,
+            "at {failing}"
+        );
+        let wanted = format!(in alloc; "meteragg: {complaint}\n")?;
+        assert_eq!(rt; desk.complained(), wanted.as_bytes(), "at {failing}");
+        assert_eq!(rt; desk.held("masks.txt").is_some(), stored, "at {failing}");
+        assert_eq!(rt; desk.said(), b"".as_slice(), "at {failing}");
+    }
+    for words in [
+        "twin plan.csv readings.csv other.csv t.txt",
+        "twin plan.csv readings.csv other.csv t.txt masks.txt 4",
+        "twin plan.csv readings.csv readings.csv t.txt masks.txt",
+        "twin plan.csv readings.csv other.csv t.txt t.txt",
+        "twin plan.csv readings.csv other.csv t.txt ",
+    ] {
+        let mut desk = MemoryDesk::new(Vec::new(alloc));
+        assert_eq!(rt;
+            status_of(&rt, alloc, words, &mut desk, &Free)?,
+            2,
+            "at {words}"
+        );
+        assert_eq!(rt; desk.calls().len(), 1, "at {words}");
+    }
+    Ok(())
+}
