@@ -1,11 +1,11 @@
 -- The lines of entries beside those that a table of readings gives.
-use Rattle.std.proofs.Common.{◌≡◌, ◌≢◌, ℕ, zero, suc, ◌+◌, ◌<◌, Bool, true, false, List, [], ◌∷◌, length, get_or, map, take, refl, sym, ap, ◌∙◌, subst, arith}
-use Rattle.std.specs.Prelude.{if◌then◌else◌, slice_get, Option, Some, None}
+use Rattle.std.proofs.Common.{◌≡◌, ℕ, zero, suc, ◌+◌, ◌<◌, Bool, true, false, List, [], ◌∷◌, length, get_or, map, take, refl, sym, ap, ◌∙◌, subst, arith}
+use Rattle.std.specs.Prelude.{if◌then◌else◌, slice_get, Some, None}
 use Rattle.std.proofs.lemmas.List.{length-map, get_or-map, take_more_same}
 use Rattle.group_plan.specs.declared.Kind.{Kind}
 use Rattle.group_plan.specs.declared.Kind.TheVariants.{Reading, Announcement, Answer}
 use Rattle.group_plan.specs.declared.Tag.{Tag}
-use Rattle.group_plan.specs.Tables.{ReadingsView, reading}
+use Rattle.group_plan.specs.Tables.{ReadingsView}
 use Rattle.meter_frames.specs.Frames.{FitsKind}
 use Rattle.transcript_log.specs.declared.Entry.{Entry}
 use Rattle.transcript_log.specs.declared.Event.{Event}
@@ -18,7 +18,6 @@ use Rattle.transcript_log.specs.Tables.{Masks}
 use Rattle.transcript_log.specs.Transcript.{Contents, set_sent, word_sent, frame, line, lines_after}
 use Rattle.transcript_log.proofs.EventLemmas.{events-lines}
 use Rattle.transcript_text.specs.Transcripts.{TranscriptView}
-use Rattle.transcript_text.specs.EntryLines.{entry_line}
 use Rattle.transcript_text.specs.Writing.{IsWritable}
 use Rattle.twin_worlds.specs.Comparing.{DifferAt}
 use Rattle.twin_worlds.specs.Twins.{lines_under, IsFirstOther}

@@ -5,7 +5,6 @@ use Rattle.std.proofs.lemmas.Bool.{false≢true}
 use Rattle.group_plan.specs.declared.Kind.{Kind}
 use Rattle.group_plan.specs.declared.Kind.TheVariants.{Reading, Announcement, Answer}
 use Rattle.group_plan.specs.declared.Tag.{Tag}
-use Rattle.group_plan.specs.Tables.{PresenceView}
 use Rattle.meter_frames.specs.declared.Frame.{Frame}
 use Rattle.round_machine.specs.declared.Verdict.{Verdict}
 use Rattle.transcript_log.specs.declared.Event.{Event}

@@ -1,15 +1,13 @@
 -- Where a transcript is the first table's and the tables agree, nothing is refused.
-use Rattle.std.proofs.Common.{◌≡◌, ℕ, List, length, sym, ap, ◌∙◌, subst, refl}
+use Rattle.std.proofs.Common.{◌≡◌, ℕ, List, sym, ap, ◌∙◌, subst, refl}
 use Rattle.std.specs.Prelude.{reverse, slice_get, Some, Result, Ok, Err}
 use Rattle.group_plan.specs.Tables.{ReadingsView, reading}
 use Rattle.transcript_log.specs.declared.Entry.{Entry}
 use Rattle.transcript_log.specs.declared.Line.{Line}
 use Rattle.transcript_log.specs.Events.{lines_of, events_of}
 use Rattle.transcript_log.specs.Tables.{Masks}
-use Rattle.transcript_text.specs.declared.version.Version.TheVariants.{Two}
 use Rattle.transcript_text.specs.declared.fault.ReadError.{ReadError}
 use Rattle.transcript_text.specs.Transcripts.{TranscriptView}
-use Rattle.transcript_text.specs.Heads.{read_of}
 use Rattle.transcript_text.proofs.ReadAgain.{read_back}
 use Rattle.ideal_masks.specs.declared.Differ.{Differ}
 use Rattle.ideal_masks.specs.declared.Differ.TheVariants as differ

@@ -1,5 +1,5 @@
 -- The rows of moved words, said of the two tables.
-use Rattle.std.proofs.Common.{◌≡◌, ◌≢◌, ℕ, ◌+◌, ◌-◌, ◌%◌, ◌^◌, ◌<◌, ◌==◌, Bool, true, false, ◌&&◌, ◌||◌, List, [], ◌∷◌, length, get_or, refl, sym, ap, ◌∙◌, arith}
+use Rattle.std.proofs.Common.{◌≡◌, ◌≢◌, ℕ, ◌+◌, ◌-◌, ◌^◌, ◌<◌, ◌==◌, Bool, true, false, ◌&&◌, ◌||◌, List, [], ◌∷◌, length, get_or, refl, sym, ap, ◌∙◌, arith}
 use Rattle.std.specs.Prelude.{if◌then◌else◌}
 use Rattle.std.specs.List.{All, list_any}
 use Rattle.std.proofs.lemmas.Bool.{false≢true}
@@ -13,8 +13,8 @@ use Rattle.transcript_log.specs.Tables.{Masks, IsMasks}
 use Rattle.ideal_masks.specs.declared.Offset.{Offset}
 use Rattle.ideal_masks.specs.ListTables.{masks_in, mask_table_of}
 use Rattle.ideal_masks.specs.Offsets.{shift}
-use Rattle.ideal_masks.specs.Moves.{offset_list, own_list, pair_list, moved_by, same_id, IsKeyOf, ListIsOffsets}
-use Rattle.ideal_masks.specs.Order.{IsAscending, AreOfPlan, is_before}
+use Rattle.ideal_masks.specs.Moves.{offset_list, own_list, pair_list, moved_by, same_id, IsKeyOf}
+use Rattle.ideal_masks.specs.Order.{IsAscending, AreOfPlan}
 use Rattle.ideal_masks.proofs.MoveLemmas.{all_range, all_moved_at, list_is}
 use Rattle.ideal_masks.proofs.OrderLemmas.{list-ascends}
 use Rattle.ideal_masks.proofs.TableLemmas.{own-table_of, pair-table_of}

@@ -1,7 +1,7 @@
 -- What is posted under a tag stays the frame of the tag, whatever comes later.
-use Rattle.std.proofs.Common.{◌≡◌, ℕ, Bool, true, false, cond, ◌&&◌, List, [], ◌∷◌, ◌++◌, refl, sym, ap, ◌∙◌, subst, append_assoc, append-nil}
-use Rattle.std.specs.Prelude.{if◌then◌else◌, Option, Some, None, is_some}
-use Rattle.std.proofs.lemmas.Bool.{false≢true, and_from, and_parts}
+use Rattle.std.proofs.Common.{◌≡◌, ℕ, Bool, true, false, List, [], ◌∷◌, ◌++◌, refl, sym, ap, ◌∙◌, subst, append_assoc, append-nil}
+use Rattle.std.specs.Prelude.{if◌then◌else◌, Some, None}
+use Rattle.std.proofs.lemmas.Bool.{and_from, and_parts}
 use Rattle.group_plan.specs.declared.Kind.{Kind}
 use Rattle.group_plan.specs.declared.Kind.TheVariants.{Reading, Announcement, Answer}
 use Rattle.group_plan.specs.declared.Tag.{Tag}
@@ -10,14 +10,13 @@ use Rattle.transcript_log.specs.declared.Event.{Event}
 use Rattle.transcript_log.specs.declared.Event.TheVariants.{Send}
 use Rattle.transcript_log.specs.declared.Line.{Line}
 use Rattle.transcript_log.specs.declared.Line.TheVariants.{Send as SendLine, Take as TakeLine, Close as CloseLine, End as EndLine}
-use Rattle.transcript_log.specs.Events.{event_of, frame_of, is_send}
+use Rattle.transcript_log.specs.Events.{is_send}
 use Rattle.transcript_log.specs.Schedule.{Shape, is_closed, is_announced, is_reading_taken, reaches_floor, may_send}
 use Rattle.transcript_log.specs.Transcript.{Contents, set_sent, word_sent, frame}
 use Rattle.transcript_log.specs.Journal.{past_of, HasFramesOf}
 use Rattle.transcript_log.proofs.EventLemmas.{is_send-true}
 use Rattle.transcript_log.proofs.ScheduleLemmas.{once-more, is_announced-more, is_reading_taken-closed, missing-closed, is_closed-from_taken}
-use Rattle.group_book.specs.Books.{posted, posted_in}
-use Rattle.group_book.proofs.LineLemmas.{past_of-push, posts, first_of, posted-push}
+use Rattle.group_book.proofs.LineLemmas.{posts}
 
 -- ---- the frame of a tag
 

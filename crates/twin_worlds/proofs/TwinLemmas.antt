@@ -1,10 +1,9 @@
 -- The parts of a twin, put together.
-use Rattle.std.proofs.Common.{◌≡◌, ℕ, ◌^◌, ◌<◌, List, take, refl, sym, ap, ◌∙◌, subst, arith}
-use Rattle.std.specs.Prelude.{reverse, slice_get, Option, Some, None, Result, Ok, Err}
+use Rattle.std.proofs.Common.{◌≡◌, ℕ, ◌^◌, ◌<◌, List, take, sym, ap, ◌∙◌, subst, arith}
+use Rattle.std.specs.Prelude.{reverse, slice_get, Option, Some, None, Ok, Err}
 use Rattle.chacha_lanes.proofs.WordBounds.{mask_word_small}
 use Rattle.mask_stream.specs.KeyStreams.{word_of as stream_word_of, streams}
 use Rattle.pair_keys.specs.Keys.{Keys}
-use Rattle.group_plan.specs.Plans.{PlanView}
 use Rattle.group_plan.specs.Tables.{ReadingsView, IsReadingTable, reading}
 use Rattle.transcript_log.specs.declared.Line.{Line}
 use Rattle.transcript_log.specs.Events.{lines_of, events_of}
@@ -14,7 +13,7 @@ use Rattle.transcript_log.proofs.ScheduleLemmas.{after-reverse}
 use Rattle.transcript_text.specs.Transcripts.{TranscriptView}
 use Rattle.ideal_masks.specs.declared.Offset.{Offset}
 use Rattle.ideal_masks.specs.ListTables.{MaskTable, masks_in, mask_table_of}
-use Rattle.ideal_masks.specs.Offsets.{Agree, offsets, shift}
+use Rattle.ideal_masks.specs.Offsets.{Agree, offsets}
 use Rattle.ideal_masks.specs.Isolation.{offsets_between}
 use Rattle.ideal_masks.proofs.FiniteTables.{keeps_lines}
 use Rattle.ideal_masks.proofs.TwoWorlds.{two_worlds}
@@ -22,7 +21,7 @@ use Rattle.twin_worlds.specs.declared.rows.MovedRow.{MovedRow}
 use Rattle.twin_worlds.specs.declared.answers.TwinError.{TwinError}
 use Rattle.twin_worlds.specs.declared.answers.TwinError.TheVariants as twin
 use Rattle.twin_worlds.specs.MovedRows.{rows_of, AreMoved}
-use Rattle.twin_worlds.specs.Twins.{IsTextOf, lines_under, IsRecord, shifted, AreTwins, IsFirstOther, TwinEnds}
+use Rattle.twin_worlds.specs.Twins.{IsTextOf, lines_under, IsRecord, shifted, IsFirstOther, TwinEnds}
 use Rattle.twin_worlds.specs.Ends.{LinesEnd, AgreementEnds}
 use Rattle.twin_worlds.proofs.MovedLemmas.{rows-table, are-moved}
 

@@ -6,20 +6,18 @@ use Rattle.std.proofs.Math.Bool.{and-false}
 use Rattle.std.proofs.lemmas.Bool.{and_from, lt-ltb}
 use Rattle.missing_round.specs.Sets.{is_member as is_in}
 use Rattle.missing_round.proofs.SetLemmas.{is_member-picked, is_member-filter, filter-picked}
-use Rattle.group_plan.specs.declared.Kind.{Kind}
 use Rattle.group_plan.specs.declared.Kind.TheVariants.{Answer}
 use Rattle.group_plan.specs.declared.Tag.{Tag}
-use Rattle.group_plan.specs.Plans.{PlanView, Group, size, is_place, is_member, members}
+use Rattle.group_plan.specs.Plans.{PlanView, size, is_place, is_member, members}
 use Rattle.group_plan.proofs.MeterNumbers.{in_place}
 use Rattle.blind_core.specs.Blind.{are_places}
 use Rattle.transcript_log.specs.declared.Event.{Event}
 use Rattle.transcript_log.specs.declared.Event.TheVariants.{Send}
-use Rattle.transcript_log.specs.Schedule.{Shape, is_closed, is_announced, is_reading_taken, is_announcement_taken, is_answer_sent, may_send, missing, members_of}
+use Rattle.transcript_log.specs.Schedule.{Shape, is_announced, is_reading_taken, is_announcement_taken, is_answer_sent, may_send, missing, members_of}
 use Rattle.transcript_log.specs.Transcript.{Contents, set_sent, word_sent, frame}
 use Rattle.transcript_log.proofs.EventLemmas.{is_send-itself}
 use Rattle.transcript_log.proofs.MemberLemmas.{is_member-below}
 use Rattle.transcript_log.proofs.ScheduleLemmas.{once-now, is_announced-from_sent, is_announcement_sent-from_taken, is_closed-from_taken, is_reading_taken-closed, is_reading_taken-from_answer}
-use Rattle.group_book.specs.Places.{is_round}
 use Rattle.group_book.specs.Books.{BookView, shape_of, past, has_round}
 use Rattle.group_book.proofs.PlaceLemmas.{in_round}
 use Rattle.twin_worlds.proofs.PostedFrames.{frame-sent}

@@ -18,6 +18,8 @@ pub use writing::moved_text;
 
 pub mod laws;
 #[cfg(test)]
+mod schedule_tests;
+#[cfg(test)]
 mod table_tests;
 #[cfg(test)]
 mod tests;

@@ -1,6 +1,4 @@
-use Rattle.std.proofs.Common.{refl, sym}
-use Rattle.std.specs.Prelude.{Some, None}
-use Rattle.twin_worlds.proofs.EventSteps.{takes, takes_posted, takes_none}
+use Rattle.twin_worlds.proofs.EventSteps.{takes_posted, takes_none}
 use Rattle.twin_worlds.proofs.replay.take.Goals as goal
 
 pub returns-in-Some : goal.returns-in-Some
