@@ -259,7 +259,9 @@ def try_case(options, known, sets, number):
     command, words, statuses, before = one_case(draw, known, sets, room)
     # Where the words were changed they may name other files to be put, or be another command.
     unchanged = words == words_of(command)
-    named = names_in(command, ">") if unchanged else [word for word in words if word not in before]
+    # `./plan` is the file `plan`.
+    paths = [os.path.normpath(word) for word in words]
+    named = names_in(command, ">") if unchanged else [path for path in paths if path not in before]
     if not unchanged:
         statuses = set(range(11))
     started = time.monotonic()
