@@ -4,4 +4,3 @@ pub mod WordLoops
 pub mod RowLemmas
 pub mod RowLoop
 pub mod GroupLemmas
-pub mod FullGroups

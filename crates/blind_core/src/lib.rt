@@ -6,6 +6,3 @@ mod words;
 
 pub use group::masked_group;
 pub use words::{answer, masked};
-
-#[cfg(test)]
-mod tests;

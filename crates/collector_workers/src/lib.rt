@@ -9,6 +9,3 @@ mod mark;
 pub use batch::{collect, gather};
 pub use gate::{Free, Gate};
 pub use mark::{CollectRefused, Collected, Mark};
-
-#[cfg(test)]
-mod tests;

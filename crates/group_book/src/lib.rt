@@ -11,6 +11,3 @@ mod start;
 
 pub use answers::{Outcome, OutcomeState, SendAnswer, TakeError};
 pub use book::Book;
-
-#[cfg(test)]
-mod tests;

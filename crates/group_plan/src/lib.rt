@@ -10,6 +10,3 @@ pub use name::Name;
 pub use plan::{GroupPlan, Plan, PlanError, Span, SpanError};
 pub use table::{Presence, Readings};
 pub use tag::{Kind, Tag};
-
-#[cfg(test)]
-mod tests;

@@ -10,8 +10,6 @@ mod clear;
 mod cupboard;
 mod every;
 mod lane;
-#[cfg(test)]
-mod lane_tests;
 mod made;
 mod rack;
 mod row;
@@ -119,22 +117,3 @@ pub struct Post {
 }
 
 pub mod laws;
-
-#[cfg(test)]
-mod tests {
-    use crate::{Fate, FateError};
-
-    #[test]
-    fn fates_by_delays(rt: HostRuntime) {
-        let first_to_last = Fate::new(&[1, 16, 16]);
-        assert!(&rt; first_to_last.is_ok());
-        if let Ok(fate) = first_to_last {
-            assert!(&rt; fate.delays() == [1, 16, 16].as_slice());
-        }
-        assert!(&rt; Fate::new(&[]).is_ok());
-        assert!(&rt; Fate::new(&[0, 17, 1, 1]) == Err(FateError::Copies));
-        assert!(&rt; Fate::new(&[3, 0]) == Err(FateError::Delay));
-        assert!(&rt; Fate::new(&[17]) == Err(FateError::Delay));
-        assert!(&rt; Fate::new(&[2, 4, 3]) == Err(FateError::Order));
-    }
-}

@@ -22,6 +22,3 @@ pub enum KeyError {
     /// The plan has this key, and it was never put. Only readers of whole plan files answer it.
     Missing(KeyId),
 }
-
-#[cfg(test)]
-mod tests;

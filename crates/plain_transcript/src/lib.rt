@@ -474,8 +474,3 @@ pub fn transcript<W: World>(
     }
     Ok(lines)
 }
-
-#[cfg(test)]
-mod book_tests;
-#[cfg(test)]
-mod tests;

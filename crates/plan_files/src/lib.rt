@@ -14,8 +14,3 @@ mod table;
 pub use fault::{FileCause, FileError};
 pub use plan::{PlanFile, read_plan};
 pub use readings::read_readings;
-
-#[cfg(test)]
-mod plan_tests;
-#[cfg(test)]
-mod tests;

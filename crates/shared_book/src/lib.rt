@@ -16,6 +16,3 @@ pub use parcel::{CommitError, Parcel, Reply};
 pub use parts::{BeginRefused, Pass, SharedBook, Shut};
 pub use threads::crosses_threads;
 pub use turn::{Opening, Turn};
-
-#[cfg(test)]
-mod tests;

@@ -26,6 +26,3 @@ impl From<AllocError> for RunError {
         RunError::Memory
     }
 }
-
-#[cfg(test)]
-mod tests;

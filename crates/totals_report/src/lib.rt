@@ -12,8 +12,3 @@ pub use book::{report, rows_of, summary};
 pub use reading::read_report;
 pub use row::{Report, ReportError, ReportRow, RowOutcome};
 pub use writing::row_text;
-
-#[cfg(test)]
-mod book_tests;
-#[cfg(test)]
-mod tests;

@@ -24,6 +24,3 @@ pub use transcript::Transcript;
 pub use version::Version;
 pub use writer::write;
 pub use writing::line_text;
-
-#[cfg(test)]
-mod tests;

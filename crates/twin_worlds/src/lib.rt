@@ -17,9 +17,3 @@ pub use twins::twin;
 pub use writing::moved_text;
 
 pub mod laws;
-#[cfg(test)]
-mod schedule_tests;
-#[cfg(test)]
-mod table_tests;
-#[cfg(test)]
-mod tests;

@@ -1,0 +1,148 @@
+//! Words over tables of masks that are listed.
+
+ghost use Rattle.std.specs.Prelude.{◌+◌, ◌-◌, [], ◌∷◌, replicate, slice_index_or};
+
+use blind_core::{answer, masked, masked_group};
+use mask_stream::Masks;
+use missing_round::MeterSet;
+use mod_word::Word;
+use std::sync::atomic::{AtomicU32, Ordering};
+use std::test::Fail;
+
+// The masks of one round of up to three meters: the own words, and the words of the pairs 0 1, 0 2 and 1 2.
+#[derive(Clone, Copy)]
+struct Listed {
+    own: [u64; 3],
+    pair: [u64; 3],
+}
+
+impl Masks for Listed {
+    ghost plan = { λ s. record { groups = record { name = []; floor = 2; spans = replicate 3 (record { from = 0; until = 1 }) } ∷ []; rounds = 1; w1 = 1; w2 = 2 } };
+
+    ghost table = { λ s. record { own = λ g r i. slice_index_or s.own i 0; pair = λ g r i j. slice_index_or s.pair (i + j - 1) 0 } };
+
+    fn own(&self, _group: u16, _round: u32, meter: u8) -> Word {
+        Word(self.own.get(usize::from(meter)).copied().unwrap_or(0))
+    }
+
+    fn pair(&self, _group: u16, _round: u32, low: u8, high: u8) -> Word {
+        let place = usize::from(low) + usize::from(high) - 1;
+        Word(self.pair.get(place).copied().unwrap_or(0))
+    }
+}
+
+// Masks of 64 meters that are all 0, with the number of pair words that were asked.
+#[derive(Drop)]
+struct Counting {
+    asked: AtomicU32,
+}
+
+impl Masks for Counting {
+    ghost plan = { λ s. record { groups = record { name = []; floor = 2; spans = replicate 64 (record { from = 0; until = 1 }) } ∷ []; rounds = 1; w1 = 1; w2 = 2 } };
+
+    ghost table = { λ s. record { own = λ g r i. 0; pair = λ g r i j. 0 } };
+
+    fn own(&self, _group: u16, _round: u32, _meter: u8) -> Word {
+        Word(0)
+    }
+
+    fn pair(&self, _group: u16, _round: u32, _low: u8, _high: u8) -> Word {
+        self.asked.fetch_add(1, Ordering::SeqCst);
+        Word(0)
+    }
+}
+
+const IDEAL: Listed = Listed {
+    own: [100, 200, 300],
+    pair: [5, 7, 11],
+};
+
+#[test]
+fn words_over_ideal_table(rt: HostRuntime) {
+    let all = MeterSet::full(3);
+    assert_eq!(rt; masked(&IDEAL, 0, &all, 0, 0, 10), Word(122));
+    assert_eq!(rt; masked(&IDEAL, 0, &all, 0, 1, 20), Word(226));
+    assert_eq!(rt; masked(&IDEAL, 0, &all, 0, 2, 30), Word(312));
+}
+
+#[test]
+fn group_words_at_once(rt: HostRuntime) -> Result<(), Fail> {
+    let readings = [Some(10), Some(20), Some(30)];
+    let words = masked_group(rt.alloc(), &IDEAL, 0, &MeterSet::full(3), 0, &readings)?;
+    assert_eq!(rt;
+        words.as_slice(),
+        [Word(122), Word(226), Word(312)].as_slice()
+    );
+    Ok(())
+}
+
+// Words that look random, and the same at each run.
+fn next_word(seed: u64) -> u64 {
+    let mixed = (seed ^ (seed >> 29)).wrapping_mul(0xbf58_476d_1ce4_e5b9);
+    (mixed ^ (mixed >> 32)).wrapping_add(0x9e37_79b9_7f4a_7c15)
+}
+
+#[test]
+fn group_as_one_by_one(rt: HostRuntime) -> Result<(), Fail> {
+    let mut seed = 7;
+    for _ in 0..20 {
+        let mut words = [0u64; 6];
+        for place in 0..words.len() {
+            seed = next_word(seed);
+            words[place] = seed;
+        }
+        let [own0, own1, own2, pair01, pair02, pair12] = words;
+        let masks = Listed {
+            own: [own0, own1, own2],
+            pair: [pair01, pair02, pair12],
+        };
+        let all = MeterSet::full(3);
+        let readings = [Some(1), Some(1 << 39), Some(1_099_511_627_775)];
+        let group = masked_group(rt.alloc(), &masks, 0, &all, 0, &readings)?;
+        let alone = [
+            masked(&masks, 0, &all, 0, 0, 1),
+            masked(&masks, 0, &all, 0, 1, 1 << 39),
+            masked(&masks, 0, &all, 0, 2, 1_099_511_627_775),
+        ];
+        assert_eq!(rt; group.as_slice(), alone.as_slice());
+    }
+    Ok(())
+}
+
+#[test]
+fn answers_open_total_30(rt: HostRuntime) {
+    let missing = MeterSet::empty().with(2);
+    assert_eq!(rt; answer(&IDEAL, 0, 0, 0, &missing), Word(107));
+    assert_eq!(rt; answer(&IDEAL, 0, 0, 1, &missing), Word(211));
+}
+
+#[test]
+fn words_over_two_members(rt: HostRuntime) {
+    let two = MeterSet::full(2);
+    assert_eq!(rt; masked(&IDEAL, 0, &two, 0, 0, 10), Word(115));
+    assert_eq!(rt; masked(&IDEAL, 0, &two, 0, 1, 20), Word(215));
+}
+
+#[test]
+fn higher_meter_subtracts(rt: HostRuntime) {
+    let one = Listed {
+        own: [0, 0, 0],
+        pair: [1, 0, 0],
+    };
+    assert_eq!(rt;
+        masked(&one, 0, &MeterSet::full(2), 0, 1, 0),
+        Word(0xffff_ffff_ffff_ffff)
+    );
+}
+
+#[test]
+fn each_pair_word_asked_once(rt: HostRuntime) -> Result<(), Fail> {
+    let masks = Counting {
+        asked: AtomicU32::new(0),
+    };
+    let readings = [Some(1); 64];
+    let words = masked_group(rt.alloc(), &masks, 0, &MeterSet::full(64), 0, &readings)?;
+    assert_eq!(rt; words.len(), 64);
+    assert_eq!(rt; masks.asked.load(Ordering::SeqCst), 2016);
+    Ok(())
+}

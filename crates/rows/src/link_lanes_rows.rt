@@ -1,0 +1,441 @@
+//! Fates and lanes: arguments by their forms, fates by lanes, rows that are refused, and lanes that are hung by hand.
+
+ghost use Rattle.std.specs.Prelude.{◌≡◌, ◌<◌, ◌≤◌, ◌+◌, ◌^◌, length};
+ghost use Rattle.link_lanes.specs.Racks.{posts_of, spare_of, HasRoom};
+
+use crate::fixtures::reading_tag;
+use group_plan::{Kind, Name, Tag};
+use link_lanes::{
+    Arg, ArgError, Burst, Clear, EveryNth, Fate, FateError, Lane, LaneError, LaneRow, Rack,
+    RackCause, Rules, Seeded,
+};
+use std::alloc::Global;
+use std::cell::Cell;
+use std::process::Abort;
+use std::rc::Rc;
+use std::test::Fail;
+
+#[test]
+fn fates_by_delays(rt: HostRuntime) {
+    let first_to_last = Fate::new(&[1, 16, 16]);
+    assert!(&rt; first_to_last.is_ok());
+    if let Ok(fate) = first_to_last {
+        assert!(&rt; fate.delays() == [1, 16, 16].as_slice());
+    }
+    assert!(&rt; Fate::new(&[]).is_ok());
+    assert!(&rt; Fate::new(&[0, 17, 1, 1]) == Err(FateError::Copies));
+    assert!(&rt; Fate::new(&[3, 0]) == Err(FateError::Delay));
+    assert!(&rt; Fate::new(&[17]) == Err(FateError::Delay));
+    assert!(&rt; Fate::new(&[2, 4, 3]) == Err(FateError::Order));
+}
+
+fn takes<L: Lane>(alloc: Global, lane: &mut L, arg: &str) -> Result<bool, LaneError> {
+    match lane.load(alloc, arg) {
+        Ok(()) => Ok(true),
+        Err(LaneError::Refused) => Ok(false),
+        Err(LaneError::Memory) => Err(LaneError::Memory),
+    }
+}
+
+// So many rules, of which none matches.
+fn many_rules(alloc: Global, count: usize) -> Result<String, Fail> {
+    let mut arg = String::new(alloc);
+    for at in 0..count {
+        if at > 0 {
+            arg.push(';')?;
+        }
+        arg.push_str("4294967295.*.*.*=-")?;
+    }
+    Ok(arg)
+}
+
+#[test]
+fn arguments_by_form(rt: HostRuntime) -> Result<(), Fail> {
+    let alloc = rt.alloc();
+    for (arg, fits) in [("", true), (" ", false), ("-", false)] {
+        assert_eq!(&rt; takes(alloc, &mut Clear::new(), arg)?, fits, "clear {arg}");
+    }
+    for (arg, fits) in [
+        ("*.*.*.*=-", true),
+        ("0.0.r.2=2", true),
+        (
+            "4294967295.4294967295.a.4294967295=1+3;*.0.m.*=16+16+16",
+            true,
+        ),
+        ("", false),
+        (";", false),
+        ("0.0.r.2=2;", false),
+        (";0.0.r.2=2", false),
+        ("0.0.r.2=2;;0.0.r.2=2", false),
+        ("0.0.r=2", false),
+        ("0.0.r.2.2=2", false),
+        ("0.0.r.2", false),
+        ("0.0.r.2=2=2", false),
+        ("0.0.r.2=", false),
+        ("4294967296.0.r.2=2", false),
+        ("00.0.r.2=2", false),
+        ("0.+1.r.2=2", false),
+        ("0.0.R.2=2", false),
+        ("0.0.rr.2=2", false),
+        ("0.0..2=2", false),
+        ("0.0.r.**=2", false),
+    ] {
+        assert_eq!(&rt; takes(alloc, &mut Rules::new(), arg)?, fits, "rules {arg}");
+    }
+    let most = many_rules(alloc, 64)?;
+    assert!(&rt; takes(alloc, &mut Rules::new(), most.as_str())?);
+    let more = many_rules(alloc, 65)?;
+    assert!(&rt; !takes(alloc, &mut Rules::new(), more.as_str())?);
+    for (arg, fits) in [
+        ("18446744073709551615:1000:1000:16", true),
+        ("0:0:0:1", true),
+        ("18446744073709551616:0:0:1", false),
+        (
+            "99999999999999999999999999999999999999999999999999:0:0:1",
+            false,
+        ),
+        ("0:1001:0:1", false),
+        ("0:0:1001:1", false),
+        ("0:0:0:0", false),
+        ("0:0:0:17", false),
+        ("0:0:0", false),
+        ("0:0:0:1:1", false),
+        ("0:0::1", false),
+    ] {
+        assert_eq!(&rt;
+            takes(alloc, &mut Seeded::new(), arg)?,
+            fits,
+            "seeded {arg}"
+        );
+    }
+    for (arg, fits) in [
+        ("1:-", true),
+        ("1000000:16", true),
+        ("3:1+3", true),
+        ("3:2+2+2", true),
+        ("", false),
+        ("3", false),
+        (":1", false),
+        ("0:1", false),
+        ("1000001:1", false),
+        ("03:1", false),
+        ("3:", false),
+        ("3:0", false),
+        ("3:17", false),
+        ("3:2+1", false),
+        ("3:1+1+1+1", false),
+        ("3:1+", false),
+        ("3:-+1", false),
+        ("3:1:1", false),
+    ] {
+        assert_eq!(&rt;
+            takes(alloc, &mut EveryNth::new(), arg)?,
+            fits,
+            "every {arg}"
+        );
+    }
+    for (arg, fits) in [
+        ("1:1", true),
+        ("1000000:1000000", true),
+        ("", false),
+        ("1", false),
+        ("0:1", false),
+        ("1:0", false),
+        ("1000001:1", false),
+        ("1:1000001", false),
+        ("1:1:1", false),
+        ("01:1", false),
+    ] {
+        assert_eq!(&rt; takes(alloc, &mut Burst::new(), arg)?, fits, "burst {arg}");
+    }
+    assert!(&rt; Arg::new(alloc, b"a b").err() == Some(ArgError::Byte(1)));
+    assert!(&rt; Arg::new(alloc, b"!~\x7f").err() == Some(ArgError::Byte(2)));
+    let plain = Arg::new(alloc, b"!,\"~")?;
+    assert!(&rt; plain.text() == "!,\"~");
+    assert!(&rt; Arg::new(alloc, b"")?.text() == "");
+    Ok(())
+}
+
+// Makes these posts.
+fn pass_all(rack: &mut Rack, posts: &[(u32, Tag)])
+    requires room { HasRoom (λ b. meaning b) rack.old }
+    requires few { length (posts_of rack.old) + length posts.now < 2 ^ 32 }
+    requires spare { length posts.now ≤ spare_of rack.old }
+{
+    for (tick, tag) in posts {
+        rack.pass(*tick, *tag);
+    }
+}
+
+fn row(alloc: Global, row: u32, name: &str, arg: &str, span: (u32, u32)) -> Result<LaneRow, Fail> {
+    let Some(name) = Name::new(name.as_bytes()) else {
+        return Err(Fail::new("a name of another form"));
+    };
+    Ok(LaneRow {
+        row,
+        name,
+        arg: Arg::new(alloc, arg.as_bytes())?,
+        from: span.0,
+        to: span.1,
+    })
+}
+
+// Lanes out of a cupboard with one of each kind, hung by these rows, give the posts these fates.
+fn check_fates(
+    rt: &impl Abort,
+    alloc: Global,
+    rows: &[(&str, &str, (u32, u32))],
+    posts: &[(u32, Tag)],
+    fates: &[&[u8]],
+) -> Result<(), Fail> {
+    let mut cupboard: Vec<Box<dyn Lane>> = Vec::new(alloc);
+    cupboard.push(Box::new(alloc, Clear::new())?)?;
+    cupboard.push(Box::new(alloc, Rules::new())?)?;
+    cupboard.push(Box::new(alloc, Seeded::new())?)?;
+    cupboard.push(Box::new(alloc, EveryNth::new())?)?;
+    cupboard.push(Box::new(alloc, Burst::new())?)?;
+    let mut lane_rows = Vec::new(alloc);
+    for (name, arg, span) in rows {
+        lane_rows.push(row(alloc, 11, name, arg, *span)?)?;
+    }
+    let mut rack = match Rack::fit(alloc, cupboard, &lane_rows) {
+        Ok(rack) => rack,
+        Err(error) => return Err(Fail::from(error)),
+    };
+    assert!(rt; posts.len() < 100);
+    rack.reserve(posts.len() as u64)?;
+    pass_all(&mut rack, posts);
+    assert_eq!(rt; rack.posts().len(), fates.len());
+    for (post, delays) in rack.posts().iter().zip(fates) {
+        assert_eq!(rt; post.fate.delays(), *delays, "{:?}", post.tag);
+    }
+    Ok(())
+}
+
+// The same of six posts: three readings at tick 0, an announcement, an answer and a reading of another group.
+fn check_six(
+    rt: &impl Abort,
+    alloc: Global,
+    rows: &[(&str, &str, (u32, u32))],
+    fates: &[&[u8]],
+) -> Result<(), Fail> {
+    let announcement = Tag {
+        group: 0,
+        round: 0,
+        meter: 1,
+        kind: Kind::Announcement,
+    };
+    let answer = Tag {
+        group: 0,
+        round: 0,
+        meter: 1,
+        kind: Kind::Answer,
+    };
+    let posts = [
+        (0, reading_tag(0, 0, 0)),
+        (0, reading_tag(0, 0, 1)),
+        (0, reading_tag(0, 0, 2)),
+        (1, announcement),
+        (2, answer),
+        (3, reading_tag(1, 1, 2)),
+    ];
+    check_fates(rt, alloc, rows, &posts, fates)
+}
+
+#[test]
+fn fates_by_lanes(rt: HostRuntime) -> Result<(), Fail> {
+    let alloc = rt.alloc();
+    let none: &[u8] = &[];
+    let one: &[u8] = &[1];
+    check_six(&rt, alloc, &[], &[one, one, one, one, one, one])?;
+    check_six(
+        &rt,
+        alloc,
+        &[("burst", "1:1", (0, 9)), ("clear", "", (0, 9))],
+        &[one, one, one, one, one, one],
+    )?;
+    check_six(
+        &rt,
+        alloc,
+        &[("rules", "0.0.r.1=-;*.*.*.2=4;*.*.m.*=2+2", (0, 9))],
+        &[one, none, &[4], &[2, 2], one, &[4]],
+    )?;
+    // Numbers that no tag can have match nothing.
+    check_six(
+        &rt,
+        alloc,
+        &[("rules", "65536.*.*.*=9;*.*.*.256=9;*.*.*.*=3", (0, 9))],
+        &[&[3], &[3], &[3], &[3], &[3], &[3]],
+    )?;
+    check_six(
+        &rt,
+        alloc,
+        &[("every", "2:1+3", (0, 9))],
+        &[one, &[1, 3], one, &[1, 3], one, &[1, 3]],
+    )?;
+    // Posts before the span are not counted.
+    check_six(
+        &rt,
+        alloc,
+        &[("every", "2:5", (1, 2))],
+        &[one, one, one, one, &[5], one],
+    )?;
+    check_six(
+        &rt,
+        alloc,
+        &[("burst", "2:1", (0, 9))],
+        &[one, one, none, one, one, none],
+    )?;
+    // A post that comes without a copy is counted, and may get one.
+    check_six(
+        &rt,
+        alloc,
+        &[("burst", "1:1", (0, 9)), ("every", "2:3", (0, 9))],
+        &[one, &[3], one, &[3], one, &[3]],
+    )?;
+    check_six(
+        &rt,
+        alloc,
+        &[("every", "1:2", (0, 9)), ("burst", "1:1", (0, 9))],
+        &[&[2], none, &[2], none, &[2], none],
+    )?;
+    check_six(
+        &rt,
+        alloc,
+        &[("seeded", "7:300:500:16", (0, 9))],
+        &[&[6], &[3], none, none, &[2, 9], none],
+    )?;
+    // Every second post comes without a copy, and the twenty take more words than one refill of the stream has.
+    let many = [(0, reading_tag(0, 0, 0)); 20];
+    check_fates(
+        &rt,
+        alloc,
+        &[("burst", "1:1", (0, 0)), ("seeded", "7:300:500:16", (0, 0))],
+        &many,
+        &[
+            &[6],
+            none,
+            none,
+            none,
+            &[2, 9],
+            none,
+            &[8, 16],
+            none,
+            &[4, 14],
+            none,
+            &[13, 16],
+            none,
+            none,
+            none,
+            none,
+            none,
+            &[7],
+            none,
+            &[3],
+            none,
+        ],
+    )
+}
+
+#[test]
+fn rows_refused(rt: HostRuntime) -> Result<(), Fail> {
+    let alloc = rt.alloc();
+    for (name, arg, cause) in [
+        ("none", "3:1", RackCause::NoSuchLane),
+        ("every", "3:1", RackCause::NoSuchLane),
+        ("every", "x", RackCause::NoSuchLane),
+        ("burst", "3:0", RackCause::BadArgument),
+    ] {
+        let mut cupboard: Vec<Box<dyn Lane>> = Vec::new(alloc);
+        cupboard.push(Box::new(alloc, Burst::new())?)?;
+        cupboard.push(Box::new(alloc, EveryNth::new())?)?;
+        let mut rows = Vec::new(alloc);
+        rows.push(row(alloc, 11, "every", "2:1", (0, 9))?)?;
+        rows.push(row(alloc, 12, name, arg, (0, 9))?)?;
+        rows.push(row(alloc, 13, "none", "", (0, 9))?)?;
+        match Rack::fit(alloc, cupboard, &rows) {
+            Ok(_rack) => return Err(Fail::new("fitted")),
+            Err(error) => {
+                assert_eq!(&rt; error.row, 12, "{name} {arg}");
+                assert_eq!(&rt; error.cause, cause, "{name} {arg}");
+            }
+        }
+    }
+    Ok(())
+}
+
+#[test]
+fn lane_hung_by_hand(rt: HostRuntime) -> Result<(), Fail> {
+    let alloc = rt.alloc();
+    let Ok(rack) = Rack::fit(alloc, Vec::new(alloc), &[]) else {
+        return Err(Fail::new("an empty rack"));
+    };
+    let mut rack = rack;
+    let mut lane = Rules::new();
+    lane.load(alloc, "0.0.r.2=2")?;
+    if rack.hang(Box::new(alloc, lane)?, 0, 0).is_err() {
+        return Err(Fail::new("want of memory"));
+    }
+    rack.reserve(3)?;
+    assert!(&rt; rack.pass(0, reading_tag(0, 0, 0)).delays() == [1].as_slice());
+    assert!(&rt; rack.pass(0, reading_tag(0, 0, 1)).delays() == [1].as_slice());
+    assert!(&rt; rack.pass(0, reading_tag(0, 0, 2)).delays() == [2].as_slice());
+    Ok(())
+}
+
+// A lane that counts its drops where others can read them.
+struct Counted {
+    count: u64,
+    drops: Rc<Cell<u32>>,
+}
+
+impl Drop for Counted {
+    fn drop(self) {
+        self.drops.set(self.drops.get().wrapping_add(1));
+        let Counted { count: _, drops: _ } = self;
+    }
+}
+
+impl Lane for Counted {
+    ghost use Rattle.std.specs.Prelude.{codes, false};
+
+    ghost meaning = { λ s. record { called = codes "counted"; fits = λ arg. false; count = s.count; answer = λ k tag coming. coming; given = λ arg k tag coming. coming } };
+
+    fn name(&self) -> &str {
+        "counted"
+    }
+
+    fn load(&mut self, _alloc: Global, _arg: &str) -> Result<(), LaneError> {
+        Err(LaneError::Refused)
+    }
+
+    fn fate(&mut self, _tag: Tag, coming: Fate) -> Fate {
+        self.count += 1;
+        coming
+    }
+}
+
+#[test]
+fn retired_lane_dropped_once(rt: HostRuntime) -> Result<(), Fail> {
+    let alloc = rt.alloc();
+    let drops = Rc::new(alloc, Cell::new(0))?;
+    let Ok(rack) = Rack::fit(alloc, Vec::new(alloc), &[]) else {
+        return Err(Fail::new("an empty rack"));
+    };
+    let mut rack = rack;
+    let lane = Counted {
+        count: 0,
+        drops: Rc::clone(&drops)?,
+    };
+    if rack.hang(Box::new(alloc, lane)?, 0, 0).is_err() {
+        return Err(Fail::new("want of memory"));
+    }
+    rack.retire(0);
+    assert_eq!(&rt; drops.get(), 0);
+    rack.retire(1);
+    assert_eq!(&rt; drops.get(), 1);
+    rack.retire(2);
+    drop(rack);
+    assert_eq!(&rt; drops.get(), 1);
+    Ok(())
+}

@@ -1,0 +1,44 @@
+//! Copies by tick.
+
+use crate::fixtures::reading_tag;
+use link_lanes::Fate;
+use lossy_link::Link;
+use std::process::Abort;
+use std::test::Fail;
+
+fn send(link: &mut Link, tick: u32, meter: u8, delays: &[u8]) -> Result<(), Fail> {
+    if tick >= 100 {
+        return Err(Fail::new("a late tick"));
+    }
+    link.post(tick, reading_tag(0, 0, meter), Fate::new(delays)?)?;
+    Ok(())
+}
+
+// The meters whose readings come out at the tick, in order.
+fn check_due(rt: &impl Abort, link: &mut Link, tick: u32, meters: &[u8]) -> Result<(), Fail> {
+    let tags = link.due(tick)?;
+    assert_eq!(rt; tags.len(), meters.len(), "at {tick}");
+    for (tag, meter) in tags.iter().zip(meters) {
+        assert!(rt; *tag == reading_tag(0, 0, *meter), "at {tick}");
+    }
+    Ok(())
+}
+
+#[test]
+fn copies_by_tick_in_the_order_of_posts(rt: HostRuntime) -> Result<(), Fail> {
+    let mut link = Link::new(rt.alloc());
+    assert_eq!(&rt; link.left(), 0);
+    send(&mut link, 3, 9, &[1, 3])?;
+    send(&mut link, 0, 7, &[])?;
+    send(&mut link, 2, 8, &[2, 2, 4])?;
+    send(&mut link, 5, 6, &[1])?;
+    assert_eq!(&rt; link.left(), 6);
+    check_due(&rt, &mut link, 3, &[])?;
+    check_due(&rt, &mut link, 6, &[9, 8, 6])?;
+    assert_eq!(&rt; link.left(), 3);
+    check_due(&rt, &mut link, 6, &[])?;
+    check_due(&rt, &mut link, 5, &[])?;
+    check_due(&rt, &mut link, 4, &[9, 8, 8])?;
+    assert_eq!(&rt; link.left(), 0);
+    Ok(())
+}

@@ -1,0 +1,49 @@
+//! Keys that are put, refused and missing.
+
+use crate::fixtures::group;
+use group_plan::Plan;
+use pair_keys::{KeyError, KeyId, KeyPile};
+use std::test::Fail;
+
+#[test]
+fn keys_of_two_meters(rt: HostRuntime) -> Result<(), Fail> {
+    let plan = Plan::new(rt.alloc(), &[group(b"north", 2, 2)?], 1, 1, 2)?;
+    let mut pile = KeyPile::new(rt.alloc(), &plan)?;
+    let own = KeyId::Own { group: 0, meter: 0 };
+    for (group, meter, expected) in [
+        (0, 0, Ok(())),
+        (0, 0, Err(KeyError::Twice(own))),
+        (0, 2, Err(KeyError::Range)),
+        (0, 256, Err(KeyError::Range)),
+        (1, 0, Err(KeyError::Range)),
+        (65536, 0, Err(KeyError::Range)),
+    ] {
+        assert_eq!(&rt; pile.put_own(group, meter, [7; 32]), expected);
+    }
+    for (low, high) in [(0, 0), (1, 0), (1, 1), (0, 2)] {
+        assert_eq!(&rt; pile.put_pair(0, low, high, [7; 32]), Err(KeyError::Range));
+    }
+    for missing in [
+        KeyId::Own { group: 0, meter: 1 },
+        KeyId::Pair {
+            group: 0,
+            low: 0,
+            high: 1,
+        },
+    ] {
+        match pile.finish() {
+            Ok(_) => return Ok(assert!(&rt; false)),
+            Err(unfinished) => {
+                assert_eq!(&rt; unfinished.missing, missing);
+                pile = unfinished.pile;
+            }
+        }
+        let put = match missing {
+            KeyId::Own { group, meter } => pile.put_own(group, meter, [8; 32]),
+            KeyId::Pair { group, low, high } => pile.put_pair(group, low, high, [9; 32]),
+        };
+        assert_eq!(&rt; put, Ok(()));
+    }
+    assert!(&rt; pile.finish().is_ok());
+    Ok(())
+}

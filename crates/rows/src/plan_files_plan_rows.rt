@@ -1,0 +1,412 @@
+//! Plan files: their values and their first faults.
+
+use crate::fixtures::reading_tag;
+use group_plan::{PlanError, SpanError};
+use pair_keys::{KeyError, KeyId};
+use plan_files::{FileCause, FileError, PlanFile, read_plan};
+use std::alloc::{AllocError, Global};
+use std::test::Fail;
+
+// The rows of the plain plan. A Z stands for 64 zeros.
+static ROWS: [&str; 10] = [
+    "plan,1",
+    "rounds,1",
+    "windows,1,2",
+    "group,north,3,2",
+    "own,0,0,Z",
+    "own,0,1,Z",
+    "own,0,2,Z",
+    "pair,0,0,1,Z",
+    "pair,0,0,2,Z",
+    "pair,0,1,2,Z",
+];
+
+static ZEROS: &str = "0000000000000000000000000000000000000000000000000000000000000000";
+
+// Adds the text, with zeros for each Z.
+fn add(file: &mut Vec<u8>, text: &str) -> Result<(), AllocError> {
+    for byte in text.as_bytes() {
+        if *byte == b'Z' {
+            file.extend_from_slice(ZEROS.as_bytes())?;
+        } else {
+            file.push(*byte)?;
+        }
+    }
+    Ok(())
+}
+
+// The plain plan with a text in place of the rows `from` to `until`, and with more at its end.
+fn plan_file(
+    alloc: Global,
+    from: usize,
+    until: usize,
+    text: &str,
+    more: &str,
+) -> Result<Vec<u8>, AllocError> {
+    let mut file = Vec::new(alloc);
+    for (i, row) in ROWS.iter().enumerate() {
+        if i + 1 == from {
+            add(&mut file, text)?;
+            add(&mut file, "\n")?;
+        }
+        if i + 1 < from || i + 1 > until {
+            add(&mut file, row)?;
+            add(&mut file, "\n")?;
+        }
+    }
+    add(&mut file, more)?;
+    Ok(file)
+}
+
+fn read(alloc: Global, bytes: &[u8]) -> Result<PlanFile, FileError> {
+    if bytes.len() > 1 << 28 {
+        return Err(FileError {
+            row: 0,
+            cause: FileCause::Memory,
+        });
+    }
+    read_plan(alloc, bytes)
+}
+
+fn fault_of(alloc: Global, bytes: &[u8]) -> FileError {
+    match read(alloc, bytes) {
+        Ok(_) => FileError {
+            row: 0,
+            cause: FileCause::Extra,
+        },
+        Err(error) => error,
+    }
+}
+
+const OWN_0: KeyId = KeyId::Own { group: 0, meter: 0 };
+
+const OWN_1: KeyId = KeyId::Own { group: 0, meter: 1 };
+
+const PAIR_0_1: KeyId = KeyId::Pair {
+    group: 0,
+    low: 0,
+    high: 1,
+};
+
+const PAIR_0_2: KeyId = KeyId::Pair {
+    group: 0,
+    low: 0,
+    high: 2,
+};
+
+const KEY_RANGE: FileCause = FileCause::Key(KeyError::Range);
+
+const TWICE_OWN_0: FileCause = FileCause::Key(KeyError::Twice(OWN_0));
+
+const WINDOW: FileCause = FileCause::Plan(PlanError::Window);
+
+const ROUNDS: FileCause = FileCause::Plan(PlanError::Rounds);
+
+const FIRST_SPAN: FileCause = FileCause::Member(SpanError::Range(0));
+
+// Which rows are replaced, by which text, what comes at the end, and the row and the cause of the first fault.
+static FAULTS: [(usize, usize, &str, &str, u32, FileCause); 103] = [
+    // row 1
+    (1, 1, "plan,2", "", 1, FileCause::Row),
+    (1, 1, "plan,01", "", 1, FileCause::Row),
+    (1, 1, "plan,1,", "", 1, FileCause::Row),
+    (1, 1, "plan,1 ", "", 1, FileCause::Row),
+    (1, 1, "plan", "", 1, FileCause::Row),
+    (1, 1, "Plan,1", "", 1, FileCause::Row),
+    (1, 1, "\"\"", "", 1, FileCause::Row),
+    (1, 1, " \nplan,1", "", 1, FileCause::Row),
+    (1, 1, "\u{feff}\u{feff}plan,1", "", 1, FileCause::Row),
+    // a file that ends early
+    (1, 10, "", "", 1, FileCause::Short),
+    (1, 10, "\r\n\n", "", 1, FileCause::Short),
+    (2, 10, "", "", 2, FileCause::Short),
+    (3, 10, "", "", 3, FileCause::Short),
+    (1, 10, "plan,2", "", 1, FileCause::Row),
+    (2, 10, "round,1", "", 2, FileCause::Row),
+    (2, 10, "rounds,x", "", 2, FileCause::Number),
+    (3, 3, "", "", 3, FileCause::Row),
+    // rows 2 and 3
+    (2, 2, "windows,1,2", "", 2, FileCause::Row),
+    (2, 2, "rounds", "", 2, FileCause::Fields),
+    (2, 2, "rounds,x,1", "", 2, FileCause::Fields),
+    (2, 2, "rounds,", "", 2, FileCause::Number),
+    (2, 2, "rounds,00", "", 2, FileCause::Number),
+    (2, 2, "rounds,01", "", 2, FileCause::Number),
+    (2, 2, "rounds,+1", "", 2, FileCause::Number),
+    (2, 2, "rounds,-0", "", 2, FileCause::Number),
+    (2, 2, "rounds, 1", "", 2, FileCause::Number),
+    (2, 2, "rounds,1\"0", "", 2, FileCause::Number),
+    (2, 2, "rounds,\u{661}", "", 2, FileCause::Number),
+    (2, 2, "rounds,4294967296", "", 2, FileCause::Number),
+    (
+        2,
+        2,
+        "rounds,18446744073709551617",
+        "",
+        2,
+        FileCause::Number,
+    ),
+    (
+        2,
+        2,
+        "rounds,100000000000000000000000000000000000000000000000001",
+        "",
+        2,
+        FileCause::Number,
+    ),
+    (2, 3, "rounds,x\nwindow,1", "", 2, FileCause::Number),
+    (3, 3, "windows,1", "", 3, FileCause::Fields),
+    (3, 3, "windows,1,2,3", "", 3, FileCause::Fields),
+    (3, 3, "windows,1,x", "", 3, FileCause::Number),
+    // groups
+    (4, 4, "group,a b,x,2", "", 4, FileCause::Name),
+    (4, 4, "group,ab,x,2", "", 4, FileCause::Number),
+    (4, 4, "group,,3,2", "", 4, FileCause::Name),
+    (4, 4, "group,abcdefghijklmnopq,3,2", "", 4, FileCause::Name),
+    (4, 4, "group,a b,3", "", 4, FileCause::Fields),
+    (4, 4, "group,north,3,2,", "", 4, FileCause::Fields),
+    (4, 4, "groups,north,3,2", "", 4, FileCause::Row),
+    (
+        4,
+        4,
+        "group,north,3,2",
+        "group,south,2,2",
+        11,
+        FileCause::Row,
+    ),
+    // keys
+    (5, 5, "Own,0,0,Z", "", 5, FileCause::Row),
+    (5, 5, "own,0,0", "", 5, FileCause::Fields),
+    (5, 5, "own,x,0,Zg", "", 5, FileCause::Number),
+    (5, 5, "own,0,4294967296,Z", "", 5, FileCause::Number),
+    (5, 5, "own,0,0,", "", 5, FileCause::Hex),
+    (5, 5, "own,0,0,Z0", "", 5, FileCause::Hex),
+    (5, 5, "own,0,0,Z00", "", 5, FileCause::Hex),
+    (
+        5,
+        5,
+        "own,0,0,000000000000000000000000000000000000000000000000000000000000000g",
+        "",
+        5,
+        FileCause::Hex,
+    ),
+    (8, 8, "pair,0,0,Z", "", 8, FileCause::Fields),
+    (8, 8, "pair,0,0,-1,Z", "", 8, FileCause::Number),
+    // lanes and members
+    (1, 1, "plan,1", "lane,clear,0,0", 11, FileCause::Fields),
+    (1, 1, "plan,1", "lane,,a b,0,0", 11, FileCause::Name),
+    (1, 1, "plan,1", "lane,clear,a b,x,0", 11, FileCause::Name),
+    (1, 1, "plan,1", "lane,clear,\u{e9},0,0", 11, FileCause::Name),
+    (
+        1,
+        1,
+        "plan,1",
+        "lane,clear,\"a\nb\",0,0",
+        11,
+        FileCause::Name,
+    ),
+    (1, 1, "plan,1", "lane,clear,,x,0", 11, FileCause::Number),
+    (1, 1, "plan,1", "member,0,0,0", 11, FileCause::Fields),
+    (1, 1, "plan,1", "member,0,0,0,x", 11, FileCause::Number),
+    (1, 1, "plan,1", "\"\"", 11, FileCause::Row),
+    (1, 1, "plan,1", " ", 11, FileCause::Row),
+    // the numbers of the plan
+    (2, 2, "rounds,0", "", 0, ROUNDS),
+    (2, 2, "rounds,4097", "", 0, ROUNDS),
+    (2, 2, "rounds,4294967295", "", 0, ROUNDS),
+    (3, 3, "windows,0,2", "", 0, WINDOW),
+    (3, 3, "windows,17,2", "", 0, WINDOW),
+    (3, 3, "windows,1,33", "", 0, WINDOW),
+    (4, 4, "", "", 0, FileCause::Plan(PlanError::NoGroup)),
+    (4, 10, "", "", 0, FileCause::Plan(PlanError::NoGroup)),
+    (
+        4,
+        4,
+        "group,north,3,2\ngroup,north,2,2",
+        "",
+        0,
+        FileCause::Plan(PlanError::SameName(0, 1)),
+    ),
+    (
+        4,
+        4,
+        "group,north,3,9\ngroup,south,1,2",
+        "",
+        0,
+        FileCause::Plan(PlanError::Meters(1)),
+    ),
+    (
+        4,
+        4,
+        "group,north,3,4",
+        "",
+        0,
+        FileCause::Plan(PlanError::Floor(0)),
+    ),
+    (
+        2,
+        10,
+        "rounds,4096\nwindows,1,2\ngroup,north,256,2",
+        "",
+        0,
+        FileCause::Plan(PlanError::TooManyReadings(1_048_576)),
+    ),
+    // what the plan refuses
+    (1, 1, "plan,1", "pair,0,1,1,Z", 11, KEY_RANGE),
+    (1, 1, "plan,1", "pair,0,1,0,Z", 11, KEY_RANGE),
+    (1, 1, "plan,1", "pair,0,0,3,Z", 11, KEY_RANGE),
+    (5, 5, "own,0,3,Z", "", 5, KEY_RANGE),
+    (5, 5, "own,1,0,Z", "", 5, KEY_RANGE),
+    (5, 5, "own,65536,0,Z", "", 5, KEY_RANGE),
+    (5, 5, "own,0,256,Z", "", 5, KEY_RANGE),
+    (8, 8, "pair,0,0,65537,Z", "", 8, KEY_RANGE),
+    (1, 1, "plan,1", "own,0,0,Z", 11, TWICE_OWN_0),
+    (
+        8,
+        8,
+        "pair,0,0,2,Z",
+        "",
+        9,
+        FileCause::Key(KeyError::Twice(PAIR_0_2)),
+    ),
+    (1, 1, "plan,1", "lane,clear,,1,0", 11, FileCause::LaneSpan),
+    (1, 1, "plan,1", "lane,clear,,0,36", 11, FileCause::LaneSpan),
+    (2, 2, "rounds,2", "member,0,2,1,1", 11, FIRST_SPAN),
+    (2, 2, "rounds,2", "member,0,2,0,3", 11, FIRST_SPAN),
+    (1, 1, "plan,1", "member,0,3,0,1", 11, FIRST_SPAN),
+    (1, 1, "plan,1", "member,1,0,0,1", 11, FIRST_SPAN),
+    (1, 1, "plan,1", "member,65536,0,0,1", 11, FIRST_SPAN),
+    (
+        1,
+        1,
+        "plan,1",
+        "member,0,0,0,1\nmember,0,0,0,1",
+        12,
+        FileCause::Member(SpanError::Twice(1)),
+    ),
+    // keys that are missing
+    (9, 9, "", "", 0, FileCause::Key(KeyError::Missing(PAIR_0_2))),
+    (6, 8, "", "", 0, FileCause::Key(KeyError::Missing(OWN_1))),
+    (
+        8,
+        10,
+        "",
+        "",
+        0,
+        FileCause::Key(KeyError::Missing(PAIR_0_1)),
+    ),
+    // which of two faults
+    (5, 5, "own,1,0,Z", "nonsense", 11, FileCause::Row),
+    (3, 3, "windows,0,2", "own,9,9,Z", 0, WINDOW),
+    (9, 9, "", "lane,clear,,1,0", 10, FileCause::LaneSpan),
+    (
+        1,
+        1,
+        "plan,1",
+        "lane,clear,,1,0\nown,0,0,Z",
+        11,
+        FileCause::LaneSpan,
+    ),
+    (
+        1,
+        1,
+        "plan,1",
+        "own,0,0,Z\nlane,clear,,1,0\nmember,9,0,0,1",
+        11,
+        TWICE_OWN_0,
+    ),
+    (
+        1,
+        1,
+        "plan,1",
+        "member,0,0,0,1\nmember,0,0,0,1\nown,0,0,Z",
+        12,
+        FileCause::Member(SpanError::Twice(1)),
+    ),
+    (
+        1,
+        1,
+        "plan,1",
+        "member,0,0,0,1\nown,0,0,Z\nmember,0,0,0,1",
+        12,
+        TWICE_OWN_0,
+    ),
+];
+
+#[test]
+fn first_faults_of_plans(rt: HostRuntime) -> Result<(), Fail> {
+    for case in FAULTS.iter() {
+        let (from, until, text, more, row, cause) = *case;
+        let file = plan_file(rt.alloc(), from, until, text, more)?;
+        assert_eq!(rt;
+            fault_of(rt.alloc(), file.as_slice()),
+            FileError { row, cause },
+            "{text} {more}"
+        );
+    }
+    Ok(())
+}
+
+// Which rows are replaced, by which text, and what comes at the end.
+static ACCEPTED: [(usize, usize, &str, &str); 14] = [
+    (1, 1, "plan,1", ""),
+    (1, 1, "\u{feff}plan,1", ""),
+    (1, 1, "\u{feff}\"plan\",\"1\"\r", ""),
+    (1, 1, "\n\r\nplan,1\r\r", ""),
+    (2, 2, "\nrounds,\"1\"0", ""),
+    (4, 4, "group,\"a-1_b0123456789c\",\"3\",2", ""),
+    (4, 4, "group,north,3,3", ""),
+    (5, 6, "own,0,1,Z\nlane,clear,,0,0\nown,0,0,Z", ""),
+    (
+        5,
+        5,
+        "own,0,0,0123456789abcdefABCDEF0123456789abcdefABCDEF0123456789abcdefABCD",
+        "",
+    ),
+    (1, 1, "plan,1", "lane,clear,,0,35"),
+    (1, 1, "plan,1", "lane,other,\"\",35,\"35"),
+    (1, 1, "plan,1", "lane,rules,\"a,\"\"b\",0,0\n"),
+    (1, 1, "plan,1", "member,0,2,0,1\r\n\r\n"),
+    (2, 2, "rounds,2", "member,0,2,1,2\nmember,0,1,0,2"),
+];
+
+#[test]
+fn accepted_plans(rt: HostRuntime) -> Result<(), Fail> {
+    for case in ACCEPTED.iter() {
+        let (from, until, text, more) = *case;
+        let file = plan_file(rt.alloc(), from, until, text, more)?;
+        assert!(rt; read(rt.alloc(), file.as_slice()).is_ok(), "{text} {more}");
+    }
+    Ok(())
+}
+
+#[test]
+fn value_of_a_plan(rt: HostRuntime) -> Result<(), Fail> {
+    let file = plan_file(
+        rt.alloc(),
+        2,
+        10,
+        "rounds,3\nwindows,4,5\ngroup,east,2,2\nmember,0,1,1,3",
+        "lane,seeded,1:2:3:4,0,43\nown,0,0,00000000000000000000000000000000000000000000000000000000000000f1\nown,0,1,00000000000000000000000000000000000000000000000000000000000000F2\npair,0,0,1,0300000000000000000000000000000000000000000000000000000000000000\nlane,clear,,2,2",
+    )?;
+    let Ok(value) = read(rt.alloc(), file.as_slice()) else {
+        panic!(rt; "refused")
+    };
+    let plan = value.plan;
+    assert_eq!(rt; [plan.rounds(), plan.w1(), plan.w2()], [3, 4, 5]);
+    for (round, is_member) in [(0, false), (1, true), (2, true)] {
+        let tag = reading_tag(0, round, 1);
+        assert!(rt; plan.holds(tag) && plan.is_member(0, round, 1) == is_member);
+    }
+    let lanes = value.lanes.as_slice();
+    assert_eq!(rt; lanes.len(), 2);
+    assert_eq!(rt; lanes[0].name.bytes(), b"seeded".as_slice());
+    assert_eq!(rt; lanes[0].arg.text(), "1:2:3:4");
+    assert_eq!(rt; [lanes[0].row, lanes[0].from, lanes[0].to], [6, 0, 43]);
+    assert_eq!(rt; [lanes[1].row, lanes[1].from, lanes[1].to], [10, 2, 2]);
+    let keys = value.keys;
+    let is_place = keys.plan().meters(0) == 2;
+    assert!(rt; is_place && keys.own(0, 0)[31] == 0xf1 && keys.own(0, 1)[31] == 0xf2);
+    assert!(rt; is_place && keys.pair(0, 0, 1)[0] == 3);
+    Ok(())
+}

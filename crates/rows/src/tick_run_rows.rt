@@ -1,0 +1,35 @@
+//! A worked run.
+
+use crate::fixtures::{keys_of_north, plan_of_north, table};
+use collector_workers::Free;
+use link_lanes::Rack;
+use round_machine::Ending;
+use std::test::Fail;
+use tick_run::run_plan;
+use transcript_log::Line;
+
+#[test]
+fn three_meters_total_60(rt: HostRuntime) -> Result<(), Fail> {
+    let alloc = rt.alloc();
+    let plan = plan_of_north(alloc, 1)?;
+    let readings = table(alloc, &plan, &[10, 20, 30])?;
+    let keys = keys_of_north(alloc, &plan, [1, 2, 3, 4, 5, 6])?;
+    let Ok(rack) = Rack::fit(alloc, Vec::new(alloc), &[]) else {
+        return Err(Fail::new("an empty rack"));
+    };
+    let mut rack = rack;
+    let Ok(done) = run_plan(&rt, alloc, &plan, &readings, &keys, &mut rack, 2, &Free) else {
+        return Err(Fail::new("want of memory"));
+    };
+    // 9 Sends, 9 Takes, a Close and an End.
+    assert_eq!(&rt; done.transcript.entries().len(), 20);
+    assert_eq!(&rt; rack.posts().len(), 9);
+    let mut total = None;
+    for line in done.book.journal() {
+        if let Line::End { ending, .. } = line {
+            total = Some(*ending);
+        }
+    }
+    assert!(&rt; total == Some(Ending::Total(60)));
+    Ok(())
+}

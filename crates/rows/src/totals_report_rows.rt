@@ -1,0 +1,130 @@
+//! Rows of reports, read and written, and their first faulty lines.
+
+use missing_round::MeterSet;
+use std::alloc::Global;
+use std::test::Fail;
+use totals_report::{ReportError, RowOutcome, read_report, row_text};
+
+// A report with these lines below its heading.
+fn with_heading(alloc: Global, lines: &str) -> Result<Vec<u8>, Fail> {
+    let mut text = Vec::from_slice(alloc, b"group,round,survivors,missing,outcome,total\n")?;
+    text.extend_from_slice(lines.as_bytes())?;
+    Ok(text)
+}
+
+// The first faulty line, or none.
+fn fault_of(alloc: Global, text: &[u8]) -> Result<Option<u64>, ReportError> {
+    match read_report(alloc, text) {
+        Ok(_) => Ok(None),
+        Err(ReportError::Line(line)) => Ok(Some(line)),
+        Err(ReportError::Memory) => Err(ReportError::Memory),
+    }
+}
+
+#[test]
+fn rows_read_and_written(rt: HostRuntime) -> Result<(), Fail> {
+    let alloc = rt.alloc();
+    let none = MeterSet::empty();
+    for (line, round, survivors, missing, outcome) in [
+        ("north,0,3,-,total,60", 0, 3, none, RowOutcome::Total(60)),
+        (
+            "north,0,2,2,total,30",
+            0,
+            2,
+            none.with(2),
+            RowOutcome::Total(30),
+        ),
+        ("north,0,3,-,none,", 0, 3, none, RowOutcome::Lacking),
+        (
+            "north,1,1,1+2,thin,",
+            1,
+            1,
+            none.with(1).with(2),
+            RowOutcome::Thin,
+        ),
+        (
+            "north,2,0,0+1+2,open,",
+            2,
+            0,
+            MeterSet::full(3),
+            RowOutcome::Running,
+        ),
+    ] {
+        let mut text = with_heading(alloc, line)?;
+        text.push(b'\n')?;
+        let Ok(report) = read_report(alloc, text.as_slice()) else {
+            panic!(rt; "refused {line}")
+        };
+        assert_eq!(rt; report.rows().len(), 1);
+        for row in report.rows() {
+            assert!(&rt; row.name.bytes() == b"north".as_slice());
+            assert!(&rt; row.round == round && row.survivors == survivors);
+            assert!(&rt; row.missing == missing && row.outcome == outcome);
+            assert!(&rt; row_text(alloc, row)?.as_slice() == line.as_bytes());
+        }
+    }
+    Ok(())
+}
+
+#[test]
+fn first_faulty_lines(rt: HostRuntime) -> Result<(), Fail> {
+    let alloc = rt.alloc();
+    for (text, line) in [
+        ("", Some(1)),
+        ("group,round,survivors,missing,outcome,total", Some(1)),
+        ("group,round,survivors,missing,outcome,total\r\n", Some(1)),
+        (
+            "\u{feff}group,round,survivors,missing,outcome,total\n",
+            Some(1),
+        ),
+        ("group,round,survivors,missing,outcome\n", Some(1)),
+        ("group,round,survivors,missing,outcome,total\n", None),
+    ] {
+        assert!(&rt;
+            matches!(fault_of(alloc, text.as_bytes()), Ok(found) if found == line),
+            "{text}"
+        );
+    }
+    for (lines, line) in [
+        (
+            "a-b_C-d_E-f_0123,4095,256,255,total,18446744073709551615\n",
+            None,
+        ),
+        ("a,0,0,0+9+10+255,open,\nb,0,0,-,thin,\n", None),
+        ("north,0,3,-,total,60", Some(2)),
+        ("north,0,3,-,total,60\nnorth,1,3,-,total,60", Some(3)),
+        ("north,0,3,-,total,60\n\n", Some(3)),
+        ("north,0,3,-,total,60\r\n", Some(2)),
+        ("\"north\",0,3,-,total,60\n", Some(2)),
+        ("north,0,3,-,total\n", Some(2)),
+        ("north,0,3,-,total,60,\n", Some(2)),
+        (",0,3,-,total,60\n", Some(2)),
+        ("a-b_C-d_E-f_01234,0,3,-,total,60\n", Some(2)),
+        ("no rth,0,3,-,total,60\n", Some(2)),
+        ("north,4096,3,-,total,60\n", Some(2)),
+        ("north,00,3,-,total,60\n", Some(2)),
+        ("north,,3,-,total,60\n", Some(2)),
+        ("north,+1,3,-,total,60\n", Some(2)),
+        ("north,0,257,-,total,60\n", Some(2)),
+        ("north,0,3,,total,60\n", Some(2)),
+        ("north,0,3,256,total,60\n", Some(2)),
+        ("north,0,3,1+0,total,60\n", Some(2)),
+        ("north,0,3,1+1,total,60\n", Some(2)),
+        ("north,0,3,1+,total,60\n", Some(2)),
+        ("north,0,3,-+1,total,60\n", Some(2)),
+        ("north,0,3,-,Total,60\n", Some(2)),
+        ("north,0,3,-,total,\n", Some(2)),
+        ("north,0,3,-,total,060\n", Some(2)),
+        ("north,0,3,-,total,18446744073709551616\n", Some(2)),
+        ("north,0,3,-,none,0\n", Some(2)),
+        ("north,0,3,-,open,-\n", Some(2)),
+        ("north,0,3,-,lacking,\n", Some(2)),
+    ] {
+        let text = with_heading(alloc, lines)?;
+        assert!(&rt;
+            matches!(fault_of(alloc, text.as_slice()), Ok(found) if found == line),
+            "{lines}"
+        );
+    }
+    Ok(())
+}

@@ -1,0 +1,201 @@
+//! Texts of transcripts, read and written, and their first faults.
+
+use crate::fixtures::{PLAIN, plan_of_north, reading_tag, with_line};
+use group_plan::{Plan, Span};
+use link_lanes::Fate;
+use round_machine::Verdict;
+use std::alloc::Global;
+use std::test::Fail;
+use transcript_log::{Entry, Line};
+use transcript_text::{ReadError, Transcript, line_text, members, read, read_old, write};
+
+/// The plain case in version 1.
+const OLD: &str = "\
+meteragg transcript 1\n\
+rounds,1\n\
+windows,1,2\n\
+group,north,3,2\n\
+begin\n\
+0,s,0,0,r,0,1,4d01010000000000000000000000000000000000b0b9d4e209a2296c\n\
+0,s,0,0,r,1,1,4d01010100000000000000000000000000000000903df1a0ade0b88a\n\
+0,s,0,0,r,2,1,4d010102000000000000000000000000000000006fc20e5f521f47a8\n\
+1,t,0,0,r,0,fresh\n\
+1,t,0,0,r,1,fresh\n\
+1,t,0,0,r,2,fresh\n\
+1,c,0,0,announced,-\n\
+1,s,0,0,m,0,1,4d010200000000000000000000000000000000000000000000000000\n\
+1,s,0,0,m,1,1,4d010201000000000000000000000000000000000000000000000000\n\
+1,s,0,0,m,2,1,4d010202000000000000000000000000000000000000000000000000\n\
+2,t,0,0,m,0,fresh\n\
+2,t,0,0,m,1,fresh\n\
+2,t,0,0,m,2,fresh\n\
+2,s,0,0,a,0,1,4d01030000000000000000000000000000000000903df1a0ade0b876\n\
+2,s,0,0,a,1,1,4d01030100000000000000000000000000000000903df1a0ade0b876\n\
+2,s,0,0,a,2,1,4d01030200000000000000000000000000000000903df1a0ade0b876\n\
+3,t,0,0,a,0,fresh\n\
+3,t,0,0,a,1,fresh\n\
+3,t,0,0,a,2,fresh\n\
+3,e,0,0,total,60\n\
+end,20\n";
+
+const WHOLE: Option<ReadError> = None;
+
+fn fault_of(alloc: Global, bytes: &[u8]) -> Option<ReadError> {
+    match read(alloc, bytes) {
+        Ok(_) => None,
+        Err(error) => Some(error),
+    }
+}
+
+#[test]
+fn texts_written_again(rt: HostRuntime) -> Result<(), Fail> {
+    for old in [false, true] {
+        let read_back = if old {
+            read_old(rt.alloc(), OLD.as_bytes())
+        } else {
+            read(rt.alloc(), PLAIN.as_bytes())
+        };
+        let Ok(transcript) = read_back else {
+            panic!(rt; "refused")
+        };
+        assert_eq!(rt; transcript.entries().len(), 20);
+        let text = write(rt.alloc(), &transcript)?;
+        assert!(&rt; text.as_slice() == PLAIN.as_bytes());
+    }
+    Ok(())
+}
+
+#[test]
+fn cut_before_each_byte(rt: HostRuntime) {
+    let bytes = PLAIN.as_bytes();
+    let mut lines = 1u64;
+    for cut in 0..bytes.len() {
+        let expected = if lines <= 5 {
+            ReadError::Head(lines)
+        } else {
+            ReadError::NoEnd(lines)
+        };
+        assert_eq!(rt;
+            fault_of(rt.alloc(), &bytes[..cut]),
+            Some(expected),
+            "{cut}"
+        );
+        if bytes[cut] == b'\n' {
+            lines = lines.wrapping_add(1);
+        }
+    }
+}
+
+#[test]
+fn first_faults(rt: HostRuntime) -> Result<(), Fail> {
+    for (number, line, expected) in [
+        (1, "meteragg transcript 1", Some(ReadError::Head(1))),
+        (1, "meteragg transcript 2\r", Some(ReadError::Head(1))),
+        (1, "\u{feff}meteragg transcript 2", Some(ReadError::Head(1))),
+        (2, "rounds,01", Some(ReadError::Head(2))),
+        (2, "rounds,4294967296", Some(ReadError::Head(2))),
+        (2, "rounds,0", Some(ReadError::Head(5))),
+        (3, "windows,1", Some(ReadError::Head(3))),
+        (3, "windows,17,2", Some(ReadError::Head(5))),
+        (4, "group,no th,3,2", Some(ReadError::Head(4))),
+        (4, "group,north,257,2", Some(ReadError::Head(5))),
+        (4, "member,0,0,0,1", Some(ReadError::Head(4))),
+        (5, "member,0,0,0,1", Some(ReadError::Head(5))),
+        (6, "end,s", Some(ReadError::Field(6, 2))),
+        (6, "end,s,0,0,r,0,1,void", Some(ReadError::Field(6, 1))),
+        (6, "0,s,0,0,r,0,-,void", WHOLE),
+        (6, "0,s,0,0,r,0,1,void", Some(ReadError::Field(6, 8))),
+        (6, "0,s,0,0,r,0,17,void", Some(ReadError::Field(6, 7))),
+        (6, "0,s,0,0,r,0,2+1,void", Some(ReadError::Field(6, 7))),
+        (6, "0,s,0,0,r,0,1+1+1+1,void", Some(ReadError::Field(6, 7))),
+        (6, "0,x,0,0,r,0,-,void", Some(ReadError::Line(6))),
+        (6, "0,t,0,0,r,0,fresh,void", Some(ReadError::Line(6))),
+        (9, "1,t,1,0,r,0,fresh", Some(ReadError::Field(9, 3))),
+        (9, "1,t,0,1,r,0,fresh", Some(ReadError::Field(9, 4))),
+        (9, "1,t,0,0,x,0,fresh", Some(ReadError::Field(9, 5))),
+        (9, "1,t,0,0,r,3,fresh", Some(ReadError::Field(9, 6))),
+        (9, "1,t,0,0,r,0,Fresh", Some(ReadError::Field(9, 7))),
+        (10, "0,t,0,0,r,1,fresh", Some(ReadError::Field(10, 1))),
+        (
+            10,
+            "4294967296,t,0,0,r,1,fresh",
+            Some(ReadError::Field(10, 1)),
+        ),
+        (12, "1,c,0,0,announced,3", Some(ReadError::Field(12, 6))),
+        (12, "1,c,0,0,announced,2+0", Some(ReadError::Field(12, 6))),
+        (12, "1,c,0,0,thin,0+0", Some(ReadError::Field(12, 6))),
+        (12, "1,c,0,0,already,0", Some(ReadError::Field(12, 6))),
+        (12, "1,c,0,0,closed,-", Some(ReadError::Field(12, 5))),
+        (25, "3,e,0,0,none,0+2", WHOLE),
+        (25, "3,e,0,0,total,18446744073709551615", WHOLE),
+        (
+            25,
+            "3,e,0,0,total,18446744073709551616",
+            Some(ReadError::Field(25, 6)),
+        ),
+        (26, "end,19", Some(ReadError::Count(26))),
+        (26, "end,020", Some(ReadError::Field(26, 2))),
+        (26, "end,20\nx", Some(ReadError::After(27))),
+        (26, "3,t,0,0,a,2,again", Some(ReadError::NoEnd(27))),
+    ] {
+        let text = with_line(rt.alloc(), PLAIN, number, line)?;
+        assert_eq!(rt; fault_of(rt.alloc(), text.as_bytes()), expected, "{line}");
+    }
+    Ok(())
+}
+
+fn small_plan(alloc: Global) -> Result<Plan, Fail> {
+    let span = Span {
+        group: 0,
+        meter: 2,
+        from: 1,
+        until: 2,
+    };
+    Ok(plan_of_north(alloc, 2)?.with_members(&[span])?)
+}
+
+#[test]
+fn members_of_a_round(rt: HostRuntime) -> Result<(), Fail> {
+    let plan = small_plan(rt.alloc())?;
+    if plan.groups().len() == 1 && plan.rounds() == 2 {
+        assert!(&rt; members(&plan, 0, 0).len() == 2);
+        assert!(&rt; members(&plan, 0, 1).has(2));
+    } else {
+        panic!(rt; "another plan")
+    }
+    Ok(())
+}
+
+const SMALL: &str = "\
+meteragg transcript 2\n\
+rounds,2\n\
+windows,1,2\n\
+group,north,3,2\n\
+member,0,2,1,2\n\
+begin\n\
+7,t,0,1,r,2,late\n\
+end,1\n";
+
+#[test]
+fn entry_pushed(rt: HostRuntime) -> Result<(), Fail> {
+    let plan = small_plan(rt.alloc())?;
+    let tag = reading_tag(0, 1, 2);
+    let fate = Fate::new(&[]).ok().ok_or("no fate")?;
+    let entry = Entry {
+        tick: 7,
+        fate,
+        line: Line::Take {
+            tag,
+            verdict: Verdict::Late,
+        },
+    };
+    let line = line_text(rt.alloc(), &entry)?;
+    assert!(&rt; line.as_slice() == b"7,t,0,1,r,2,late".as_slice());
+    let mut transcript = Transcript::empty(rt.alloc(), &plan)?;
+    if plan.holds(tag) && fate.delays().is_empty() {
+        transcript.push(entry)?;
+    }
+    let text = write(rt.alloc(), &transcript)?;
+    assert!(&rt; text.as_slice() == SMALL.as_bytes());
+    Ok(())
+}

@@ -1,0 +1,147 @@
+//! Worked rows of words, over tables of ideal masks.
+
+ghost use Rattle.std.specs.Prelude.{◌≡◌, ◌<◌, ◌∷◌, [], true, false, IsTrue, IfOk};
+ghost use Rattle.group_plan.specs.Plans.{is_place};
+ghost use Rattle.blind_core.specs.Blind.{are_places};
+ghost use Rattle.ideal_masks.specs.Order.{AreOfPlan};
+
+use crate::fixtures::{LATE, group, plan_of_north, reading_tag, table};
+use blind_core::{answer, masked};
+use group_plan::{Plan, Readings};
+use ideal_masks::{MaskTable, Offsets, offsets, shift};
+use mask_stream::Masks;
+use missing_round::MeterSet;
+use mod_word::Word;
+use std::alloc::Global;
+use std::test::Fail;
+use transcript_text::read;
+
+fn holds(plan: &Plan, meter: u8) -> bool
+    ensures { result ≡ is_place plan.now 0 0 meter }
+{
+    plan.holds(reading_tag(0, 0, meter))
+}
+
+fn set_own(masks: &mut MaskTable, meter: u8, word: u64) -> Result<(), Fail>
+    ensures { masks.new.plan ≡ masks.old.plan }
+{
+    if !holds(masks.plan(), meter) {
+        return Err(Fail::new("no meter"));
+    }
+    masks.set_own(0, 0, meter, Word(word));
+    Ok(())
+}
+
+fn set_pair(masks: &mut MaskTable, low: u8, high: u8, word: u64) -> Result<(), Fail>
+    ensures { masks.new.plan ≡ masks.old.plan }
+{
+    if low >= high || !holds(masks.plan(), high) {
+        return Err(Fail::new("no pair"));
+    }
+    masks.set_pair(0, 0, low, high, Word(word));
+    Ok(())
+}
+
+// The own words 100, 200 and 300, and 5, 7 and 11 for the pairs of 0 and 1, 0 and 2, 1 and 2.
+fn ideal_table(alloc: Global, plan: &Plan) -> Result<MaskTable, Fail>
+    ensures { IfOk result (λ masks. masks.plan ≡ plan.now) }
+{
+    let mut masks = MaskTable::zeros(alloc, plan)?;
+    set_own(&mut masks, 0, 100)?;
+    set_own(&mut masks, 1, 200)?;
+    set_own(&mut masks, 2, 300)?;
+    set_pair(&mut masks, 0, 1, 5)?;
+    set_pair(&mut masks, 0, 2, 7)?;
+    set_pair(&mut masks, 1, 2, 11)?;
+    Ok(masks)
+}
+
+// The word that hides a reading among so many members, 2 or 3.
+fn word_of(masks: &MaskTable, meters: u8, meter: u8, reading: u64) -> Result<Word, Fail> {
+    let plan = masks.plan();
+    let are_places = holds(plan, 0) && holds(plan, 1) && (meters == 2 || holds(plan, 2));
+    if !are_places || meters < 2 || meters > 3 || meter >= meters || reading >= 1 << 40 {
+        return Err(Fail::new("no reading of a member"));
+    }
+    let members = MeterSet::full(u16::from(meters));
+    Ok(masked(masks, 0, &members, 0, meter, reading))
+}
+
+// The word that a meter answers where meter 2 is missing.
+fn answer_of(masks: &MaskTable, meter: u8) -> Result<Word, Fail> {
+    let plan = masks.plan();
+    if !holds(plan, meter) || !holds(plan, 2) || meter == 2 {
+        return Err(Fail::new("no meter"));
+    }
+    let missing = MeterSet::empty().with(2);
+    Ok(answer(masks, 0, 0, meter, &missing))
+}
+
+// Whether these are the words of the ideal table with readings of 10, 20 and 30, and of its answers where meter 2 is missing.
+fn gives_ideal_words(masks: &MaskTable, readings: [u64; 3]) -> Result<bool, Fail> {
+    let [first, second, third] = readings;
+    for (meter, reading, word) in [(0u8, first, 122u64), (1, second, 226), (2, third, 312)] {
+        if word_of(masks, 3, meter, reading)? != Word(word) {
+            return Ok(false);
+        }
+    }
+    for (meter, word) in [(0u8, 107u64), (1, 211)] {
+        if answer_of(masks, meter)? != Word(word) {
+            return Ok(false);
+        }
+    }
+    Ok(true)
+}
+
+/// The answers are those of the row `answers_open_total_30`.
+#[test]
+fn words_over_ideal_table(rt: HostRuntime) -> Result<(), Fail> {
+    let masks = ideal_table(rt.alloc(), &plan_of_north(rt.alloc(), 1)?)?;
+    assert!(rt; gives_ideal_words(&masks, [10, 20, 30])?);
+    Ok(())
+}
+
+#[test]
+fn higher_meter_subtracts(rt: HostRuntime) -> Result<(), Fail> {
+    let plan = Plan::new(rt.alloc(), &[group(b"north", 2, 2)?], 1, 1, 2)?;
+    let mut masks = MaskTable::zeros(rt.alloc(), &plan)?;
+    set_pair(&mut masks, 0, 1, 1)?;
+    assert_eq!(rt; word_of(&masks, 2, 1, 0)?, Word(18_446_744_073_709_551_615));
+    Ok(())
+}
+
+fn shift_by(masks: &mut MaskTable, first: &Readings, offsets: &Offsets)
+    requires same { masks.old.plan ≡ first.now.plan }
+    requires places { AreOfPlan first.now.plan offsets.now }
+{
+    shift(masks, offsets);
+}
+
+// The ideal table, shifted by what `LATE` moves from 10, 20 and 30 to 15, 15 and 0.
+fn shifted_table(alloc: Global) -> Result<MaskTable, Fail> {
+    let Ok(transcript) = read(alloc, LATE.as_bytes()) else {
+        return Err(Fail::new("no transcript"));
+    };
+    let plan = transcript.plan();
+    let mut masks = ideal_table(alloc, plan)?;
+    let first = table(alloc, plan, &[10, 20, 30])?;
+    let second = table(alloc, plan, &[15, 15, 0])?;
+    match offsets(alloc, &first, &second, &transcript) {
+        Ok(offsets) => {
+            shift_by(&mut masks, &first, &offsets);
+            Ok(masks)
+        }
+        Err(_) => Err(Fail::new("no offsets")),
+    }
+}
+
+#[test]
+fn ideal_table_shifted(rt: HostRuntime) -> Result<(), Fail> {
+    let masks = shifted_table(rt.alloc())?;
+    assert!(rt; holds(masks.plan(), 1));
+    assert!(rt; holds(masks.plan(), 2));
+    assert_eq!(rt; masks.pair(0, 0, 0, 1), Word(0));
+    assert_eq!(rt; masks.own(0, 0, 2), Word(330));
+    assert!(rt; gives_ideal_words(&masks, [15, 15, 0])?);
+    Ok(())
+}
