@@ -1,37 +1,8 @@
 //! The head end for private smart-meter readings.
 #![tactic(auto)]
 
-mod audit;
-#[cfg(test)]
-mod audit_tests;
-#[cfg(test)]
-mod command_tests;
-mod complaints;
-mod convert;
-mod cupboard;
-mod desk_calls;
-#[cfg(test)]
-mod fixtures;
-mod load;
-#[cfg(test)]
-mod load_tests;
-mod make;
-mod outcome;
-mod program;
-#[cfg(test)]
-mod refusal_tests;
-mod run;
-#[cfg(test)]
-mod run_tests;
-mod texts;
-mod twin;
-#[cfg(test)]
-mod twin_tests;
-mod usage;
-mod words;
-
 use collector_workers::Free;
-use cupboard::with_lanes;
+use commands::with_lanes;
 use desk_outside::FileDesk;
 use std::alloc::{AllocError, Global};
 use std::env;

@@ -1,0 +1,121 @@
+//! The commands `convert`, `help` and `version`: what they store and say, and what they refuse.
+
+use crate::fixtures::{OLD_TRANSCRIPT, TRANSCRIPT, held, replaced, status_of};
+use collector_workers::Free;
+use commands::{USAGE, VERSION};
+use desk_outside::MemoryDesk;
+use std::alloc::Global;
+use std::test::Fail;
+
+// A desk that holds an old transcript, and fails these calls.
+fn desk_of(alloc: Global, text: &str, failing: Vec<u64>) -> Result<MemoryDesk, Fail> {
+    let mut desk = MemoryDesk::new(failing);
+    desk.place("old.txt", text.as_bytes())?;
+    Ok(desk)
+}
+
+#[test]
+fn old_transcript_converted(rt: HostRuntime) -> Result<(), Fail> {
+    let alloc = rt.alloc();
+    let mut desk = desk_of(alloc, OLD_TRANSCRIPT, Vec::new(alloc))?;
+    assert_eq!(rt;
+        status_of(&rt, alloc, "convert old.txt t.txt", &mut desk, &Free)?,
+        0
+    );
+    assert_eq!(rt; held(&desk, "t.txt"), TRANSCRIPT);
+    assert_eq!(rt; desk.said(), b"converted: lines=20\n".as_slice());
+    assert_eq!(rt; desk.complained(), b"".as_slice());
+    Ok(())
+}
+
+// Each row: what stands in the old text, what stands there in its place, the failing call, the status, the complaint, and
+// whether the new transcript is stored.
+static UNCONVERTED: [(&str, &str, u64, u8, &str, bool); 10] = [
+    (
+        "transcript 1",
+        "transcript 2",
+        9,
+        7,
+        "old.txt line 1: Head",
+        false,
+    ),
+    (
+        "group,north,3,2",
+        "group,north,65,2",
+        9,
+        7,
+        "old.txt line 5: Head",
+        false,
+    ),
+    (
+        "1,c,0,0,announced,-",
+        "1,c,0,0,announced",
+        9,
+        7,
+        "old.txt line 12: Line",
+        false,
+    ),
+    (
+        "1,t,0,0,r,0,fresh",
+        "1,t,0,0,r,3,fresh",
+        9,
+        7,
+        "old.txt line 9: Field 6",
+        false,
+    ),
+    ("end,20\n", "end,20", 9, 7, "old.txt line 26: NoEnd", false),
+    ("end,20", "end,21", 9, 7, "old.txt line 26: Count", false),
+    (
+        "end,20\n",
+        "end,20\nx",
+        9,
+        7,
+        "old.txt line 27: After",
+        false,
+    ),
+    ("", "", 0, 3, "cannot read old.txt", false),
+    ("", "", 1, 4, "cannot write t.txt", false),
+    ("", "", 2, 4, "cannot print", true),
+];
+
+#[test]
+fn old_transcript_refused(rt: HostRuntime) -> Result<(), Fail> {
+    let alloc = rt.alloc();
+    for case in UNCONVERTED.iter() {
+        let (there, instead, failing, status, complaint, stored) = *case;
+        let text = replaced(alloc, OLD_TRANSCRIPT, there, instead)?;
+        let mut desk = desk_of(alloc, &text, vec![in alloc; failing]?)?;
+        let answer = status_of(&rt, alloc, "convert old.txt t.txt", &mut desk, &Free)?;
+        assert_eq!(rt; answer, status, "at {complaint}");
+        let wanted = format!(in alloc; "meteragg: {complaint}\n")?;
+        assert_eq!(rt; desk.complained(), wanted.as_bytes(), "at {complaint}");
+        assert_eq!(rt; desk.held("t.txt").is_some(), stored, "at {complaint}");
+        assert_eq!(rt; desk.said(), b"".as_slice(), "at {complaint}");
+    }
+    Ok(())
+}
+
+#[test]
+fn usage_and_version(rt: HostRuntime) -> Result<(), Fail> {
+    let alloc = rt.alloc();
+    for (words, status, said) in [
+        ("help", 0, USAGE),
+        ("--help", 0, USAGE),
+        ("-h", 0, USAGE),
+        ("version", 0, VERSION),
+        ("--version", 0, VERSION),
+        ("-V", 0, VERSION),
+        ("help run", 2, ""),
+        ("version 2", 2, ""),
+        ("convert old.txt", 2, ""),
+        ("convert old.txt old.txt", 2, ""),
+        ("convert old.txt t.txt 4", 2, ""),
+    ] {
+        let mut desk = MemoryDesk::new(Vec::new(alloc));
+        let answer = status_of(&rt, alloc, words, &mut desk, &Free)?;
+        assert_eq!(rt; answer, status, "at {words}");
+        assert_eq!(rt; desk.said(), said.as_bytes(), "at {words}");
+        assert_eq!(rt; desk.calls().len(), 1, "at {words}");
+    }
+    Ok(())
+}

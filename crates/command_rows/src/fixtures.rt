@@ -1,0 +1,140 @@
+//! Files, desks and calls of the program for tests.
+
+use collector_workers::Gate;
+use commands::with_lanes;
+use desk_outside::MemoryDesk;
+use std::alloc::Global;
+use std::sync::Wait;
+use std::test::Fail;
+use std::thread::Threads;
+
+const ZEROS: &str = "0000000000000000000000000000000000000000000000000000000000000000";
+
+/// One round with windows of 1 and 2 ticks.
+pub const HEAD: &str = "rounds,1\nwindows,1,2\n";
+
+/// One group of three meters, and their keys; `Z` is a key of zeros.
+pub const NORTH: &str =
+    "group,north,3,2\nown,0,0,Z\nown,0,1,Z\nown,0,2,Z\npair,0,0,1,Z\npair,0,0,2,Z\npair,0,1,2,Z\n";
+
+/// Readings of 10, 20 and 30 watt-hours.
+pub const READINGS: &str = "north,0,10,20,30\n";
+
+/// The transcript of these three meters; in a run the Takes of a tick may stand in any order.
+pub const TRANSCRIPT: &str = "meteragg transcript 2
+rounds,1
+windows,1,2
+group,north,3,2
+begin
+0,s,0,0,r,0,1,4d02010000000000000000000000000000000000000000000000000000000000000000000000000000000000b0b9d4e209a2296c
+0,s,0,0,r,1,1,4d02010100000000000000000000000000000000000000000000000000000000000000000000000000000000903df1a0ade0b88a
+0,s,0,0,r,2,1,4d020102000000000000000000000000000000000000000000000000000000000000000000000000000000006fc20e5f521f47a8
+1,t,0,0,r,0,fresh
+1,t,0,0,r,1,fresh
+1,t,0,0,r,2,fresh
+1,c,0,0,announced,-
+1,s,0,0,m,0,1,4d020200000000000000000000000000000000000000000000000000000000000000000000000000000000000000000000000000
+1,s,0,0,m,1,1,4d020201000000000000000000000000000000000000000000000000000000000000000000000000000000000000000000000000
+1,s,0,0,m,2,1,4d020202000000000000000000000000000000000000000000000000000000000000000000000000000000000000000000000000
+2,t,0,0,m,0,fresh
+2,t,0,0,m,1,fresh
+2,t,0,0,m,2,fresh
+2,s,0,0,a,0,1,4d02030000000000000000000000000000000000000000000000000000000000000000000000000000000000903df1a0ade0b876
+2,s,0,0,a,1,1,4d02030100000000000000000000000000000000000000000000000000000000000000000000000000000000903df1a0ade0b876
+2,s,0,0,a,2,1,4d02030200000000000000000000000000000000000000000000000000000000000000000000000000000000903df1a0ade0b876
+3,t,0,0,a,0,fresh
+3,t,0,0,a,1,fresh
+3,t,0,0,a,2,fresh
+3,e,0,0,total,60
+end,20
+";
+
+/// The same transcript in version 1.
+pub const OLD_TRANSCRIPT: &str = "meteragg transcript 1
+rounds,1
+windows,1,2
+group,north,3,2
+begin
+0,s,0,0,r,0,1,4d01010000000000000000000000000000000000b0b9d4e209a2296c
+0,s,0,0,r,1,1,4d01010100000000000000000000000000000000903df1a0ade0b88a
+0,s,0,0,r,2,1,4d010102000000000000000000000000000000006fc20e5f521f47a8
+1,t,0,0,r,0,fresh
+1,t,0,0,r,1,fresh
+1,t,0,0,r,2,fresh
+1,c,0,0,announced,-
+1,s,0,0,m,0,1,4d010200000000000000000000000000000000000000000000000000
+1,s,0,0,m,1,1,4d010201000000000000000000000000000000000000000000000000
+1,s,0,0,m,2,1,4d010202000000000000000000000000000000000000000000000000
+2,t,0,0,m,0,fresh
+2,t,0,0,m,1,fresh
+2,t,0,0,m,2,fresh
+2,s,0,0,a,0,1,4d01030000000000000000000000000000000000903df1a0ade0b876
+2,s,0,0,a,1,1,4d01030100000000000000000000000000000000903df1a0ade0b876
+2,s,0,0,a,2,1,4d01030200000000000000000000000000000000903df1a0ade0b876
+3,t,0,0,a,0,fresh
+3,t,0,0,a,1,fresh
+3,t,0,0,a,2,fresh
+3,e,0,0,total,60
+end,20
+";
+
+/// The command.
+pub const RUN: &str = "run plan.csv readings.csv report.csv t.txt";
+
+// A plan file of some rows after its first, where `Z` stands for a key of zeros.
+fn plan_text(alloc: Global, rows: &str) -> Result<String, Fail> {
+    let mut text = String::from_str(alloc, "plan,1\n")?;
+    let mut is_first = true;
+    for part in rows.split('Z') {
+        if !is_first {
+            text.push_str(ZEROS)?;
+        }
+        text.push_str(part)?;
+        is_first = false;
+    }
+    Ok(text)
+}
+
+/// A desk that holds a plan file of these rows and a readings file, and fails these calls.
+pub fn desk_of(
+    alloc: Global,
+    rows: &str,
+    readings: &str,
+    failing: Vec<u64>,
+) -> Result<MemoryDesk, Fail> {
+    let mut desk = MemoryDesk::new(failing);
+    desk.place("plan.csv", plan_text(alloc, rows)?.as_bytes())?;
+    desk.place("readings.csv", readings.as_bytes())?;
+    Ok(desk)
+}
+
+/// The status of the program on these words, parted by blanks.
+pub fn status_of<R: Threads + Wait + Sync, G: Gate>(
+    rt: &R,
+    alloc: Global,
+    line: &str,
+    desk: &mut MemoryDesk,
+    gate: &G,
+) -> Result<u8, Fail> {
+    let mut words = Vec::new(alloc);
+    for word in line.split(' ') {
+        words.push(String::from_str(alloc, word)?)?;
+    }
+    Ok(with_lanes(rt, alloc, &words, desk, gate)?)
+}
+
+/// What a desk holds under a name, as text.
+pub fn held<'d>(desk: &'d MemoryDesk, name: &str) -> &'d str {
+    match desk.held(name) {
+        Some(bytes) => str::from_utf8(bytes).unwrap_or("not text"),
+        None => "nothing",
+    }
+}
+
+/// The text with one piece in the place of another, where that stands first.
+pub fn replaced(alloc: Global, text: &str, there: &str, instead: &str) -> Result<String, Fail> {
+    let Some((before, after)) = text.split_once(there) else {
+        return Err(Fail::from("nothing to replace"));
+    };
+    Ok(format!(in alloc; "{before}{instead}{after}")?)
+}

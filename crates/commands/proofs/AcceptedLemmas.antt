@@ -1,0 +1,408 @@
+-- Accepted files are done.
+use Rattle.std.proofs.Common.{◌≡◌, ◌≢◌, ◌≤◌, ◌<◌, ◌^◌, ◌⊎◌, ℕ, false, List, [], ◌∷◌, length, refl, sym, ap, ◌∙◌, subst, inl, inr, arith, Result, Ok, Err}
+use Rattle.std.specs.Prelude.{Option, Some, ◌*◌, ◌+◌, ◌-◌, slice_get}
+use Rattle.transcript_log.specs.Frames.{IsPossible}
+use Rattle.transcript_text.specs.declared.version.Version.TheVariants.{Two}
+use Rattle.transcript_text.specs.Transcripts.{TranscriptView}
+use Rattle.totals_report.specs.declared.row.ReportRow.{ReportRow}
+use Rattle.totals_report.specs.Reading.{rows_of_text}
+use Rattle.audit_check.specs.Audits.{lines_in, rows_by_frames, IsFirstImpossible, DifferFirst}
+use Rattle.audit_check.proofs.PossibleLemmas.{possible_up_to}
+use Rattle.commands.specs.declared.usage.TheConstants.{USAGE, VERSION}
+use Rattle.commands.specs.Audits.{AreAuditTexts, AuditRefuses}
+use Rattle.desk_outside.specs.Desk.{View, Held, Holds, IsLonger, Rose}
+use Rattle.link_lanes.specs.Lanes.{Meaning}
+use Rattle.link_lanes.specs.Fits.{hung_by}
+use Rattle.link_lanes.specs.declared.cupboard.RackError.{RackError}
+use Rattle.plan_files.specs.declared.fault.FileError.{FileError}
+use Rattle.plan_files.specs.PlanFiles.{plan_of}
+use Rattle.plan_files.specs.Readings.{readings_of}
+use Rattle.transcript_text.specs.declared.fault.ReadError.{ReadError}
+use Rattle.transcript_text.specs.declared.version.Version.TheVariants.{One}
+use Rattle.transcript_text.specs.ReadBack.{ReadsEach}
+use Rattle.transcript_text.specs.Heads.{read_of}
+use Rattle.transcript_text.proofs.ReadAgain.{reads_each}
+use Rattle.mask_stream.specs.KeyStreams.{streams}
+use Rattle.ideal_masks.specs.declared.Differ.TheVariants.{Presence, Total}
+use Rattle.twin_worlds.specs.declared.answers.TwinError.{TwinError}
+use Rattle.twin_worlds.specs.declared.answers.TwinError.TheVariants as twin
+use Rattle.twin_worlds.specs.MasksText.{masks_text}
+use Rattle.twin_worlds.specs.Twins.{TwinEnds}
+use Rattle.commands.specs.Twins.{TwinBytes, AreReadBy, TwinValues, AreTwinValues, Compared, RefusesFirst, RefusesSecond, TwinRefuses}
+use Rattle.commands.proofs.TwinLemmas.{agreeing_are_twins}
+use Rattle.commands.specs.declared.outcome.Outcome.{Outcome}
+use Rattle.commands.specs.declared.outcome.Outcome.TheVariants.{Done, NoMemory, BadWords, CannotRead, TooLong, CannotWrite, CannotPrint, BadPlan, BadReadings, BadTranscript, BadReport, Impossible, OtherRow, OtherPlan, OtherLine, OtherPresence, OtherTotal, BadLane}
+use Rattle.commands.specs.Words.{RunNames, TwinNames, Size, Command, Run, Audit, Twin, Make, Load, Convert, Help, Version}
+use Rattle.commands.specs.Calls.{most_bytes, EndsAtFetch, IsRead, after_fetches, Unread, Putting, putting, PutsEnd}
+use Rattle.transcript_text.specs.Spelling.{transcript_text}
+use Rattle.commands.specs.Ends.{fetched_by, put_by, converted_line, RefusesLane, RefusesReadings, RunRefuses, RunEnds, audited_line, AuditCommandEnds, compared_by, moved_line, TwinCommandEnds, made_plan_text, made_readings_text, made_line, MakeEnds, put_where, LoadRefuses, LoadEnds, ConvertRefuses, ConvertEnds, Ends}
+use Rattle.commands.specs.Outcomes.{status_of, IsFault}
+use Rattle.commands.specs.Accepted.{HoldsFile, RunAccepts, AuditAccepts, TwinAccepts, LoadAccepts, ConvertAccepts, Accepts, AcceptedIsDone}
+
+-- ---- what was read
+
+-- the bytes that were read are those that the name holds
+same_bytes : (held : Held) (told bytes : List ℕ) → held ≡ Some (Some told) → Holds held bytes → told ≡ bytes
+same_bytes held told bytes is holds =
+    let h : Holds (Some (Some told)) bytes = subst (λ held. Holds held bytes) is holds in
+    cc
+
+pub read_is : (v : View) (name told bytes : List ℕ) → HoldsFile v name told → IsRead (v.held name) bytes → told ≡ bytes
+read_is v name told bytes file is = same_bytes (v.held name) told bytes file.held is.0
+
+not_longer : (v : View) (name told last : List ℕ) → HoldsFile v name told → last ≡ name → IsLonger (v.held last) most_bytes → ⊥
+not_longer v name told last file is longer =
+    let here : IsLonger (v.held name) most_bytes = subst (λ n. IsLonger (v.held n) most_bytes) is longer in
+    let h : IsLonger (Some (Some told)) most_bytes = subst (λ held. IsLonger held most_bytes) file.held here in
+    let short = file.short in
+    omega arith
+
+ok_or_err : {A E : Type 0} (r : Result A E) (a : A) (e : E) → r ≡ Ok a → r ≡ Err e → ⊥
+ok_or_err r a e well refused = cc
+
+ok_same : {A E : Type 0} (r : Result A E) (a b : A) → r ≡ Ok a → r ≡ Ok b → a ≡ b
+ok_same r a b first second = cc
+
+-- ---- ends that are none of refusals
+
+-- the command is done, or found no memory, or ended with a fault of the desk
+abbrev pub IsCalm : Outcome → Type 0
+IsCalm outcome = IsFault outcome ⊎ ((status_of outcome ≡ 0) ⊎ (status_of outcome ≡ 1))
+
+-- the ends of the puts
+pub puts_calm : (files : List Putting) (line : List ℕ) (v w : View) (outcome : Outcome) → PutsEnd files line v w outcome → IsCalm outcome
+puts_calm files line v w Done ends = inr (inl refl)
+puts_calm files line v w NoMemory ends = inr (inr refl)
+puts_calm files line v w BadWords ends = absurd ends
+puts_calm files line v w (CannotRead name) ends = absurd ends
+puts_calm files line v w (TooLong name) ends = absurd ends
+puts_calm files line v w (CannotWrite name) ends = inl tt
+puts_calm files line v w CannotPrint ends = inl tt
+puts_calm files line v w (BadPlan name fault) ends = absurd ends
+puts_calm files line v w (BadReadings name fault) ends = absurd ends
+puts_calm files line v w (BadTranscript name fault) ends = absurd ends
+puts_calm files line v w (BadReport name number) ends = absurd ends
+puts_calm files line v w (Impossible name number) ends = absurd ends
+puts_calm files line v w (OtherRow at from_frames reported) ends = absurd ends
+puts_calm files line v w (OtherPlan name) ends = absurd ends
+puts_calm files line v w (OtherLine name number expected) ends = absurd ends
+puts_calm files line v w (OtherPresence group round meter) ends = absurd ends
+puts_calm files line v w (OtherTotal group round first second) ends = absurd ends
+puts_calm files line v w (BadLane fault) ends = absurd ends
+
+-- fetches of which none finds too many bytes
+unread_calm : (names : List (List ℕ)) (v w : View) (outcome : Outcome)
+    → ((last : List ℕ) → EndsAtFetch names false v w last → IsLonger (v.held last) most_bytes → ⊥) → Unread names v w outcome → IsCalm outcome
+unread_calm names v w Done short ends = absurd ends
+unread_calm names v w NoMemory short ends = inr (inr refl)
+unread_calm names v w BadWords short ends = absurd ends
+unread_calm names v w (CannotRead name) short ends = inl tt
+unread_calm names v w (TooLong name) short ends = absurd (short name.now ends.0 ends.1)
+unread_calm names v w (CannotWrite name) short ends = absurd ends
+unread_calm names v w CannotPrint short ends = absurd ends
+unread_calm names v w (BadPlan name fault) short ends = absurd ends
+unread_calm names v w (BadReadings name fault) short ends = absurd ends
+unread_calm names v w (BadTranscript name fault) short ends = absurd ends
+unread_calm names v w (BadReport name line) short ends = absurd ends
+unread_calm names v w (Impossible name line) short ends = absurd ends
+unread_calm names v w (OtherRow at from_frames reported) short ends = absurd ends
+unread_calm names v w (OtherPlan name) short ends = absurd ends
+unread_calm names v w (OtherLine name line expected) short ends = absurd ends
+unread_calm names v w (OtherPresence group round meter) short ends = absurd ends
+unread_calm names v w (OtherTotal group round first second) short ends = absurd ends
+unread_calm names v w (BadLane fault) short ends = absurd ends
+
+one_is_short : (v w : View) (name told : List ℕ) → HoldsFile v name told → (last : List ℕ) → EndsAtFetch (name ∷ []) false v w last → IsLonger (v.held last) most_bytes → ⊥
+one_is_short v w name told file last (inl here) longer = not_longer v name told last file here.0 longer
+one_is_short v w name told file last (inr none) longer = absurd none
+
+two_are_short : (v w : View) (one two told other : List ℕ) → HoldsFile v one told → HoldsFile v two other
+    → (last : List ℕ) → EndsAtFetch (one ∷ two ∷ []) false v w last → IsLonger (v.held last) most_bytes → ⊥
+two_are_short v w one two told other first second last (inl here) longer = not_longer v one told last first here.0 longer
+two_are_short v w one two told other first second last (inr (inl here)) longer = not_longer v two other last second here.0 longer
+two_are_short v w one two told other first second last (inr (inr none)) longer = absurd none
+
+-- ---- `run`
+
+-- the plan file has its value
+plan_is : (cupboard : List Meaning) (names : RunNames) (v : View) (good : RunAccepts cupboard names v) (p : List ℕ) → IsRead (v.held names.plan) p → plan_of p ≡ Ok good.values.file
+plan_is cupboard names v good p is = ap plan_of (sym (read_is v names.plan good.plan_bytes p good.plan is)) ∙ good.of_bytes.plan
+
+lanes_are_right : (cupboard : List Meaning) (names : RunNames) (v : View) (good : RunAccepts cupboard names v) (p : List ℕ) (fault : RackError)
+    → IsRead (v.held names.plan) p → RefusesLane cupboard p fault → ⊥
+lanes_are_right cupboard names v good p fault is bad =
+    let same : good.values.file ≡ bad.0 = ok_same _ _ _ (plan_is cupboard names v good p is) bad.1 in
+    ok_or_err _ _ _ (ap (λ file. hung_by cupboard file.lanes) (sym same) ∙ good.of_bytes.lanes) bad.2
+
+readings_are_right : (cupboard : List Meaning) (names : RunNames) (v : View) (good : RunAccepts cupboard names v) (p r : List ℕ) (fault : FileError)
+    → IsRead (v.held names.plan) p → IsRead (v.held names.readings) r → RefusesReadings cupboard p r fault → ⊥
+readings_are_right cupboard names v good p r fault plan_read readings_read bad =
+    let file : good.values.file ≡ bad.0 = ok_same _ _ _ (plan_is cupboard names v good p plan_read) bad.2 in
+    let same : good.readings_bytes ≡ r = read_is v names.readings good.readings_bytes r good.readings readings_read in
+    ok_or_err _ _ _ (ap (λ f. readings_of f.plan r) (sym file) ∙ ap (readings_of good.values.file.plan) (sym same) ∙ good.of_bytes.readings) bad.4
+
+nothing_refused : (cupboard : List Meaning) (names : RunNames) (v : View) (p r : List ℕ) (outcome : Outcome) → RunAccepts cupboard names v
+    → IsRead (v.held names.plan) p → IsRead (v.held names.readings) r → RunRefuses cupboard names p r outcome → IsCalm outcome
+nothing_refused cupboard names v p r Done good p_read r_read ends = absurd ends
+nothing_refused cupboard names v p r NoMemory good p_read r_read ends = inr (inr refl)
+nothing_refused cupboard names v p r BadWords good p_read r_read ends = absurd ends
+nothing_refused cupboard names v p r (CannotRead name) good p_read r_read ends = absurd ends
+nothing_refused cupboard names v p r (TooLong name) good p_read r_read ends = absurd ends
+nothing_refused cupboard names v p r (CannotWrite name) good p_read r_read ends = absurd ends
+nothing_refused cupboard names v p r CannotPrint good p_read r_read ends = absurd ends
+nothing_refused cupboard names v p r (BadPlan name fault) good p_read r_read ends = absurd (ok_or_err _ _ _ (plan_is cupboard names v good p p_read) ends.1)
+nothing_refused cupboard names v p r (BadReadings name fault) good p_read r_read ends = absurd (readings_are_right cupboard names v good p r fault p_read r_read ends.1)
+nothing_refused cupboard names v p r (BadTranscript name fault) good p_read r_read ends = absurd ends
+nothing_refused cupboard names v p r (BadReport name line) good p_read r_read ends = absurd ends
+nothing_refused cupboard names v p r (Impossible name line) good p_read r_read ends = absurd ends
+nothing_refused cupboard names v p r (OtherRow at from_frames reported) good p_read r_read ends = absurd ends
+nothing_refused cupboard names v p r (OtherPlan name) good p_read r_read ends = absurd ends
+nothing_refused cupboard names v p r (OtherLine name line expected) good p_read r_read ends = absurd ends
+nothing_refused cupboard names v p r (OtherPresence group round meter) good p_read r_read ends = absurd ends
+nothing_refused cupboard names v p r (OtherTotal group round first second) good p_read r_read ends = absurd ends
+nothing_refused cupboard names v p r (BadLane fault) good p_read r_read ends = absurd (lanes_are_right cupboard names v good p fault p_read ends)
+
+run_calm : (cupboard : List Meaning) (names : RunNames) (v w : View) (outcome : Outcome) → RunAccepts cupboard names v → RunEnds cupboard names v w outcome → IsCalm outcome
+run_calm cupboard names v w outcome good (inl unread) =
+    unread_calm (fetched_by names) v w outcome (two_are_short v w names.plan names.readings good.plan_bytes good.readings_bytes good.plan good.readings) unread
+run_calm cupboard names v w outcome good (inr (p, r, p_read, r_read, inl refused)) = nothing_refused cupboard names v p r outcome good p_read r_read refused.0
+run_calm cupboard names v w outcome good (inr (p, r, p_read, r_read, inr (texts, made, only, ends))) =
+    puts_calm (put_by names texts) texts.summary (after_fetches (fetched_by names) v) w outcome ends
+
+-- ---- `audit`
+
+-- the transcript is the one that was accepted, and so are the rows
+audited_same : (transcript report : List ℕ) (v : View) (good : AuditAccepts transcript report v) (tb rb : List ℕ) (t : TranscriptView) (rows : List ReportRow)
+    → IsRead (v.held transcript) tb → IsRead (v.held report) rb → AreAuditTexts tb rb t rows → (good.lines ≡ t) × (good.rows ≡ rows)
+audited_same transcript report v good tb rb t rows t_read r_read texts = (
+  ok_same (read_of Two tb) good.lines t (ap (read_of Two) (sym (read_is v transcript good.transcript_bytes tb good.transcript_file t_read)) ∙ good.texts.transcript) texts.transcript,
+  ok_same (rows_of_text rb) good.rows rows (ap rows_of_text (sym (read_is v report good.report_bytes rb good.report_file r_read)) ∙ good.texts.report) texts.report,
+)
+
+transcript_not_refused : (transcript report : List ℕ) (v : View) (good : AuditAccepts transcript report v) (tb : List ℕ) (fault : ReadError)
+    → IsRead (v.held transcript) tb → read_of Two tb ≡ Err fault → ⊥
+transcript_not_refused transcript report v good tb fault t_read bad =
+    ok_or_err (read_of Two tb) good.lines fault (ap (read_of Two) (sym (read_is v transcript good.transcript_bytes tb good.transcript_file t_read)) ∙ good.texts.transcript) bad
+
+report_not_refused : (transcript report : List ℕ) (v : View) (good : AuditAccepts transcript report v) (rb : List ℕ) (line : ℕ)
+    → IsRead (v.held report) rb → rows_of_text rb ≡ Err line → ⊥
+report_not_refused transcript report v good rb line r_read bad =
+    ok_or_err (rows_of_text rb) good.rows line (ap rows_of_text (sym (read_is v report good.report_bytes rb good.report_file r_read)) ∙ good.texts.report) bad
+
+-- possible lines have no first impossible one
+all_possible : (t : TranscriptView) (k : ℕ) → IsPossible t.plan.groups (lines_in t) → IsFirstImpossible t k → ⊥
+all_possible t k possible first = first.here (possible_up_to t.plan.groups (lines_in t) (k + 1) possible)
+
+-- rows that are the given ones have no first difference
+no_difference : (t : TranscriptView) (rows : List ReportRow) (at : ℕ) (one other : Option ReportRow) → rows ≡ rows_by_frames t → DifferFirst (rows_by_frames t) rows at one other → ⊥
+no_difference t rows at one other same first = first.differ (sym first.one_is ∙ ap (λ rows. slice_get rows (at - 1)) (sym same) ∙ first.other_is)
+
+audit_not_refused : (transcript report : List ℕ) (v : View) (tb rb : List ℕ) (outcome : Outcome) → AuditAccepts transcript report v
+    → IsRead (v.held transcript) tb → IsRead (v.held report) rb → AuditRefuses transcript report tb rb outcome → IsCalm outcome
+audit_not_refused transcript report v tb rb Done good t_read r_read ends = absurd ends
+audit_not_refused transcript report v tb rb NoMemory good t_read r_read ends = inr (inr refl)
+audit_not_refused transcript report v tb rb BadWords good t_read r_read ends = absurd ends
+audit_not_refused transcript report v tb rb (CannotRead name) good t_read r_read ends = absurd ends
+audit_not_refused transcript report v tb rb (TooLong name) good t_read r_read ends = absurd ends
+audit_not_refused transcript report v tb rb (CannotWrite name) good t_read r_read ends = absurd ends
+audit_not_refused transcript report v tb rb CannotPrint good t_read r_read ends = absurd ends
+audit_not_refused transcript report v tb rb (BadPlan name fault) good t_read r_read ends = absurd ends
+audit_not_refused transcript report v tb rb (BadReadings name fault) good t_read r_read ends = absurd ends
+audit_not_refused transcript report v tb rb (BadTranscript name fault) good t_read r_read ends = absurd (transcript_not_refused transcript report v good tb fault t_read ends.1)
+audit_not_refused transcript report v tb rb (BadReport name line) good t_read r_read (named, (t, is, bad)) = absurd (report_not_refused transcript report v good rb line r_read bad)
+audit_not_refused transcript report v tb rb (Impossible name line) good t_read r_read (named, (t, rows, texts, (k, number, first))) =
+    let same = audited_same transcript report v good tb rb t rows t_read r_read texts in
+    absurd (all_possible t k (subst (λ t. IsPossible t.plan.groups (lines_in t)) same.0 good.possible) first)
+audit_not_refused transcript report v tb rb (OtherRow at one other) good t_read r_read (t, rows, texts, ends) =
+    let same = audited_same transcript report v good tb rb t rows t_read r_read texts in
+    absurd (no_difference t rows at one other (sym same.1 ∙ good.given ∙ ap rows_by_frames same.0) ends.first)
+audit_not_refused transcript report v tb rb (OtherPlan name) good t_read r_read ends = absurd ends
+audit_not_refused transcript report v tb rb (OtherLine name line expected) good t_read r_read ends = absurd ends
+audit_not_refused transcript report v tb rb (OtherPresence group round meter) good t_read r_read ends = absurd ends
+audit_not_refused transcript report v tb rb (OtherTotal group round first second) good t_read r_read ends = absurd ends
+audit_not_refused transcript report v tb rb (BadLane fault) good t_read r_read ends = absurd ends
+
+audit_calm : (transcript report : List ℕ) (v w : View) (outcome : Outcome) → AuditAccepts transcript report v → AuditCommandEnds transcript report v w outcome → IsCalm outcome
+audit_calm transcript report v w outcome good (inl unread) =
+    unread_calm (transcript ∷ report ∷ []) v w outcome (two_are_short v w transcript report good.transcript_bytes good.report_bytes good.transcript_file good.report_file) unread
+audit_calm transcript report v w outcome good (inr (tb, rb, t_read, r_read, inl refused)) = audit_not_refused transcript report v tb rb outcome good t_read r_read refused.0
+audit_calm transcript report v w outcome good (inr (tb, rb, t_read, r_read, inr (counts, audited, ends))) =
+    puts_calm [] (audited_line counts.rows counts.totals) (after_fetches (transcript ∷ report ∷ []) v) w outcome ends
+
+-- ---- `twin`
+
+four_are_short : (v w : View) (one two three four a b c d : List ℕ) → HoldsFile v one a → HoldsFile v two b → HoldsFile v three c → HoldsFile v four d
+    → (last : List ℕ) → EndsAtFetch (one ∷ two ∷ three ∷ four ∷ []) false v w last → IsLonger (v.held last) most_bytes → ⊥
+four_are_short v w one two three four a b c d first second third fourth last (inl here) longer = not_longer v one a last first here.0 longer
+four_are_short v w one two three four a b c d first second third fourth last (inr (inl here)) longer = not_longer v two b last second here.0 longer
+four_are_short v w one two three four a b c d first second third fourth last (inr (inr (inl here))) longer = not_longer v three c last third here.0 longer
+four_are_short v w one two three four a b c d first second third fourth last (inr (inr (inr (inl here)))) longer = not_longer v four d last fourth here.0 longer
+four_are_short v w one two three four a b c d first second third fourth last (inr (inr (inr (inr none)))) longer = absurd none
+
+-- the bytes that were read are the accepted ones
+same_four : (names : TwinNames) (v : View) (good : TwinAccepts names v) (bytes : TwinBytes) → AreReadBy names v bytes → good.bytes ≡ bytes
+same_four names v good bytes read =
+    let plan : good.bytes.plan ≡ bytes.plan = read_is v names.plan good.bytes.plan bytes.plan good.plan read.plan in
+    let readings : good.bytes.readings ≡ bytes.readings = read_is v names.readings good.bytes.readings bytes.readings good.readings read.readings in
+    let other : good.bytes.other ≡ bytes.other = read_is v names.other good.bytes.other bytes.other good.other read.other in
+    let transcript : good.bytes.transcript ≡ bytes.transcript = read_is v names.transcript good.bytes.transcript bytes.transcript good.transcript read.transcript in
+    ap (λ p. record { plan = p; readings = good.bytes.readings; other = good.bytes.other; transcript = good.bytes.transcript }) plan
+    ∙ ap (λ r. record { plan = bytes.plan; readings = r; other = good.bytes.other; transcript = good.bytes.transcript }) readings
+    ∙ ap (λ o. record { plan = bytes.plan; readings = bytes.readings; other = o; transcript = good.bytes.transcript }) other
+    ∙ ap (λ t. record { plan = bytes.plan; readings = bytes.readings; other = bytes.other; transcript = t }) transcript
+
+-- so no fault of the first three files is theirs
+plan_not_refused : (names : TwinNames) (v : View) (good : TwinAccepts names v) (fault : FileError) → plan_of good.bytes.plan ≡ Err fault → ⊥
+plan_not_refused names v good fault bad = ok_or_err _ _ _ good.of_bytes.plan bad
+
+first_not_refused : (names : TwinNames) (v : View) (good : TwinAccepts names v) (fault : FileError) → RefusesFirst good.bytes fault → ⊥
+first_not_refused names v good fault (file, plan, bad) =
+    let same : good.values.file ≡ file = ok_same _ _ _ good.of_bytes.plan plan in
+    ok_or_err _ _ _ (ap (λ f. readings_of f.plan good.bytes.readings) (sym same) ∙ good.of_bytes.first) bad
+
+second_not_refused : (names : TwinNames) (v : View) (good : TwinAccepts names v) (fault : FileError) → RefusesSecond good.bytes fault → ⊥
+second_not_refused names v good fault (file, first, plan, is, bad) =
+    let same : good.values.file ≡ file = ok_same _ _ _ good.of_bytes.plan plan in
+    ok_or_err _ _ _ (ap (λ f. readings_of f.plan good.bytes.other) (sym same) ∙ good.of_bytes.second) bad
+
+-- the values of accepted bytes are the accepted ones
+same_values : (names : TwinNames) (v : View) (good : TwinAccepts names v) (values : TwinValues) → AreTwinValues good.bytes values → good.values ≡ values
+same_values names v good values are =
+    let file : good.values.file ≡ values.file = ok_same _ _ _ good.of_bytes.plan are.plan in
+    let first : good.values.first ≡ values.first =
+    ok_same _ _ _ (ap (λ f. readings_of f.plan good.bytes.readings) (sym file) ∙ good.of_bytes.first) are.first
+    in
+    let second : good.values.second ≡ values.second =
+    ok_same _ _ _ (ap (λ f. readings_of f.plan good.bytes.other) (sym file) ∙ good.of_bytes.second) are.second
+    in
+    ap (λ f. record { file = f; first = good.values.first; second = good.values.second }) file
+    ∙ ap (λ x. record { file = values.file; first = x; second = good.values.second }) first
+    ∙ ap (λ y. record { file = values.file; first = values.first; second = y }) second
+
+-- of which `twin` answers no cause
+none_compared : (names : TwinNames) (v : View) (good : TwinAccepts names v) (error : TwinError) → Compared good.bytes (Err error) → error ≢ twin.Memory → ⊥
+none_compared names v good error (values, are, ends) known =
+    let here : TwinEnds (streams good.values.file.keys) good.values.first good.values.second good.bytes.transcript (Err error) =
+    subst (λ values. TwinEnds (streams values.file.keys) values.first values.second good.bytes.transcript (Err error)) (sym (same_values names v good values are)) ends
+    in
+    known (agreeing_are_twins (streams good.values.file.keys) good.values.first good.values.second good.bytes.transcript good.lines error good.recorded good.agree here)
+
+twin_not_refused : (names : TwinNames) (v : View) (good : TwinAccepts names v) (outcome : Outcome) → TwinRefuses names good.bytes outcome → IsCalm outcome
+twin_not_refused names v good Done ends = absurd ends
+twin_not_refused names v good NoMemory ends = inr (inr refl)
+twin_not_refused names v good BadWords ends = absurd ends
+twin_not_refused names v good (CannotRead name) ends = absurd ends
+twin_not_refused names v good (TooLong name) ends = absurd ends
+twin_not_refused names v good (CannotWrite name) ends = absurd ends
+twin_not_refused names v good CannotPrint ends = absurd ends
+twin_not_refused names v good (BadPlan name fault) ends = absurd (plan_not_refused names v good fault ends.1)
+twin_not_refused names v good (BadReadings name fault) (inl ends) = absurd (first_not_refused names v good fault ends.1)
+twin_not_refused names v good (BadReadings name fault) (inr ends) = absurd (second_not_refused names v good fault ends.1)
+twin_not_refused names v good (BadTranscript name fault) ends = absurd (none_compared names v good (twin.Transcript fault) ends.1 (λ is. cc))
+twin_not_refused names v good (BadReport name line) ends = absurd ends
+twin_not_refused names v good (Impossible name line) ends = absurd ends
+twin_not_refused names v good (OtherRow at from_frames reported) ends = absurd ends
+twin_not_refused names v good (OtherPlan name) ends = absurd (none_compared names v good twin.Head ends.1 (λ is. cc))
+twin_not_refused names v good (OtherLine name line expected) (named, (found, ends)) = absurd (none_compared names v good (twin.NotThis line expected.line found expected.tick expected.fate) ends (λ is. cc))
+twin_not_refused names v good (OtherPresence group round meter) ends = absurd (none_compared names v good (twin.Differ (Presence group round meter)) ends (λ is. cc))
+twin_not_refused names v good (OtherTotal group round first second) ends = absurd (none_compared names v good (twin.Differ (Total group round first second)) ends (λ is. cc))
+twin_not_refused names v good (BadLane fault) ends = absurd ends
+
+twin_calm : (names : TwinNames) (v w : View) (outcome : Outcome) → TwinAccepts names v → TwinCommandEnds names v w outcome → IsCalm outcome
+twin_calm names v w outcome good (inl unread) =
+    unread_calm (compared_by names) v w outcome
+    (four_are_short v w names.plan names.readings names.other names.transcript good.bytes.plan good.bytes.readings good.bytes.other good.bytes.transcript
+    good.plan good.readings good.other good.transcript)
+    unread
+twin_calm names v w outcome good (inr (bytes, read, inl refused)) =
+    twin_not_refused names v good outcome (subst (λ bytes. TwinRefuses names bytes outcome) (sym (same_four names v good bytes read)) refused.0)
+twin_calm names v w outcome good (inr (bytes, read, inr (rows, compared, ends))) =
+    puts_calm (putting names.masks (masks_text rows) ∷ []) (moved_line (length rows)) (after_fetches (compared_by names) v) w outcome ends
+
+-- ---- `make` and `load`
+
+make_calm : (size : Size) (plan readings : List ℕ) (v w : View) (outcome : Outcome) → MakeEnds size plan readings v w outcome → IsCalm outcome
+make_calm size plan readings v w outcome ends =
+    puts_calm (putting plan (made_plan_text size) ∷ putting readings (made_readings_text size) ∷ []) (made_line (size.groups * size.meters * size.rounds)) v w outcome ends
+
+load_not_refused : (cupboard : List Meaning) (size : Size) (outcome : Outcome) → LoadAccepts cupboard size → LoadRefuses cupboard size outcome → IsCalm outcome
+load_not_refused cupboard size Done good ends = absurd ends
+load_not_refused cupboard size NoMemory good ends = inr (inr refl)
+load_not_refused cupboard size BadWords good ends = absurd ends
+load_not_refused cupboard size (CannotRead name) good ends = absurd ends
+load_not_refused cupboard size (TooLong name) good ends = absurd ends
+load_not_refused cupboard size (CannotWrite name) good ends = absurd ends
+load_not_refused cupboard size CannotPrint good ends = absurd ends
+load_not_refused cupboard size (BadPlan name fault) good ends = absurd ends
+load_not_refused cupboard size (BadReadings name fault) good ends = absurd ends
+load_not_refused cupboard size (BadTranscript name fault) good ends = absurd ends
+load_not_refused cupboard size (BadReport name line) good ends = absurd ends
+load_not_refused cupboard size (Impossible name line) good ends = absurd ends
+load_not_refused cupboard size (OtherRow at one other) good ends = absurd ends
+load_not_refused cupboard size (OtherPlan name) good ends = absurd ends
+load_not_refused cupboard size (OtherLine name line expected) good ends = absurd ends
+load_not_refused cupboard size (OtherPresence group round meter) good ends = absurd ends
+load_not_refused cupboard size (OtherTotal group round first second) good ends = absurd ends
+load_not_refused cupboard size (BadLane fault) good ends = absurd (ok_or_err _ _ _ good.lanes ends)
+
+load_calm : (cupboard : List Meaning) (size : Size) (transcript : Option (List ℕ)) (v w : View) (outcome : Outcome) → LoadAccepts cupboard size
+    → LoadEnds cupboard size transcript v w outcome → IsCalm outcome
+load_calm cupboard size transcript v w outcome good (inl refused) = load_not_refused cupboard size outcome good refused.0
+load_calm cupboard size transcript v w outcome good (inr (texts, is, only, ends)) = puts_calm (put_where transcript texts.transcript) texts.summary v w outcome ends
+
+-- ---- `convert`
+
+converted_is : (old : List ℕ) (v : View) (good : ConvertAccepts old v) (bytes : List ℕ) → IsRead (v.held old) bytes → read_of One bytes ≡ Ok good.transcript
+unfolding ReadsEach
+converted_is old v good bytes is =
+    let same : good.bytes ≡ bytes = read_is v old good.bytes bytes good.file is in
+    let few : length good.bytes ≤ most_bytes = good.file.short in
+    ap (read_of One) (sym same) ∙ reads_each One good.bytes (omega arith) good.transcript good.has_text good.text
+
+text_not_refused : (old : List ℕ) (v : View) (bytes : List ℕ) (outcome : Outcome) → ConvertAccepts old v → IsRead (v.held old) bytes → ConvertRefuses old bytes outcome → IsCalm outcome
+text_not_refused old v bytes Done good is ends = absurd ends
+text_not_refused old v bytes NoMemory good is ends = inr (inr refl)
+text_not_refused old v bytes BadWords good is ends = absurd ends
+text_not_refused old v bytes (CannotRead name) good is ends = absurd ends
+text_not_refused old v bytes (TooLong name) good is ends = absurd ends
+text_not_refused old v bytes (CannotWrite name) good is ends = absurd ends
+text_not_refused old v bytes CannotPrint good is ends = absurd ends
+text_not_refused old v bytes (BadPlan name fault) good is ends = absurd ends
+text_not_refused old v bytes (BadReadings name fault) good is ends = absurd ends
+text_not_refused old v bytes (BadTranscript name fault) good is ends = absurd (ok_or_err _ _ _ (converted_is old v good bytes is) ends.1)
+text_not_refused old v bytes (BadReport name line) good is ends = absurd ends
+text_not_refused old v bytes (Impossible name line) good is ends = absurd ends
+text_not_refused old v bytes (OtherRow at from_frames reported) good is ends = absurd ends
+text_not_refused old v bytes (OtherPlan name) good is ends = absurd ends
+text_not_refused old v bytes (OtherLine name line expected) good is ends = absurd ends
+text_not_refused old v bytes (OtherPresence group round meter) good is ends = absurd ends
+text_not_refused old v bytes (OtherTotal group round first second) good is ends = absurd ends
+text_not_refused old v bytes (BadLane fault) good is ends = absurd ends
+
+convert_calm : (old transcript : List ℕ) (v w : View) (outcome : Outcome) → ConvertAccepts old v → ConvertEnds old transcript v w outcome → IsCalm outcome
+convert_calm old transcript v w outcome good (inl unread) = unread_calm (old ∷ []) v w outcome (one_is_short v w old good.bytes good.file) unread
+convert_calm old transcript v w outcome good (inr (bytes, is, inl refused)) = text_not_refused old v bytes outcome good is refused.0
+convert_calm old transcript v w outcome good (inr (bytes, is, inr (t, has, text, ends))) =
+    puts_calm (putting transcript (transcript_text t) ∷ []) (converted_line (length t.entries)) (after_fetches (old ∷ []) v) w outcome ends
+
+-- ---- all commands
+
+command_calm : (cupboard : List Meaning) (command : Command) (v w : View) (outcome : Outcome) → Accepts cupboard command v → Ends cupboard (Some command) v w outcome → IsCalm outcome
+command_calm cupboard (Run names workers) v w outcome good ends = run_calm cupboard names v w outcome good ends
+command_calm cupboard (Audit transcript report) v w outcome good ends = audit_calm transcript report v w outcome good ends
+command_calm cupboard (Twin names) v w outcome good ends = twin_calm names v w outcome good ends
+command_calm cupboard (Make size plan readings) v w outcome good ends = make_calm size plan readings v w outcome ends
+command_calm cupboard (Load size workers transcript) v w outcome good ends = load_calm cupboard size transcript v w outcome good ends
+command_calm cupboard (Convert old transcript) v w outcome good ends = convert_calm old transcript v w outcome good ends
+command_calm cupboard Help v w outcome good ends = puts_calm [] USAGE.now v w outcome ends
+command_calm cupboard Version v w outcome good ends = puts_calm [] VERSION.now v w outcome ends
+
+pub accepted_is_done : (cupboard : List Meaning) (asked : Option Command) (v w : View) (outcome : Outcome) (before between now status : ℕ) → Ends cupboard asked v w outcome
+    → (IsFault outcome → Rose before between) → between ≤ now → status ≡ status_of outcome → AcceptedIsDone cupboard asked v before now status
+accepted_is_done cupboard asked v w outcome before between now status ends rises later is command by good calm =
+    let done : Ends cupboard (Some command) v w outcome = subst (λ c. Ends cupboard c v w outcome) by ends in
+    elim (command_calm cupboard command v w outcome good done) [
+      | inl fault ↦ absurd (calm (let h = rises fault in omega arith))
+      | inr (inl well) ↦ inl (is ∙ well)
+      | inr (inr short) ↦ inr (is ∙ short)
+    ]

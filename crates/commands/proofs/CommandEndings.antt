@@ -1,0 +1,260 @@
+-- How commands end, from how their parts do.
+use Rattle.std.proofs.Common.{◌≡◌, List, [], ◌∷◌, ℕ, Bool, true, false, length, inl, inr, subst, sym, ap, ◌∙◌, refl, Result, Ok, Err}
+use Rattle.std.specs.Prelude.{Option, None, Some}
+use Rattle.desk_outside.specs.Desk.{View, IsLonger, after_step}
+use Rattle.link_lanes.specs.Lanes.{Meaning}
+use Rattle.transcript_text.specs.declared.version.Version.TheVariants.{One}
+use Rattle.transcript_text.specs.Transcripts.{TranscriptView}
+use Rattle.transcript_text.specs.ReadBack.{HasText}
+use Rattle.transcript_text.specs.Spelling.{text_of, transcript_text}
+use Rattle.commands.specs.declared.texts.Refusal.{Refusal}
+use Rattle.commands.specs.declared.texts.Refusal.TheVariants as refusal
+use Rattle.commands.specs.RunTexts.{TextsEnd}
+use Rattle.commands.specs.declared.outcome.Outcome.{Outcome}
+use Rattle.commands.specs.declared.outcome.Outcome.TheVariants.{Done, NoMemory, BadWords, CannotRead, TooLong, CannotWrite, CannotPrint, BadPlan, BadReadings, BadTranscript, BadReport, Impossible, OtherRow, OtherPlan, OtherLine, OtherPresence, OtherTotal, BadLane}
+use Rattle.twin_worlds.specs.declared.rows.MovedRow.{MovedRow}
+use Rattle.twin_worlds.specs.MasksText.{masks_text}
+use Rattle.commands.specs.Twins.{TwinBytes, AreReadBy, Compared, TwinRefuses}
+use Rattle.commands.specs.Words.{RunNames, TwinNames, Size}
+use Rattle.commands.specs.Calls.{most_bytes, HasFetched, EndsAtFetch, Unread, IsRead, after_fetches, putting, PutsEnd}
+use Rattle.commands.specs.Ends.{fetched_by, put_by, RunEnds, RefusesReadings, audited_line, AuditCommandEnds, compared_by, moved_line, TwinCommandEnds, made_file_of, made_plan_text, made_readings_text, put_where, LoadEnds, converted_line, ConvertEnds}
+use Rattle.audit_check.specs.declared.answers.AuditCounts.{AuditCounts}
+use Rattle.plan_files.specs.declared.fault.FileError.{FileError}
+use Rattle.plan_files.specs.PlanFiles.{plan_of}
+use Rattle.plan_files.specs.Readings.{readings_of}
+use Rattle.load_maker.specs.Made.{made_plan, made_file, made_readings}
+use Rattle.load_maker.specs.MadeFiles.{AreRead}
+use Rattle.commands.specs.Audits.{Audited, AuditRefuses}
+use Rattle.commands.specs.Runs.{Texts, Makes}
+use Rattle.commands.proofs.RunLemmas.{is_only}
+
+-- the texts of a run are put and said
+pub run_ends : (cupboard : List Meaning) (names : RunNames) (v u w : View) (texts : Texts) (outcome : Outcome) (plan readings p r transcript report summary : List ℕ)
+    → IsRead (v.held names.plan) plan → IsRead (v.held names.readings) readings → u ≡ after_fetches (fetched_by names) v → p ≡ plan → r ≡ readings
+    → Makes cupboard p r texts → transcript ≡ texts.transcript → report ≡ texts.report → summary ≡ texts.summary
+    → PutsEnd (putting names.transcript transcript ∷ putting names.report report ∷ []) summary u w outcome → RunEnds cupboard names v w outcome
+run_ends cupboard names v u w texts outcome plan readings p r transcript report summary plan_read readings_read after plan_is readings_is made t_is r_is s_is ends =
+    let made_here : Makes cupboard plan readings texts =
+    subst (λ bytes. Makes cupboard plan bytes texts) readings_is (subst (λ bytes. Makes cupboard bytes r texts) plan_is made)
+    in
+    let by_transcript : PutsEnd (putting names.transcript texts.transcript ∷ putting names.report report ∷ []) summary u w outcome =
+    subst (λ t. PutsEnd (putting names.transcript t ∷ putting names.report report ∷ []) summary u w outcome) t_is ends
+    in
+    let by_report : PutsEnd (put_by names texts) summary u w outcome =
+    subst (λ t. PutsEnd (putting names.transcript texts.transcript ∷ putting names.report t ∷ []) summary u w outcome) r_is by_transcript
+    in
+    let by_summary : PutsEnd (put_by names texts) texts.summary u w outcome = subst (λ s. PutsEnd (put_by names texts) s u w outcome) s_is by_report in
+    let here : PutsEnd (put_by names texts) texts.summary (after_fetches (fetched_by names) v) w outcome =
+    subst (λ u. PutsEnd (put_by names texts) texts.summary u w outcome) after by_summary
+    in
+    inr (plan, readings, plan_read, readings_read, inr (texts, made_here, is_only cupboard plan readings texts made_here, here))
+
+-- the transcript of an old text is put
+pub convert_ends : (old transcript : List ℕ) (v u w : View) (t : TranscriptView) (outcome : Outcome) (bytes given text line : List ℕ) (lines : ℕ)
+    → IsRead (v.held old) bytes → u ≡ after_fetches (old ∷ []) v → given ≡ bytes → HasText One t → given ≡ text_of One t
+    → text ≡ transcript_text t → line ≡ converted_line lines → lines ≡ length t.entries
+    → PutsEnd (putting transcript text ∷ []) line u w outcome → ConvertEnds old transcript v w outcome
+convert_ends old transcript v u w t outcome bytes given text line lines is after given_is has found text_is line_is lines_are ends =
+    let by_text : PutsEnd (putting transcript (transcript_text t) ∷ []) line u w outcome = subst (λ x. PutsEnd (putting transcript x ∷ []) line u w outcome) text_is ends in
+    let by_line : PutsEnd (putting transcript (transcript_text t) ∷ []) (converted_line (length t.entries)) u w outcome =
+    subst (λ x. PutsEnd (putting transcript (transcript_text t) ∷ []) x u w outcome) (line_is ∙ ap converted_line lines_are) by_text
+    in
+    let here : PutsEnd (putting transcript (transcript_text t) ∷ []) (converted_line (length t.entries)) (after_fetches (old ∷ []) v) w outcome =
+    subst (λ u. PutsEnd (putting transcript (transcript_text t) ∷ []) (converted_line (length t.entries)) u w outcome) after by_line
+    in
+    inr (bytes, is, inr (t, has, sym given_is ∙ found, here))
+
+-- what the files say is refused
+pub audit_refused : (transcript report : List ℕ) (v w : View) (outcome : Outcome) (tb rb given other : List ℕ)
+    → IsRead (v.held transcript) tb → IsRead (v.held report) rb → w ≡ after_fetches (transcript ∷ report ∷ []) v → given ≡ tb → other ≡ rb
+    → AuditRefuses transcript report given other outcome → AuditCommandEnds transcript report v w outcome
+audit_refused transcript report v w outcome tb rb given other t_read r_read after given_is other_is refused =
+    let here : AuditRefuses transcript report tb rb outcome =
+    subst (λ bytes. AuditRefuses transcript report tb bytes outcome) other_is (subst (λ bytes. AuditRefuses transcript report bytes other outcome) given_is refused)
+    in
+    inr (tb, rb, t_read, r_read, inl (here, after))
+
+-- a report is confirmed
+pub audit_ends : (transcript report : List ℕ) (v u w : View) (counts : AuditCounts) (outcome : Outcome) (tb rb given other line : List ℕ)
+    → IsRead (v.held transcript) tb → IsRead (v.held report) rb → u ≡ after_fetches (transcript ∷ report ∷ []) v → given ≡ tb → other ≡ rb
+    → Audited given other (Ok counts) → line ≡ audited_line counts.rows counts.totals
+    → PutsEnd [] line u w outcome → AuditCommandEnds transcript report v w outcome
+audit_ends transcript report v u w counts outcome tb rb given other line t_read r_read after given_is other_is audited line_is ends =
+    let here : Audited tb rb (Ok counts) = subst (λ bytes. Audited tb bytes (Ok counts)) other_is (subst (λ bytes. Audited bytes other (Ok counts)) given_is audited)
+    in
+    let by_line : PutsEnd [] (audited_line counts.rows counts.totals) u w outcome = subst (λ x. PutsEnd [] x u w outcome) line_is ends in
+    inr (tb, rb, t_read, r_read, inr (counts, here, subst (λ u. PutsEnd [] (audited_line counts.rows counts.totals) u w outcome) after by_line))
+
+-- the made files are read as what they were made of, so no run refuses them
+pub made_plan_is_read : (cupboard : List Meaning) (size : Size) (p r : List ℕ) (why : Refusal) (fault : FileError) → p ≡ made_plan_text size
+    → AreRead size.seed size.groups size.meters size.rounds → why ≡ refusal.Plan fault → TextsEnd cupboard p r (Err why) → ⊥
+made_plan_is_read cupboard size p r why fault p_is made why_is ends =
+    let bad : plan_of p ≡ Err fault = subst (λ x. TextsEnd cupboard p r (Err x)) why_is ends in
+    let well : plan_of p ≡ Ok (made_file_of size) = ap plan_of p_is ∙ made.plan in
+    cc
+
+plan_of_made : (size : Size) → (made_file_of size).plan ≡ made_plan size.groups size.meters size.rounds
+unfolding made_file
+plan_of_made size = refl
+
+not_both : {A E : Type 0} (r : Result A E) (a : A) (e : E) → r ≡ Ok a → r ≡ Err e → ⊥
+not_both r a e well bad = cc
+
+readings_not_refused : (cupboard : List Meaning) (size : Size) (p r : List ℕ) (fault : FileError) → p ≡ made_plan_text size → r ≡ made_readings_text size
+    → AreRead size.seed size.groups size.meters size.rounds → RefusesReadings cupboard p r fault → ⊥
+readings_not_refused cupboard size p r fault p_is r_is made (file, slots, plan_is, lanes_are, bad) =
+    let well : plan_of p ≡ Ok (made_file_of size) = ap plan_of p_is ∙ made.plan in
+    let same : made_file_of size ≡ file = cc in
+    let plan : file.plan ≡ made_plan size.groups size.meters size.rounds = ap (λ f. f.plan) (sym same) ∙ plan_of_made size in
+    not_both (readings_of file.plan r) (made_readings size.seed size.groups size.meters size.rounds) fault (ap (λ plan. readings_of plan r) plan ∙ ap (readings_of (made_plan size.groups size.meters size.rounds)) r_is ∙ made.readings) bad
+
+pub made_readings_are_read : (cupboard : List Meaning) (size : Size) (p r : List ℕ) (why : Refusal) (fault : FileError) → p ≡ made_plan_text size → r ≡ made_readings_text size
+    → AreRead size.seed size.groups size.meters size.rounds → why ≡ refusal.Readings fault → TextsEnd cupboard p r (Err why) → ⊥
+made_readings_are_read cupboard size p r why fault p_is r_is made why_is ends =
+    readings_not_refused cupboard size p r fault p_is r_is made (subst (λ x. TextsEnd cupboard p r (Err x)) why_is ends)
+
+-- the texts of a load are put, where there is a name, and said
+pub load_ends : (cupboard : List Meaning) (size : Size) (name given : Option (List ℕ)) (v w : View) (texts : Texts) (outcome : Outcome) (p r transcript summary : List ℕ)
+    → name ≡ given → p ≡ made_plan_text size → r ≡ made_readings_text size → Makes cupboard p r texts
+    → transcript ≡ texts.transcript → summary ≡ texts.summary
+    → PutsEnd (put_where given transcript) summary v w outcome → LoadEnds cupboard size name v w outcome
+load_ends cupboard size name given v w texts outcome p r transcript summary name_is p_is r_is made t_is s_is ends =
+    let here : Makes cupboard (made_plan_text size) (made_readings_text size) texts =
+    subst (λ bytes. Makes cupboard (made_plan_text size) bytes texts) r_is (subst (λ bytes. Makes cupboard bytes r texts) p_is made)
+    in
+    let by_transcript : PutsEnd (put_where given texts.transcript) summary v w outcome = subst (λ t. PutsEnd (put_where given t) summary v w outcome) t_is ends in
+    let by_summary : PutsEnd (put_where given texts.transcript) texts.summary v w outcome =
+    subst (λ s. PutsEnd (put_where given texts.transcript) s v w outcome) s_is by_transcript
+    in
+    inr (
+      texts,
+      here,
+      is_only cupboard (made_plan_text size) (made_readings_text size) texts here,
+      subst (λ n. PutsEnd (put_where n texts.transcript) texts.summary v w outcome) (sym name_is) by_summary,
+    )
+
+-- ---- `twin`
+
+-- a fetch leaves what the names hold
+held_after_two : (a b : List ℕ) (v u : View) → u ≡ after_fetches (a ∷ b ∷ []) v → u.held ≡ v.held
+unfolding after_step
+held_after_two a b v u after = ap (λ v. v.held) after
+
+read_after_two : (a b name bytes : List ℕ) (v u : View) → u ≡ after_fetches (a ∷ b ∷ []) v → IsRead (u.held name) bytes → IsRead (v.held name) bytes
+read_after_two a b name bytes v u after is = subst (λ held. IsRead (held name) bytes) (held_after_two a b v u after) is
+
+-- what ends the fetch of two files, ends that of four
+some_of_two : (a b c d : List ℕ) (v w : View) → HasFetched (a ∷ b ∷ []) v w → HasFetched (a ∷ b ∷ c ∷ d ∷ []) v w
+some_of_two a b c d v w (inl none) = inl none
+some_of_two a b c d v w (inr (inl one)) = inr (inl one)
+some_of_two a b c d v w (inr (inr two)) = inr (inr (inl two))
+
+last_of_two : (a b c d last : List ℕ) (failed : Bool) (v w : View) → EndsAtFetch (a ∷ b ∷ []) failed v w last → EndsAtFetch (a ∷ b ∷ c ∷ d ∷ []) failed v w last
+last_of_two a b c d last failed v w (inl here) = inl here
+last_of_two a b c d last failed v w (inr (inl here)) = inr (inl here)
+last_of_two a b c d last failed v w (inr (inr none)) = absurd none
+
+pub first_unread : (a b c d : List ℕ) (v w : View) (outcome : Outcome) → Unread (a ∷ b ∷ []) v w outcome → Unread (a ∷ b ∷ c ∷ d ∷ []) v w outcome
+first_unread a b c d v w Done ends = absurd ends
+first_unread a b c d v w NoMemory ends = some_of_two a b c d v w ends
+first_unread a b c d v w BadWords ends = absurd ends
+first_unread a b c d v w (CannotRead name) ends = last_of_two a b c d name.now true v w ends
+first_unread a b c d v w (TooLong name) ends = (last_of_two a b c d name.now false v w ends.0, ends.1)
+first_unread a b c d v w (CannotWrite name) ends = absurd ends
+first_unread a b c d v w CannotPrint ends = absurd ends
+first_unread a b c d v w (BadPlan name fault) ends = absurd ends
+first_unread a b c d v w (BadReadings name fault) ends = absurd ends
+first_unread a b c d v w (BadTranscript name fault) ends = absurd ends
+first_unread a b c d v w (BadReport name line) ends = absurd ends
+first_unread a b c d v w (Impossible name line) ends = absurd ends
+first_unread a b c d v w (OtherRow at from_frames reported) ends = absurd ends
+first_unread a b c d v w (OtherPlan name) ends = absurd ends
+first_unread a b c d v w (OtherLine name line expected) ends = absurd ends
+first_unread a b c d v w (OtherPresence group round meter) ends = absurd ends
+first_unread a b c d v w (OtherTotal group round first second) ends = absurd ends
+first_unread a b c d v w (BadLane fault) ends = absurd ends
+
+-- and so does what ends the fetch of the other two
+pub then_unread : (a b c d : List ℕ) (v u w : View) (outcome : Outcome) → u ≡ after_fetches (a ∷ b ∷ []) v → Unread (c ∷ d ∷ []) u w outcome
+    → Unread (a ∷ b ∷ c ∷ d ∷ []) v w outcome
+then_unread a b c d v u w Done after ends = absurd ends
+then_unread a b c d v u w NoMemory after ends = inr (inr (subst (λ u. HasFetched (c ∷ d ∷ []) u w) after ends))
+then_unread a b c d v u w BadWords after ends = absurd ends
+then_unread a b c d v u w (CannotRead name) after ends = inr (inr (subst (λ u. EndsAtFetch (c ∷ d ∷ []) true u w name.now) after ends))
+then_unread a b c d v u w (TooLong name) after ends = (
+  inr (inr (subst (λ u. EndsAtFetch (c ∷ d ∷ []) false u w name.now) after ends.0)),
+  subst (λ held. IsLonger (held name.now) most_bytes) (held_after_two a b v u after) ends.1,
+)
+then_unread a b c d v u w (CannotWrite name) after ends = absurd ends
+then_unread a b c d v u w CannotPrint after ends = absurd ends
+then_unread a b c d v u w (BadPlan name fault) after ends = absurd ends
+then_unread a b c d v u w (BadReadings name fault) after ends = absurd ends
+then_unread a b c d v u w (BadTranscript name fault) after ends = absurd ends
+then_unread a b c d v u w (BadReport name line) after ends = absurd ends
+then_unread a b c d v u w (Impossible name line) after ends = absurd ends
+then_unread a b c d v u w (OtherRow at from_frames reported) after ends = absurd ends
+then_unread a b c d v u w (OtherPlan name) after ends = absurd ends
+then_unread a b c d v u w (OtherLine name line expected) after ends = absurd ends
+then_unread a b c d v u w (OtherPresence group round meter) after ends = absurd ends
+then_unread a b c d v u w (OtherTotal group round first second) after ends = absurd ends
+then_unread a b c d v u w (BadLane fault) after ends = absurd ends
+
+-- the bytes of four files that were read one after the other
+four_read : (names : TwinNames) (v u : View) (p r o t : List ℕ) → IsRead (v.held names.plan) p → IsRead (v.held names.readings) r
+    → u ≡ after_fetches (names.plan ∷ names.readings ∷ []) v → IsRead (u.held names.other) o → IsRead (u.held names.transcript) t
+    → AreReadBy names v (record { plan = p; readings = r; other = o; transcript = t })
+four_read names v u p r o t p_read r_read after o_read t_read = record {
+  plan = p_read;
+  readings = r_read;
+  other = read_after_two names.plan names.readings names.other o v u after o_read;
+  transcript = read_after_two names.plan names.readings names.transcript t v u after t_read;
+}
+
+four_after : (names : TwinNames) (v u w : View) → u ≡ after_fetches (names.plan ∷ names.readings ∷ []) v → w ≡ after_fetches (names.other ∷ names.transcript ∷ []) u
+    → w ≡ after_fetches (compared_by names) v
+four_after names v u w first second = second ∙ ap (after_fetches (names.other ∷ names.transcript ∷ [])) first
+
+-- the four texts that are compared are the bytes that were read
+same_texts : (P : TwinBytes → Type 0) (p r o t gp gr go gt : List ℕ) → gp ≡ p → gr ≡ r → go ≡ o → gt ≡ t
+    → P (record { plan = gp; readings = gr; other = go; transcript = gt }) → P (record { plan = p; readings = r; other = o; transcript = t })
+same_texts P p r o t gp gr go gt p_is r_is o_is t_is holds =
+    subst (λ x. P (record { plan = p; readings = r; other = o; transcript = x })) t_is
+    (subst (λ x. P (record { plan = p; readings = r; other = x; transcript = gt })) o_is
+    (subst (λ x. P (record { plan = p; readings = x; other = go; transcript = gt })) r_is
+    (subst (λ x. P (record { plan = x; readings = gr; other = go; transcript = gt })) p_is holds)))
+
+-- what the four files say is refused
+pub twin_refused : (names : TwinNames) (v u w : View) (outcome : Outcome) (p r o t gp gr go gt : List ℕ) → IsRead (v.held names.plan) p
+    → IsRead (v.held names.readings) r → u ≡ after_fetches (names.plan ∷ names.readings ∷ []) v → IsRead (u.held names.other) o → IsRead (u.held names.transcript) t
+    → w ≡ after_fetches (names.other ∷ names.transcript ∷ []) u → gp ≡ p → gr ≡ r → go ≡ o → gt ≡ t
+    → TwinRefuses names (record { plan = gp; readings = gr; other = go; transcript = gt }) outcome → TwinCommandEnds names v w outcome
+twin_refused names v u w outcome p r o t gp gr go gt p_read r_read first o_read t_read second p_is r_is o_is t_is refused =
+    inr (
+      record { plan = p; readings = r; other = o; transcript = t },
+      four_read names v u p r o t p_read r_read first o_read t_read,
+      inl (same_texts (λ bytes. TwinRefuses names bytes outcome) p r o t gp gr go gt p_is r_is o_is t_is refused, four_after names v u w first second),
+    )
+
+-- the file of the moved words is put
+pub twin_ends : (names : TwinNames) (v u x w : View) (outcome : Outcome) (rows : List MovedRow) (count : ℕ) (p r o t gp gr go gt text line : List ℕ)
+    → IsRead (v.held names.plan) p → IsRead (v.held names.readings) r → u ≡ after_fetches (names.plan ∷ names.readings ∷ []) v
+    → IsRead (u.held names.other) o → IsRead (u.held names.transcript) t → x ≡ after_fetches (names.other ∷ names.transcript ∷ []) u
+    → gp ≡ p → gr ≡ r → go ≡ o → gt ≡ t → Compared (record { plan = gp; readings = gr; other = go; transcript = gt }) (Ok rows)
+    → text ≡ masks_text rows → line ≡ moved_line count → count ≡ length rows
+    → PutsEnd (putting names.masks text ∷ []) line x w outcome → TwinCommandEnds names v w outcome
+twin_ends names v u x w outcome rows count p r o t gp gr go gt text line p_read r_read first o_read t_read second p_is r_is o_is t_is compared text_is line_is count_is ends =
+    let by_text : PutsEnd (putting names.masks (masks_text rows) ∷ []) line x w outcome =
+    subst (λ text. PutsEnd (putting names.masks text ∷ []) line x w outcome) text_is ends
+    in
+    let by_line : PutsEnd (putting names.masks (masks_text rows) ∷ []) (moved_line (length rows)) x w outcome =
+    subst (λ line. PutsEnd (putting names.masks (masks_text rows) ∷ []) line x w outcome) (line_is ∙ ap moved_line count_is) by_text
+    in
+    inr (
+      record { plan = p; readings = r; other = o; transcript = t },
+      four_read names v u p r o t p_read r_read first o_read t_read,
+      inr (
+        rows,
+        same_texts (λ bytes. Compared bytes (Ok rows)) p r o t gp gr go gt p_is r_is o_is t_is compared,
+        subst (λ x. PutsEnd (putting names.masks (masks_text rows) ∷ []) (moved_line (length rows)) x w outcome) (four_after names v u x first second) by_line,
+      ),
+    )

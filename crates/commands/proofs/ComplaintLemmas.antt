@@ -1,0 +1,60 @@
+-- Each outcome of a command has a complaint.
+use Rattle.std.proofs.Common.{refl, ◌≡◌, ℕ, List, [], subst, sym, inl, inr}
+use Rattle.std.specs.Prelude.{Option, None, Some}
+use Rattle.desk_outside.specs.Desk.{View}
+use Rattle.link_lanes.specs.Lanes.{Meaning}
+use Rattle.commands.specs.declared.outcome.Outcome.{Outcome}
+use Rattle.commands.specs.declared.outcome.Outcome.TheVariants.{Done, NoMemory, BadWords, CannotRead, TooLong, CannotWrite, CannotPrint, BadPlan, BadReadings, BadTranscript, BadReport, Impossible, OtherRow, OtherPlan, OtherLine, OtherPresence, OtherTotal, BadLane}
+use Rattle.commands.specs.Words.{Command, Run, Audit, Twin, Make, Load, Convert, Help, Version}
+use Rattle.commands.specs.Outcomes.{HasComplaint}
+use Rattle.commands.specs.Ends.{Ends}
+
+-- an outcome that is no line of a transcript that should be another has one
+either : (outcome : Outcome) → ((name : _) (line : ℕ) (expected : _) → outcome ≡ OtherLine name line expected → HasComplaint outcome) → HasComplaint outcome
+either Done other = tt
+either NoMemory other = tt
+either BadWords other = tt
+either (CannotRead name) other = tt
+either (TooLong name) other = tt
+either (CannotWrite name) other = tt
+either CannotPrint other = tt
+either (BadPlan name fault) other = tt
+either (BadReadings name fault) other = tt
+either (BadTranscript name fault) other = tt
+either (BadReport name line) other = tt
+either (Impossible name line) other = tt
+either (OtherRow at from_frames reported) other = tt
+either (OtherPlan name) other = tt
+either (OtherLine name line expected) other = other name line expected refl
+either (OtherPresence group round meter) other = tt
+either (OtherTotal group round first second) other = tt
+either (BadLane fault) other = tt
+
+of_line : (cupboard : List Meaning) (command : Command) (v w : View) (name : _) (line : ℕ) (expected : _) → Ends cupboard (Some command) v w (OtherLine name line expected)
+    → HasComplaint (OtherLine name line expected)
+of_line cupboard (Run names workers) v w name line expected (inl unread) = absurd unread
+of_line cupboard (Run names workers) v w name line expected (inr (p, r, p_read, r_read, inl refused)) = absurd refused.0
+of_line cupboard (Run names workers) v w name line expected (inr (p, r, p_read, r_read, inr (texts, made, only, ends))) = absurd ends
+of_line cupboard (Audit transcript report) v w name line expected (inl unread) = absurd unread
+of_line cupboard (Audit transcript report) v w name line expected (inr (tb, rb, t_read, r_read, inl refused)) = absurd refused.0
+of_line cupboard (Audit transcript report) v w name line expected (inr (tb, rb, t_read, r_read, inr (counts, audited, ends))) = absurd ends
+of_line cupboard (Twin names) v w name line expected (inl unread) = absurd unread
+of_line cupboard (Twin names) v w name line expected (inr (bytes, read, inl ((named, (found, (values, are, (t, text_is, plan_is, (k, number, first))))), after))) = first.writable
+of_line cupboard (Twin names) v w name line expected (inr (bytes, read, inr (rows, compared, ends))) = absurd ends
+of_line cupboard (Make size plan readings) v w name line expected ends = absurd ends
+of_line cupboard (Load size workers transcript) v w name line expected (inl refused) = absurd refused.0
+of_line cupboard (Load size workers transcript) v w name line expected (inr (texts, made, only, ends)) = absurd ends
+of_line cupboard (Convert old transcript) v w name line expected (inl unread) = absurd unread
+of_line cupboard (Convert old transcript) v w name line expected (inr (bytes, read, inl refused)) = absurd refused.0
+of_line cupboard (Convert old transcript) v w name line expected (inr (bytes, read, inr (t, has, text, ends))) = absurd ends
+of_line cupboard Help v w name line expected ends = absurd ends
+of_line cupboard Version v w name line expected ends = absurd ends
+
+by_command : (cupboard : List Meaning) (command : Command) (v w : View) (outcome : Outcome) → Ends cupboard (Some command) v w outcome → HasComplaint outcome
+by_command cupboard command v w outcome ends =
+    either outcome (λ name line expected is.
+    subst HasComplaint (sym is) (of_line cupboard command v w name line expected (subst (λ outcome. Ends cupboard (Some command) v w outcome) is ends)))
+
+pub has_complaint : (cupboard : List Meaning) (asked : Option Command) (v w : View) (outcome : Outcome) → Ends cupboard asked v w outcome → HasComplaint outcome
+has_complaint cupboard None v w outcome (is, after) = subst HasComplaint (sym is) tt
+has_complaint cupboard (Some command) v w outcome ends = by_command cupboard command v w outcome ends

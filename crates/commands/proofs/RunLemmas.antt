@@ -1,0 +1,376 @@
+-- From what the crates below say of a run to what the program says of it.
+use Rattle.std.proofs.Common.{◌≡◌, ℕ, zero, suc, ◌^◌, ◌<◌, ◌≤◌, ◌+◌, Bool, true, false, not, List, [], ◌∷◌, length, map, get_or, refl, sym, ap, ◌∙◌, subst, inl, inr, arith, Ok, Err}
+use Rattle.std.specs.Prelude.{Option, Some, None, is_some, unwrap_or, if◌then◌else◌, reverse, count_by}
+use mathlib.Core.Path.{fun_ext}
+use Rattle.std.proofs.lemmas.Bool.{cases_Bool, false≢true}
+use Rattle.group_plan.specs.Plans.{PlanView, Group, is_place, IsWithinLimits}
+use Rattle.group_plan.specs.Tables.{Table, ReadingsView, reading, IsReadingTable, is_present, PresenceView, presence_of}
+use Rattle.group_plan.proofs.TableLemmas.{entry_outside}
+use Rattle.group_plan.proofs.MeterNumbers.{group-lt, in_place}
+use Rattle.link_lanes.specs.Lanes.{Meaning, Slot}
+use Rattle.mask_stream.specs.KeyStreams.{streams}
+use Rattle.transcript_log.specs.declared.Line.{Line}
+use Rattle.transcript_log.specs.declared.Entry.{Entry}
+use Rattle.transcript_log.specs.Events.{event_of, events_of, lines_of}
+use Rattle.transcript_log.specs.Schedule.{Shape, shape_of_presence, survivors, Running, EndedThin, Published, Unpublished, is_ended, is_announced, is_published, is_opened, all_taken, lacking}
+use Rattle.transcript_log.specs.Tables.{Readings, Masks, plain_sum, IsOfPlan, IsBounded}
+use Rattle.transcript_log.specs.Transcript.{Contents, shape_of_readings, contents_of_tables, transcript}
+use Rattle.transcript_log.specs.Frames.{contents_of_lines}
+use Rattle.transcript_log.specs.Journal.{past_of}
+use Rattle.transcript_log.proofs.ListLemmas.{and_first, flat_map_same}
+use Rattle.totals_report.specs.Texts.{rows_text}
+use Rattle.totals_report.specs.declared.row.ReportRow.{ReportRow}
+use Rattle.totals_report.specs.Reports.{report_row, group_rows, report_rows, report_text, summary_text}
+use Rattle.std.specs.List.{range_with_len}
+use Rattle.transcript_log.proofs.JournalLemmas.{total_of_journal}
+use Rattle.run_rows.specs.Ticks.{Clock, clock_of, IsRunPlan, IsTickRun, posts_of}
+use Rattle.run_rows.specs.Report.{Row, row, row_of, fate_at, outcome_row}
+use Rattle.run_rows.specs.Summary.{Summary, all_rows, summary, summary_of_lines, summary_of_posts, is_sending, is_taking}
+use Rattle.run_rows.specs.Posts.{posts_by_lanes}
+use Rattle.run_rows.specs.Runs.{IsReported}
+use Rattle.run_rows.proofs.RunLemmas.{reported}
+use Rattle.run_rows.proofs.PostLemmas.{posts_are}
+use Rattle.pair_keys.specs.Keys.{Keys}
+use Rattle.link_lanes.specs.Fits.{hung_by}
+use Rattle.plan_files.specs.declared.fault.FileError.{FileError}
+use Rattle.plan_files.specs.declared.fault.FileCause.{FileCause}
+use Rattle.plan_files.specs.declared.fault.FileCause.TheVariants as cause
+use Rattle.plan_files.specs.Faults.{unless, ButMemory}
+use Rattle.link_lanes.specs.declared.row.LaneRow.{LaneRow}
+use Rattle.plan_files.specs.Rows.{file_rows}
+use Rattle.plan_files.specs.Readings.{ReadingsEnd, readings_of, readings_by, rows_fault}
+use Rattle.plan_files.specs.PlanFiles.{PlanFileView, plan_of}
+use Rattle.group_book.specs.Books.{BookView}
+use Rattle.transcript_text.specs.Transcripts.{TranscriptView, IsTranscript}
+use Rattle.transcript_text.specs.Spelling.{transcript_text}
+use Rattle.totals_report.specs.Books.{row_in as book_row, summary_in as book_summary}
+use Rattle.tick_run.specs.Finished.{IsFinished}
+use Rattle.commands.specs.Runs.{Values, plan_in, readings_in, shape_in, clock_in, AreValues, AreSound, IsRunOf, row_in, Texts, AreTexts, Makes, IsOnly}
+use Rattle.commands.specs.RunTexts.{AreTextsOf, TextsEnd}
+use Rattle.commands.specs.declared.texts.Refusal.TheVariants.{Readings as ReadingsRefusal}
+use Rattle.ideal_masks.proofs.Isolation.{isolated}
+use Rattle.ideal_masks.proofs.FiniteTables.{is_table, keeps_lines}
+use Rattle.commands.proofs.StreamLemmas.{streams_small}
+
+-- ---- who has a reading
+
+get_or-map : {A B : Type 0} (f : A → B) (xs : List A) (i : ℕ) (d : A) → get_or (map f xs) i (f d) ≡ f (get_or xs i d)
+get_or-map f [] i d = refl
+get_or-map f (x ∷ xs) zero d = refl
+get_or-map f (x ∷ xs) (suc i) d = get_or-map f xs i d
+
+-- a place is present where it has a reading
+present-reading : (readings : ReadingsView) (g r i : ℕ) → is_present (presence_of readings).table g r i ≡ is_some (reading readings.table g r i)
+present-reading readings g r i =
+    let t = readings.table in
+    ap (λ rows. get_or (get_or rows r []) i false) (get_or-map (map (map is_some)) t g [])
+    ∙ ap (λ row. get_or row i false) (get_or-map (map is_some) (get_or t g []) r [])
+    ∙ get_or-map is_some (get_or (get_or t g []) r []) i None
+
+-- the shape by the presence is that by the readings
+pub same_shape : (readings : ReadingsView) → shape_of_presence (presence_of readings) ≡ shape_of_readings readings.plan.groups (reading readings.table)
+same_shape readings =
+    let with : (ℕ → ℕ → ℕ → Bool) → Shape = λ present. record { groups = readings.plan.groups; present = present } in
+    ap with (fun_ext (λ g. fun_ext (λ r. fun_ext (λ i. present-reading readings g r i))))
+
+-- a plan within the limits and its readings can run
+pub can_run : (plan : PlanView) (t : Table (Option ℕ)) → IsWithinLimits plan → IsReadingTable plan t → IsRunPlan (shape_of_readings plan.groups (reading t)) (clock_of plan)
+can_run plan t limits fits = record {
+  places = λ g r i here. elim (cases_Bool (is_place plan g r i)) [
+    | inl inside ↦
+        let both = in_place plan g r i inside in
+        (group-lt plan.groups g i both.1, both.0, fits.of_members g r i here)
+    | inr outside ↦ absurd (false≢true (sym (ap is_some (entry_outside plan t fits.shape None g r i outside)) ∙ here))
+  ];
+  first_window = let h = limits.w1_from in omega arith;
+  open_window = let h = limits.w2_from in omega arith;
+}
+
+-- readings of a plan are within its limits
+is_small : (o : Option ℕ) → ((v : ℕ) → o ≡ Some v → v < 2 ^ 40) → unwrap_or o 0 < 2 ^ 40
+is_small None small = omega arith
+is_small (Some v) small = small v refl
+
+pub bounded : (plan : PlanView) (t : Table (Option ℕ)) → IsWithinLimits plan → IsReadingTable plan t → IsBounded plan.groups (reading t)
+bounded plan t limits fits = record {
+  meters = limits.meters;
+  readings = λ g r i. is_small (reading t g r i) (fits.small g r i);
+}
+
+-- ---- outcomes with frame totals are those with plain sums
+
+same_outcome : (ended announced published : Bool) (a lacks : List ℕ) (m n : ℕ) → (published ≡ true → m ≡ n)
+    → (if not ended then Running else if not announced then EndedThin else if published then Published a m else Unpublished lacks)
+    ≡ (if not ended then Running else if not announced then EndedThin else if published then Published a n else Unpublished lacks)
+same_outcome false announced published a lacks m n same = refl
+same_outcome true false published a lacks m n same = refl
+same_outcome true true true a lacks m n same = ap (Published a) (same refl)
+same_outcome true true false a lacks m n same = refl
+
+-- the lines are the transcript of the readings under these masks
+pub record IsTold (groups : List Group) (x : Readings) (m : Masks) (ls : List Line) : Type 0 where
+  pub of_plan : IsOfPlan groups x
+  pub bounded : IsBounded groups x
+  pub told : transcript groups x m (map event_of ls) ≡ ls
+
+-- the row of a round by the frame totals of the lines is its row by the plain sums
+pub same_row : (groups : List Group) (x : Readings) (m : Masks) (ls : List Line) → IsTold groups x m ls → (g r : ℕ)
+    → outcome_row (shape_of_readings groups x) (contents_of_lines ls).total g r (past_of ls) ≡ outcome_row (shape_of_readings groups x) (plain_sum x) g r (past_of ls)
+same_row groups x m ls is g r =
+    let s = shape_of_readings groups x in
+    let p = past_of ls in
+    ap (row_of (survivors s g r p))
+    (same_outcome (is_ended g r p) (is_announced s g r p) (is_published s g r p) (survivors s g r p) (lacking s g r p) _ _
+    (λ published. total_of_journal groups x m ls is.of_plan is.bounded is.told g r (and_first (is_opened s g r p) (is_ended g r p) (and_first _ (all_taken s g r p) published))))
+
+-- so is the summary
+pub same_summary : (groups : List Group) (x : Readings) (m : Masks) (ls : List Line) → IsTold groups x m ls → (c : Clock)
+    → summary_of_lines (shape_of_readings groups x) c (contents_of_lines ls).total ls ≡ summary_of_lines (shape_of_readings groups x) c (plain_sum x) ls
+same_summary groups x m ls is c =
+    let s = shape_of_readings groups x in
+    let by : (ℕ → ℕ → Row) → Summary = λ row_at. summary s c (all_rows s c row_at) (count_by is_sending ls) (count_by is_taking ls) in
+    ap by (fun_ext (λ g. fun_ext (λ r. same_row groups x m ls is g r)))
+
+-- ---- a run of the readings
+
+events-lines : (entries : List Entry) → map event_of (lines_of entries) ≡ events_of entries
+events-lines [] = refl
+events-lines (e ∷ entries) = ap (λ es. event_of e.line ∷ es) (events-lines entries)
+
+-- ---- the text of a report depends on the rows of the plan's rounds alone
+
+map_same : {X : Type 0} (n a : ℕ) (f h : ℕ → X) → ((i : ℕ) → a ≤ i → i < a + n → f i ≡ h i) → map f (range_with_len a n) ≡ map h (range_with_len a n)
+map_same zero a f h same = refl
+map_same (suc n) a f h same =
+    let here : f a ≡ h a = same a (omega arith) (omega arith) in
+    let later : map f (range_with_len (a + 1) n) ≡ map h (range_with_len (a + 1) n) = map_same n (a + 1) f h (λ i from to. same i (omega arith) (omega arith)) in
+    ap (λ x. x ∷ map f (range_with_len (a + 1) n)) here ∙ ap (λ xs. h a ∷ xs) later
+
+-- rounds with the same rows make one report
+pub same_report : (plan : PlanView) (f h : ℕ → ℕ → Row) → ((g r : ℕ) → g < length plan.groups → r < plan.rounds → f g r ≡ h g r) → report_rows plan f ≡ report_rows plan h
+unfolding report_rows
+same_report plan f h same =
+    flat_map_same (length plan.groups) 0 (group_rows plan f) (group_rows plan h)
+    (λ g from to. map_same plan.rounds 0 _ _ (λ r from' to'. ap (report_row plan g r) (same g r (omega arith) (omega arith))))
+
+-- ---- a finished run
+
+told : (readings : ReadingsView) (m : Masks) (entries : List Entry) → IsWithinLimits readings.plan → IsReadingTable readings.plan readings.table
+    → lines_of entries ≡ transcript readings.plan.groups (reading readings.table) m (events_of entries)
+    → IsTold readings.plan.groups (reading readings.table) m (lines_of entries)
+told readings m entries limits fits lines = record {
+  of_plan = fits.of_members;
+  bounded = bounded readings.plan readings.table limits fits;
+  told = ap (transcript readings.plan.groups (reading readings.table) m) (events-lines entries) ∙ sym lines;
+}
+
+-- the tick run, its posts, its rows and its summary, all by the readings
+record IsGood (readings : ReadingsView) (m : Masks) (slots : List Slot) (entries : List Entry) : Type 0 where
+  ticks : IsTickRun (shape_of_readings readings.plan.groups (reading readings.table)) (clock_of readings.plan) slots entries
+  posts : posts_of entries ≡ posts_by_lanes (shape_of_readings readings.plan.groups (reading readings.table)) (clock_of readings.plan) slots
+  reports : IsReported (shape_of_readings readings.plan.groups (reading readings.table)) (clock_of readings.plan) slots (contents_of_tables readings.plan.groups (reading readings.table) m) entries
+
+good : (readings : ReadingsView) (keys : Keys) (slots : List Slot) (book : BookView) (t : TranscriptView) → IsFinished readings keys slots book t → IsGood readings (streams keys) slots t.entries
+good readings keys slots book t finished =
+    let s : Shape = shape_of_readings readings.plan.groups (reading readings.table) in
+    let c : Clock = clock_of readings.plan in
+    let words : Contents = contents_of_tables readings.plan.groups (reading readings.table) (streams keys) in
+    let runs : IsRunPlan s c = can_run readings.plan readings.table finished.limits finished.table in
+    let P : Shape → Type 0 = λ shape. IsTickRun shape c slots t.entries in
+    let ticks : IsTickRun s c slots t.entries = subst P (same_shape readings) finished.ticks in
+    record {
+      ticks = ticks;
+      posts = posts_are s c slots t.entries runs finished.delays ticks;
+      reports = reported s c slots words t.entries runs (record { run = ticks; delays = finished.delays; lines = finished.lines });
+    }
+
+-- ---- from the files to the texts
+
+-- the readings of a file are of the plan that they are read for
+plan_of_value : (o : Option FileError) (plan : PlanView) (rows : List (List (List ℕ))) (readings : ReadingsView) → unless o (readings_by plan rows) ≡ Ok readings → readings.plan ≡ plan
+plan_of_value None plan rows readings is = let e : readings_by plan rows ≡ readings = cc in sym (ap (λ r. r.plan) e)
+plan_of_value (Some fault) plan rows readings is = absurd cc
+
+pub plan_of_readings : (plan : PlanView) (bytes : List ℕ) (readings : ReadingsView) → readings_of plan bytes ≡ Ok readings → readings.plan ≡ plan
+unfolding readings_of
+plan_of_readings plan bytes readings is = plan_of_value (rows_fault plan 0 (file_rows bytes)) plan (file_rows bytes) readings is
+
+-- the values with this plan in place of the file's
+with_plan : PlanFileView → List Slot → ReadingsView → PlanView → Values
+with_plan file slots readings plan = record { file = record file { plan = plan }; slots = slots; readings = readings }
+
+-- the run of a finished run
+run_of : (readings : ReadingsView) (file : PlanFileView) (slots : List Slot) (book : BookView) (t : TranscriptView)
+    → IsFinished readings file.keys slots book t → IsGood readings (streams file.keys) slots t.entries → IsRunOf (with_plan file slots readings readings.plan) t.entries
+unfolding with_plan
+run_of readings file slots book t finished is =
+    let s : Shape = shape_of_readings readings.plan.groups (reading readings.table) in
+    let c : Clock = clock_of readings.plan in
+    record {
+      ticks = is.ticks;
+      delays = finished.delays;
+      lines = finished.lines;
+      words = is_table readings.plan (streams file.keys) (streams_small file.keys);
+      finite = finished.lines ∙ sym (keeps_lines readings.plan readings.table (streams file.keys) (events_of t.entries) finished.table);
+      fates = is.posts;
+      rows = λ g r g_in r_in.
+          is.reports.rows g r g_in r_in ∙ sym (ap (λ posts. row s c (fate_at posts) (plain_sum (reading readings.table)) g r) is.posts);
+      isolated = isolated readings.plan readings.table (events_of t.entries) finished.table;
+    }
+
+-- the rows of a book, and its summary
+told_rows : PresenceView → List Line → List ReportRow
+told_rows p j = report_rows p.plan (λ g r. outcome_row (shape_of_presence p) (contents_of_lines j).total g r (past_of j))
+
+told_summary : PresenceView → List Line → List ℕ
+told_summary p j = summary_text (summary_of_lines (shape_of_presence p) (clock_of p.plan) (contents_of_lines j).total j)
+
+report_is : (readings : ReadingsView) (file : PlanFileView) (slots : List Slot) (book : BookView) (t : TranscriptView)
+    → IsTold readings.plan.groups (reading readings.table) (streams file.keys) (lines_of t.entries)
+    → IsFinished readings file.keys slots book t → IsRunOf (with_plan file slots readings readings.plan) t.entries
+    → told_rows book.presence book.journal ≡ report_rows readings.plan (row_in (with_plan file slots readings readings.plan) t.entries)
+unfolding told_rows with_plan
+report_is readings file slots book t is finished run =
+    let x : Readings = reading readings.table in
+    let s : Shape = shape_of_readings readings.plan.groups x in
+    let ls : List Line = lines_of t.entries in
+    let by_shape : Shape → List ReportRow = λ shape. report_rows readings.plan (λ g r. outcome_row shape (contents_of_lines ls).total g r (past_of ls)) in
+    ap (λ p. told_rows p book.journal) finished.presence
+    ∙ ap (told_rows (presence_of readings)) finished.journal
+    ∙ ap by_shape (same_shape readings)
+    ∙ same_report readings.plan _ _ (λ g r g_in r_in.
+    same_row readings.plan.groups x (streams file.keys) ls is g r
+    ∙ ap (λ es. outcome_row s (plain_sum x) g r (reverse es)) (events-lines t.entries)
+    ∙ run.rows g r g_in r_in)
+
+summary_is : (readings : ReadingsView) (file : PlanFileView) (slots : List Slot) (book : BookView) (t : TranscriptView)
+    → IsTold readings.plan.groups (reading readings.table) (streams file.keys) (lines_of t.entries)
+    → IsFinished readings file.keys slots book t → IsGood readings (streams file.keys) slots t.entries
+    → told_summary book.presence book.journal
+    ≡ summary_text (summary_of_posts (shape_of_readings readings.plan.groups (reading readings.table)) (clock_of readings.plan) (plain_sum (reading readings.table)) (posts_of t.entries))
+unfolding told_summary
+summary_is readings file slots book t is finished well =
+    let x : Readings = reading readings.table in
+    let s : Shape = shape_of_readings readings.plan.groups x in
+    let c : Clock = clock_of readings.plan in
+    let ls : List Line = lines_of t.entries in
+    let by_shape : Shape → List ℕ = λ shape. summary_text (summary_of_lines shape c (contents_of_lines ls).total ls) in
+    ap (λ p. told_summary p book.journal) finished.presence
+    ∙ ap (told_summary (presence_of readings)) finished.journal
+    ∙ ap by_shape (same_shape readings)
+    ∙ ap summary_text (same_summary readings.plan.groups x (streams file.keys) ls is c
+    ∙ well.reports.summary
+    ∙ sym (ap (summary_of_posts s c (plain_sum x)) well.posts))
+
+-- the texts of a finished run of the values of the files are those that the files make
+made : (file : PlanFileView) (slots : List Slot) (readings : ReadingsView) (book : BookView) (t : TranscriptView) (texts : Texts)
+    → IsFinished readings file.keys slots book t → AreTextsOf book t texts
+    → AreSound (with_plan file slots readings readings.plan) × IsRunOf (with_plan file slots readings readings.plan) t.entries × AreTexts (with_plan file slots readings readings.plan) t.entries texts
+unfolding with_plan told_rows told_summary book_row book_summary
+made file slots readings book t texts finished written =
+    let well : IsGood readings (streams file.keys) slots t.entries = good readings file.keys slots book t finished in
+    let is = told readings (streams file.keys) t.entries finished.limits finished.table finished.lines in
+    let run = run_of readings file slots book t finished well in
+    let with_entries : PlanView → TranscriptView = λ plan. record { plan = plan; entries = t.entries } in (
+      record { limits = finished.limits; table = finished.table },
+      run,
+      record {
+        sound = subst (λ plan. IsTranscript (with_entries plan)) finished.plan written.sound;
+        transcript = written.transcript ∙ ap (λ plan. transcript_text (with_entries plan)) finished.plan;
+        read_back = written.read_back ∙ ap (λ plan. Ok (with_entries plan)) finished.plan;
+        report = written.report ∙ ap rows_text (report_is readings file slots book t is finished run);
+        rows_back = written.rows_back ∙ ap Ok (report_is readings file slots book t is finished run);
+        summary = written.summary ∙ summary_is readings file slots book t is finished well;
+      },
+    )
+
+pub makes : (cupboard : List Meaning) (plan_bytes readings_bytes : List ℕ) (file : PlanFileView) (lanes : List LaneRow) (slots : List Slot) (readings : ReadingsView) (book : BookView) (t : TranscriptView) (texts : Texts)
+    → plan_of plan_bytes ≡ Ok file → lanes ≡ file.lanes → hung_by cupboard lanes ≡ Ok slots → readings_of file.plan readings_bytes ≡ Ok readings
+    → IsFinished readings file.keys slots book t → AreTextsOf book t texts
+    → Makes cupboard plan_bytes readings_bytes texts
+unfolding with_plan
+makes cupboard plan_bytes readings_bytes file lanes slots readings book t texts plan_is rows hang readings_are finished written =
+    let P : PlanView → Type 0 = λ plan. AreSound (with_plan file slots readings plan) × IsRunOf (with_plan file slots readings plan) t.entries × AreTexts (with_plan file slots readings plan) t.entries texts in
+    let both : P file.plan = subst P (plan_of_readings file.plan readings_bytes readings readings_are) (made file slots readings book t texts finished written) in
+    record {
+      values = with_plan file slots readings file.plan;
+      entries = t.entries;
+      of_bytes = record { plan = plan_is; lanes = ap (hung_by cupboard) (sym rows) ∙ hang; readings = readings_are };
+      sound = both.0;
+      run = both.1;
+      told = both.2;
+    }
+
+-- ---- refusals
+
+pub but_memory : (what : FileCause) (claim : Type 0) → (what ≡ cause.Memory → ⊥) → ButMemory what claim → claim
+but_memory cause.Memory claim other is = absurd (other refl)
+but_memory cause.Row claim other is = is
+but_memory cause.Fields claim other is = is
+but_memory cause.Number claim other is = is
+but_memory cause.Name claim other is = is
+but_memory cause.Hex claim other is = is
+but_memory (cause.Plan e) claim other is = is
+but_memory (cause.Key e) claim other is = is
+but_memory cause.LaneSpan claim other is = is
+but_memory cause.Range claim other is = is
+but_memory cause.Short claim other is = is
+but_memory cause.Extra claim other is = is
+but_memory (cause.Member e) claim other is = is
+but_memory cause.NotMember claim other is = is
+
+-- the readings file has a fault, where the plan file has none and its lanes hang
+pub readings_refused : (cupboard : List Meaning) (plan_bytes readings_bytes : List ℕ) (file : PlanFileView) (lanes : List LaneRow) (slots : List Slot) (fault : FileError)
+    → plan_of plan_bytes ≡ Ok file → lanes ≡ file.lanes → hung_by cupboard lanes ≡ Ok slots → ReadingsEnd file.plan readings_bytes (Err fault)
+    → (fault.cause ≡ cause.Memory → ⊥) → TextsEnd cupboard plan_bytes readings_bytes (Err (ReadingsRefusal fault))
+readings_refused cupboard plan_bytes readings_bytes file lanes slots fault plan_is rows hang ends other =
+    (file, slots, plan_is, ap (hung_by cupboard) (sym rows) ∙ hang, but_memory fault.cause _ other ends)
+
+-- ---- what the files and the lanes alone decide
+
+same_values : (cupboard : List Meaning) (p r : List ℕ) (v w : Values) → AreValues cupboard p r v → AreValues cupboard p r w → v ≡ w
+same_values cupboard p r v w first second =
+    let file : v.file ≡ w.file = (let one = first.plan in let two = second.plan in cc) in
+    let slots : v.slots ≡ w.slots =
+    (let one = first.lanes in
+    let two : hung_by cupboard v.file.lanes ≡ Ok w.slots = ap (λ f. hung_by cupboard f.lanes) file ∙ second.lanes in
+    cc)
+    in
+    let readings : v.readings ≡ w.readings =
+    (let one = first.readings in
+    let two : readings_of v.file.plan r ≡ Ok w.readings = ap (λ f. readings_of f.plan r) file ∙ second.readings in
+    cc)
+    in
+    ap (λ f. record { file = f; slots = v.slots; readings = v.readings }) file
+    ∙ ap (λ s. record { file = w.file; slots = s; readings = v.readings }) slots
+    ∙ ap (λ x. record { file = w.file; slots = w.slots; readings = x }) readings
+
+-- the report and the summary by the posts that the lanes give
+report_of : Values → List ℕ
+report_of v =
+    report_text (plan_in v) (λ g r. row (shape_in v) (clock_in v) (fate_at (posts_by_lanes (shape_in v) (clock_in v) v.slots)) (plain_sum (readings_in v)) g r)
+
+summary_of : Values → List ℕ
+summary_of v = summary_text (summary_of_posts (shape_in v) (clock_in v) (plain_sum (readings_in v)) (posts_by_lanes (shape_in v) (clock_in v) v.slots))
+
+report_decided : (v : Values) (entries : List Entry) (texts : Texts) → IsRunOf v entries → AreTexts v entries texts → texts.report ≡ report_of v
+unfolding report_of
+report_decided v entries texts run told =
+    told.report ∙ ap (λ posts. report_text (plan_in v) (λ g r. row (shape_in v) (clock_in v) (fate_at posts) (plain_sum (readings_in v)) g r)) run.fates
+
+summary_decided : (v : Values) (entries : List Entry) (texts : Texts) → IsRunOf v entries → AreTexts v entries texts → texts.summary ≡ summary_of v
+unfolding summary_of
+summary_decided v entries texts run told =
+    told.summary ∙ ap (λ posts. summary_text (summary_of_posts (shape_in v) (clock_in v) (plain_sum (readings_in v)) posts)) run.fates
+
+pub is_only : (cupboard : List Meaning) (p r : List ℕ) (texts : Texts) → Makes cupboard p r texts → IsOnly cupboard p r texts
+is_only cupboard p r texts made = record {
+  report = λ others theirs.
+      report_decided theirs.values theirs.entries others theirs.run theirs.told
+      ∙ ap report_of (same_values cupboard p r theirs.values made.values theirs.of_bytes made.of_bytes)
+      ∙ sym (report_decided made.values made.entries texts made.run made.told);
+  summary = λ others theirs.
+      summary_decided theirs.values theirs.entries others theirs.run theirs.told
+      ∙ ap summary_of (same_values cupboard p r theirs.values made.values theirs.of_bytes made.of_bytes)
+      ∙ sym (summary_decided made.values made.entries texts made.run made.told);
+}

@@ -1,0 +1,75 @@
+-- What a run stored: the audit finds no fault in it, and it is the record of the readings.
+use Rattle.std.proofs.Common.{◌≡◌, ◌^◌, ◌<◌, ℕ, List, sym, ap, ◌∙◌, subst, Result, Ok}
+use Rattle.std.specs.Prelude.{Option}
+use Rattle.link_lanes.specs.Lanes.{Meaning}
+use Rattle.mask_stream.specs.KeyStreams.{streams}
+use Rattle.transcript_text.specs.declared.version.Version.TheVariants.{Two}
+use Rattle.transcript_text.specs.Transcripts.{TranscriptView}
+use Rattle.transcript_text.specs.Heads.{read_of}
+use Rattle.totals_report.specs.declared.row.ReportRow.{ReportRow}
+use Rattle.totals_report.specs.Reading.{rows_of_text}
+use Rattle.totals_report.specs.Reports.{report_rows}
+use Rattle.audit_check.specs.declared.answers.AuditCounts.{AuditCounts}
+use Rattle.audit_check.specs.declared.answers.AuditError.{AuditError}
+use Rattle.audit_check.specs.Audits.{AuditEnds}
+use Rattle.audit_check.specs.Statements.{IsHonest, FindsNone}
+use Rattle.audit_check.proofs.HonestLemmas.{honest_are_accepted}
+use Rattle.commands.specs.Runs.{Values, plan_in, readings_in, row_in, transcript_in, Texts, Makes}
+use Rattle.commands.specs.Audits.{AreAuditTexts, Audited, RunsAreConfirmed}
+use Rattle.transcript_log.specs.Events.{events_of}
+use Rattle.transcript_log.specs.Transcript.{transcript}
+use Rattle.commands.specs.Twins.{RunsAreRecorded}
+use Rattle.commands.proofs.RunLemmas.{bounded, plan_of_readings}
+
+same_ok : {A E : Type 0} (r : Result A E) (a b : A) → r ≡ Ok a → r ≡ Ok b → a ≡ b
+same_ok r a b first second = cc
+
+-- a run is honest
+honest : (cupboard : List Meaning) (p r : List ℕ) (texts : Texts) (made : Makes cupboard p r texts)
+    → IsHonest (transcript_in made.values made.entries) (readings_in made.values) (streams made.values.file.keys) (row_in made.values made.entries)
+honest cupboard p r texts made = record {
+  is_one = made.told.sound;
+  of_plan = made.sound.table.of_members;
+  small = (bounded (plan_in made.values) made.values.readings.table made.sound.limits made.sound.table).readings;
+  lines = made.run.lines;
+  rows = made.run.rows;
+}
+
+-- so no audit of its texts finds a fault
+no_fault : (cupboard : List Meaning) (p r : List ℕ) (texts : Texts) (made : Makes cupboard p r texts) (result : Result AuditCounts AuditError)
+    → Audited texts.transcript texts.report result → FindsNone result
+no_fault cupboard p r texts made result (t, rows, read, ends) =
+    let mine : List ReportRow = report_rows (plan_in made.values) (row_in made.values made.entries) in
+    let same_t : t ≡ transcript_in made.values made.entries = same_ok (read_of Two texts.transcript) t (transcript_in made.values made.entries) read.transcript made.told.read_back in
+    let same_rows : rows ≡ mine = same_ok (rows_of_text texts.report) rows mine read.report made.told.rows_back in
+    let by_t : AuditEnds (transcript_in made.values made.entries) rows result = subst (λ t. AuditEnds t rows result) same_t ends in
+    let by_rows : AuditEnds (transcript_in made.values made.entries) mine result = subst (λ rows. AuditEnds (transcript_in made.values made.entries) rows result) same_rows by_t in
+    honest_are_accepted (transcript_in made.values made.entries) (readings_in made.values) (streams made.values.file.keys) (row_in made.values made.entries) result
+    (honest cupboard p r texts made) by_rows
+
+pub runs_are_confirmed : RunsAreConfirmed
+runs_are_confirmed cupboard p r texts made = record {
+  transcript = transcript_in made.values made.entries;
+  rows = report_rows (plan_in made.values) (row_in made.values made.entries);
+  read = record { sound = made.told.sound; transcript = made.told.read_back; report = made.told.rows_back };
+  none = no_fault cupboard p r texts made;
+}
+
+-- the transcript of a run is the record of its readings
+pub runs_are_recorded : RunsAreRecorded
+runs_are_recorded cupboard p r texts made =
+    let plan : made.values.readings.plan ≡ plan_in made.values =
+    plan_of_readings (plan_in made.values) r made.values.readings made.of_bytes.readings
+    in (
+      made.values.file,
+      made.values.readings,
+      transcript_in made.values made.entries,
+      made.of_bytes.plan,
+      made.of_bytes.readings,
+      record {
+        text_of = record { sound = made.told.sound; text_is = made.told.transcript; read = made.told.read_back };
+        plan_is = sym plan;
+        lines_are = made.run.lines
+            ∙ ap (λ plan. transcript plan.groups (readings_in made.values) (streams made.values.file.keys) (events_of made.entries)) (sym plan);
+      },
+    )

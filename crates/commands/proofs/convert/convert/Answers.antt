@@ -1,0 +1,10 @@
+use Rattle.std.proofs.Common.{ap, ◌∙◌, length}
+use Rattle.commands.proofs.CommandEndings.{convert_ends}
+use Rattle.commands.proofs.convert.convert.Goals as goal
+
+pub returns-clause-ends : goal.returns-clause-ends
+returns-clause-ends g c =
+    convert_ends _ _ _ _ _ _ _ _ _ _ _ _ c.in-Ok.ensures.ends.0 c.in-Ok.ensures.ends.1 c.deref.ensures.value
+    (record { transcript = c.in-Ok-read_old.ensures.sound; head = c.in-Ok-read_old.ensures.plan }) c.in-Ok-read_old.ensures.found
+    (c.as_slice.ensures.value ∙ c.in-Ok-write.ensures.text) (c.as_bytes.ensures.value ∙ c.in-Ok-converted_line.ensures) (ap length c.entries.ensures.entries)
+    c.put_one.ensures.ends

@@ -1,0 +1,17 @@
+use Rattle.commands.proofs.AcceptedLemmas.{accepted_is_done}
+use Rattle.commands.proofs.ComplaintLemmas.{has_complaint}
+use Rattle.commands.proofs.StoredLemmas.{runs_are_confirmed, runs_are_recorded}
+use Rattle.commands.proofs.program.meteragg.Goals as goal
+
+pub returns-clause-accepted : goal.returns-clause-accepted
+returns-clause-accepted g c =
+    accepted_is_done _ _ _ _ c.perform-outcome.result _ _ _ _ c.perform-outcome.ensures.ends c.perform-outcome.ensures.cause c.tell.ensures.later c.status.ensures
+
+pub returns-clause-confirmed : goal.returns-clause-confirmed
+returns-clause-confirmed g c = runs_are_confirmed
+
+pub returns-clause-recorded : goal.returns-clause-recorded
+returns-clause-recorded g c = runs_are_recorded
+
+pub tell-requires : goal.tell-requires
+tell-requires g c = has_complaint _ _ _ _ c.perform-outcome.result c.perform-outcome.ensures.ends

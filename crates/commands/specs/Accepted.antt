@@ -1,0 +1,92 @@
+-- What is enough for a command to be done.
+use Rattle.std.specs.Prelude.{◌≡◌, ◌≤◌, ◌⊎◌, ℕ, List, length, reverse, Option, Some, Ok}
+use Rattle.desk_outside.specs.Desk.{View, Rose}
+use Rattle.link_lanes.specs.Lanes.{Meaning, Slot}
+use Rattle.link_lanes.specs.Fits.{hung_by}
+use Rattle.transcript_log.specs.Frames.{IsPossible}
+use Rattle.totals_report.specs.declared.row.ReportRow.{ReportRow}
+use Rattle.audit_check.specs.Audits.{lines_in, rows_by_frames}
+use Rattle.transcript_text.specs.declared.version.Version.TheVariants.{One}
+use Rattle.transcript_text.specs.Transcripts.{TranscriptView}
+use Rattle.transcript_text.specs.ReadBack.{HasText}
+use Rattle.transcript_text.specs.Spelling.{text_of}
+use Rattle.group_plan.specs.Tables.{reading}
+use Rattle.mask_stream.specs.KeyStreams.{streams}
+use Rattle.transcript_log.specs.Events.{events_of}
+use Rattle.ideal_masks.specs.Offsets.{Agree}
+use Rattle.twin_worlds.specs.Twins.{IsRecord}
+use Rattle.commands.specs.Words.{RunNames, TwinNames, Size, Command, Run, Audit, Twin, Make, Load, Convert, Help, Version}
+use Rattle.commands.specs.Calls.{most_bytes}
+use Rattle.commands.specs.Ends.{made_file_of}
+use Rattle.commands.specs.Audits.{AreAuditTexts}
+use Rattle.commands.specs.Twins.{TwinBytes, TwinValues, AreTwinValues}
+use Rattle.commands.specs.Runs.{Values, AreValues}
+
+-- the desk tells that the name holds these bytes, and they are not too many
+pub record HoldsFile (v : View) (name bytes : List ℕ) : Type 0 where
+  pub held : v.held name ≡ Some (Some bytes)
+  pub short : length bytes ≤ most_bytes
+
+-- the two files of `run` have values, for which the cupboard has the lanes
+pub record RunAccepts (cupboard : List Meaning) (names : RunNames) (v : View) : Type 0 where
+  pub plan_bytes : List ℕ
+  pub readings_bytes : List ℕ
+  pub plan : HoldsFile v names.plan plan_bytes
+  pub readings : HoldsFile v names.readings readings_bytes
+  pub values : Values
+  pub of_bytes : AreValues cupboard plan_bytes readings_bytes values
+
+-- both files of `audit` have texts that are read, the lines of the transcript are possible, and the rows of the report are those that the frames give
+pub record AuditAccepts (transcript report : List ℕ) (v : View) : Type 0 where
+  pub transcript_bytes : List ℕ
+  pub report_bytes : List ℕ
+  pub transcript_file : HoldsFile v transcript transcript_bytes
+  pub report_file : HoldsFile v report report_bytes
+  pub lines : TranscriptView
+  pub rows : List ReportRow
+  pub texts : AreAuditTexts transcript_bytes report_bytes lines rows
+  pub possible : IsPossible lines.plan.groups (lines_in lines)
+  pub given : rows ≡ rows_by_frames lines
+
+-- the three files of `twin` have values, TRANSCRIPT holds the record of the first table under the stream words of the keys, and the second table agrees
+-- with the first in every opened total
+pub record TwinAccepts (names : TwinNames) (v : View) : Type 0 where
+  pub bytes : TwinBytes
+  pub plan : HoldsFile v names.plan bytes.plan
+  pub readings : HoldsFile v names.readings bytes.readings
+  pub other : HoldsFile v names.other bytes.other
+  pub transcript : HoldsFile v names.transcript bytes.transcript
+  pub values : TwinValues
+  pub of_bytes : AreTwinValues bytes values
+  pub lines : TranscriptView
+  pub recorded : IsRecord (streams values.file.keys) values.first bytes.transcript lines
+  pub agree : Agree values.first.plan.groups (reading values.first.table) (reading values.second.table) (reverse (events_of lines.entries))
+
+-- the cupboard has the lane of the files of a size
+pub record LoadAccepts (cupboard : List Meaning) (size : Size) : Type 0 where
+  pub slots : List Slot
+  pub lanes : hung_by cupboard (made_file_of size).lanes ≡ Ok slots
+
+-- OLD holds the text of version 1 of a transcript
+pub record ConvertAccepts (old : List ℕ) (v : View) : Type 0 where
+  pub bytes : List ℕ
+  pub file : HoldsFile v old bytes
+  pub transcript : TranscriptView
+  pub has_text : HasText One transcript
+  pub text : bytes ≡ text_of One transcript
+
+-- the files that a command fetches are accepted
+abbrev pub Accepts : List Meaning → Command → View → Type 0
+Accepts cupboard (Run names workers) v = RunAccepts cupboard names v
+Accepts cupboard (Audit transcript report) v = AuditAccepts transcript report v
+Accepts cupboard (Twin names) v = TwinAccepts names v
+Accepts cupboard (Make size plan readings) v = Unit {0}
+Accepts cupboard (Load size workers transcript) v = LoadAccepts cupboard size
+Accepts cupboard (Convert old transcript) v = ConvertAccepts old v
+Accepts cupboard Help v = Unit {0}
+Accepts cupboard Version v = Unit {0}
+
+-- a command whose files are accepted is done, or finds no memory, unless the desk's count of faults rose
+abbrev pub AcceptedIsDone : List Meaning → Option Command → View → (before now status : ℕ) → Type 0
+AcceptedIsDone cupboard asked v before now status =
+    (command : Command) → asked ≡ Some command → Accepts cupboard command v → ¬ Rose before now → (status ≡ 0) ⊎ (status ≡ 1)

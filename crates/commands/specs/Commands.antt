@@ -1,0 +1,45 @@
+-- The commands that the program keeps, with the names as it borrows them.
+use Rattle.std.specs.Prelude.{◌≡◌, ◌≤◌, ◌<◌, ◌^◌, ℕ, true, List, Option, Some, None}
+use Rattle.std.specs.Option.{option_map}
+use Rattle.std.specs.Borrow.{Bor}
+use Rattle.load_maker.specs.Sizes.{is_within}
+use Rattle.commands.specs.declared.words.Size.{Size as KeptSize}
+use Rattle.commands.specs.declared.words.TwinFiles.{TwinFiles}
+use Rattle.commands.specs.declared.words.Command.{Command as Kept}
+use Rattle.commands.specs.declared.words.Command.TheVariants as kept
+use Rattle.commands.specs.Words.{TwinNames, Size, Command, Run, Audit, Twin, Make, Load, Convert, Help, Version, names_of}
+
+-- the names of the files of `twin`
+abbrev pub twin_names_of : TwinFiles → TwinNames
+twin_names_of files =
+    record { plan = files.plan.now; readings = files.readings.now; other = files.other.now; transcript = files.transcript.now; masks = files.masks.now }
+
+-- the size that is meant
+abbrev pub size_in : KeptSize → Size
+size_in size = record { seed = size.seed; groups = size.groups; meters = size.meters; rounds = size.rounds }
+
+-- the name that is meant, where there is one
+abbrev pub name_in : Option (Bor (List ℕ)) → Option (List ℕ)
+name_in name = option_map (λ n. n.now) name
+
+-- the command that is meant
+abbrev pub asked : Kept → Command
+asked (kept.Run words) = Run (names_of words.files) words.workers
+asked (kept.Audit files) = Audit files.transcript.now files.report.now
+asked (kept.Twin files) = Twin (twin_names_of files)
+asked (kept.Make words) = Make (size_in words.size) words.plan.now words.readings.now
+asked (kept.Load words) = Load (size_in words.size) words.workers (name_in words.transcript)
+asked (kept.Convert files) = Convert files.old.now files.transcript.now
+asked kept.Help = Help
+asked kept.Version = Version
+
+-- the numbers of a size are within the limits of plans
+abbrev pub IsSize : KeptSize → Type 0
+IsSize size = is_within size.groups size.meters size.rounds ≡ true
+
+-- the command's numbers are within their limits
+abbrev pub IsWithin : Kept → Type 0
+IsWithin (kept.Run words) = (1 ≤ words.workers) × (words.workers ≤ 16)
+IsWithin (kept.Make words) = IsSize words.size
+IsWithin (kept.Load words) = IsSize words.size × (1 ≤ words.workers) × (words.workers ≤ 16)
+IsWithin _ = Unit {0}

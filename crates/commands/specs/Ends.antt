@@ -1,0 +1,192 @@
+-- What a command does to the desk, by its outcome.
+use Rattle.std.specs.Prelude.{◌≡◌, ◌⊎◌, ◌*◌, ℕ, List, [], ◌∷◌, ◌++◌, length, Option, Some, None, Ok, Err, codes, decimal, ⊤}
+use Rattle.desk_outside.specs.Desk.{View}
+use Rattle.link_lanes.specs.declared.cupboard.RackError.{RackError}
+use Rattle.link_lanes.specs.Lanes.{Meaning, Slot}
+use Rattle.link_lanes.specs.Fits.{hung_by}
+use Rattle.plan_files.specs.declared.fault.FileError.{FileError}
+use Rattle.plan_files.specs.PlanFiles.{PlanFileView, plan_of}
+use Rattle.plan_files.specs.Readings.{readings_of}
+use Rattle.transcript_text.specs.declared.fault.ReadError.{ReadError}
+use Rattle.transcript_text.specs.declared.version.Version.TheVariants.{One}
+use Rattle.transcript_text.specs.Transcripts.{TranscriptView}
+use Rattle.transcript_text.specs.ReadBack.{HasText}
+use Rattle.transcript_text.specs.Spelling.{text_of, transcript_text, ended}
+use Rattle.transcript_text.specs.Heads.{read_of}
+use Rattle.commands.specs.declared.usage.TheConstants.{USAGE, VERSION}
+use Rattle.commands.specs.declared.outcome.Outcome.{Outcome}
+use Rattle.commands.specs.declared.outcome.Outcome.TheVariants.{NoMemory, BadWords, BadPlan, BadReadings, BadTranscript, BadLane}
+use Rattle.commands.specs.Words.{RunNames, TwinNames, Size, Command, Run, Audit, Twin, Make, Load, Convert, Help, Version}
+use Rattle.commands.specs.Calls.{IsRead, after_fetches, Unread, Putting, putting, PutsEnd}
+use Rattle.plan_files.specs.Spelling.{plan_text, readings_text}
+use Rattle.load_maker.specs.Made.{made_file, made_readings}
+use Rattle.audit_check.specs.declared.answers.AuditCounts.{AuditCounts}
+use Rattle.commands.specs.Audits.{Audited, AuditRefuses}
+use Rattle.twin_worlds.specs.declared.rows.MovedRow.{MovedRow}
+use Rattle.twin_worlds.specs.MasksText.{masks_text}
+use Rattle.commands.specs.Twins.{TwinBytes, AreReadBy, Compared, TwinRefuses}
+use Rattle.commands.specs.Runs.{Texts, Makes, IsOnly}
+
+-- ---- `run PLAN READINGS REPORT TRANSCRIPT [WORKERS]`
+
+-- the files that it fetches, in order
+abbrev pub fetched_by : RunNames → List (List ℕ)
+fetched_by names = names.plan ∷ names.readings ∷ []
+
+-- the files that it puts, in order
+abbrev pub put_by : RunNames → Texts → List Putting
+put_by names texts = putting names.transcript texts.transcript ∷ putting names.report texts.report ∷ []
+
+-- the plan file has a value, and a lane row of it is refused so
+abbrev pub RefusesLane : List Meaning → List ℕ → RackError → Type 0
+RefusesLane cupboard plan_bytes fault = (file : PlanFileView) × (plan_of plan_bytes ≡ Ok file) × (hung_by cupboard file.lanes ≡ Err fault)
+
+-- the plan file has a value and its lane rows get their lanes, and the readings file has this fault
+abbrev pub RefusesReadings : List Meaning → List ℕ → List ℕ → FileError → Type 0
+RefusesReadings cupboard plan_bytes readings_bytes fault =
+    (file : PlanFileView) × (slots : List Slot) × (plan_of plan_bytes ≡ Ok file) × (hung_by cupboard file.lanes ≡ Ok slots)
+    × (readings_of file.plan readings_bytes ≡ Err fault)
+
+-- the files make these texts, which are put and said up to this end
+abbrev pub TextsPut : List Meaning → RunNames → (plan_bytes readings_bytes : List ℕ) → View → View → Outcome → Type 0
+TextsPut cupboard names plan_bytes readings_bytes v w outcome =
+    (texts : Texts) × Makes cupboard plan_bytes readings_bytes texts × IsOnly cupboard plan_bytes readings_bytes texts × PutsEnd (put_by names texts) texts.summary v w outcome
+
+-- what they say is refused, by its cause; want of memory is free
+abbrev pub RunRefuses : List Meaning → RunNames → (plan_bytes readings_bytes : List ℕ) → Outcome → Type 0
+RunRefuses cupboard names p r (BadPlan name fault) = (name.now ≡ names.plan) × (plan_of p ≡ Err fault)
+RunRefuses cupboard names p r (BadLane fault) = RefusesLane cupboard p fault
+RunRefuses cupboard names p r (BadReadings name fault) = (name.now ≡ names.readings) × RefusesReadings cupboard p r fault
+RunRefuses cupboard names p r NoMemory = ⊤
+RunRefuses cupboard names p r _ = ⊥
+
+-- how it ends: a file is not read, or what they say is refused, or the texts are put and said
+abbrev pub RunEnds : List Meaning → RunNames → View → View → Outcome → Type 0
+RunEnds cupboard names v w outcome =
+    Unread (fetched_by names) v w outcome
+    ⊎ ((p r : List ℕ) × IsRead (v.held names.plan) p × IsRead (v.held names.readings) r
+    × ((RunRefuses cupboard names p r outcome × (w ≡ after_fetches (fetched_by names) v))
+    ⊎ TextsPut cupboard names p r (after_fetches (fetched_by names) v) w outcome))
+
+-- ---- `audit TRANSCRIPT REPORT`
+
+-- the line that it says
+unfoldable pub audited_line : (rows totals : ℕ) → List ℕ
+audited_line rows totals = codes "audit: rows=" ++ (decimal rows ++ (codes " totals=" ++ (decimal totals ++ codes "\n")))
+
+-- the report is confirmed, and its counts are said
+abbrev pub Confirms : (transcript_bytes report_bytes : List ℕ) → View → View → Outcome → Type 0
+Confirms tb rb v w outcome = (counts : AuditCounts) × Audited tb rb (Ok counts) × PutsEnd [] (audited_line counts.rows counts.totals) v w outcome
+
+-- how it ends: a file is not read, or what they say is refused, or the report is confirmed
+abbrev pub AuditCommandEnds : (transcript report : List ℕ) → View → View → Outcome → Type 0
+AuditCommandEnds transcript report v w outcome =
+    Unread (transcript ∷ report ∷ []) v w outcome
+    ⊎ ((tb rb : List ℕ) × IsRead (v.held transcript) tb × IsRead (v.held report) rb
+    × ((AuditRefuses transcript report tb rb outcome × (w ≡ after_fetches (transcript ∷ report ∷ []) v))
+    ⊎ Confirms tb rb (after_fetches (transcript ∷ report ∷ []) v) w outcome))
+
+-- ---- `twin PLAN READINGS OTHER TRANSCRIPT MASKS`
+
+-- the files that it fetches, in order
+abbrev pub compared_by : TwinNames → List (List ℕ)
+compared_by names = names.plan ∷ names.readings ∷ names.other ∷ names.transcript ∷ []
+
+-- the line that it says
+unfoldable pub moved_line : ℕ → List ℕ
+moved_line rows = ended (codes "twin: moved=" ++ decimal rows)
+
+-- the tables agree, and the file of the moved words is put and their number said
+abbrev pub MasksPut : TwinNames → TwinBytes → View → View → Outcome → Type 0
+MasksPut names bytes v w outcome =
+    (rows : List MovedRow) × Compared bytes (Ok rows) × PutsEnd (putting names.masks (masks_text rows) ∷ []) (moved_line (length rows)) v w outcome
+
+-- how it ends: a file is not read, or what they say is refused, or the file of the moved words is put
+abbrev pub TwinCommandEnds : TwinNames → View → View → Outcome → Type 0
+TwinCommandEnds names v w outcome =
+    Unread (compared_by names) v w outcome
+    ⊎ ((bytes : TwinBytes) × AreReadBy names v bytes
+    × ((TwinRefuses names bytes outcome × (w ≡ after_fetches (compared_by names) v))
+    ⊎ MasksPut names bytes (after_fetches (compared_by names) v) w outcome))
+
+-- ---- `make SEED GROUPS METERS ROUNDS PLAN READINGS`
+
+-- what the plan file of a size says, and the bytes of both files
+abbrev pub made_file_of : Size → PlanFileView
+made_file_of size = made_file size.seed size.groups size.meters size.rounds
+
+abbrev pub made_plan_text : Size → List ℕ
+made_plan_text size = plan_text (made_file_of size)
+
+abbrev pub made_readings_text : Size → List ℕ
+made_readings_text size = readings_text (made_readings size.seed size.groups size.meters size.rounds)
+
+-- the line that it says: how many readings there are, present or not
+unfoldable pub made_line : ℕ → List ℕ
+made_line readings = ended (codes "made: readings=" ++ decimal readings)
+
+-- how it ends: both files are put, up to this end
+abbrev pub MakeEnds : Size → (plan readings : List ℕ) → View → View → Outcome → Type 0
+MakeEnds size plan readings v w outcome =
+    PutsEnd (putting plan (made_plan_text size) ∷ putting readings (made_readings_text size) ∷ []) (made_line (size.groups * size.meters * size.rounds)) v w outcome
+
+-- ---- `load SEED GROUPS METERS ROUNDS WORKERS [TRANSCRIPT]`
+
+-- the transcript is put where it has a name
+abbrev pub put_where : Option (List ℕ) → List ℕ → List Putting
+put_where None bytes = []
+put_where (Some name) bytes = putting name bytes ∷ []
+
+-- the lane row of the made plan is refused so; want of memory is free
+abbrev pub LoadRefuses : List Meaning → Size → Outcome → Type 0
+LoadRefuses cupboard size (BadLane fault) = hung_by cupboard (made_file_of size).lanes ≡ Err fault
+LoadRefuses cupboard size NoMemory = ⊤
+LoadRefuses cupboard size _ = ⊥
+
+-- how it ends: it is refused, or the made files make these texts, of which the transcript is put and the summary said
+abbrev pub LoadEnds : List Meaning → Size → Option (List ℕ) → View → View → Outcome → Type 0
+LoadEnds cupboard size transcript v w outcome =
+    (LoadRefuses cupboard size outcome × (w ≡ v))
+    ⊎ ((texts : Texts) × Makes cupboard (made_plan_text size) (made_readings_text size) texts
+    × IsOnly cupboard (made_plan_text size) (made_readings_text size) texts
+    × PutsEnd (put_where transcript texts.transcript) texts.summary v w outcome)
+
+-- ---- `convert OLD TRANSCRIPT`
+
+-- the line that it says
+unfoldable pub converted_line : ℕ → List ℕ
+converted_line lines = ended (codes "converted: lines=" ++ decimal lines)
+
+-- the old bytes are the text of version 1 of a transcript, whose text of version 2 is put
+abbrev pub TranscriptPut : (transcript bytes : List ℕ) → View → View → Outcome → Type 0
+TranscriptPut transcript bytes v w outcome =
+    (t : TranscriptView) × HasText One t × (bytes ≡ text_of One t)
+    × PutsEnd (putting transcript (transcript_text t) ∷ []) (converted_line (length t.entries)) v w outcome
+
+-- the text of OLD is refused; want of memory is free
+abbrev pub ConvertRefuses : (old bytes : List ℕ) → Outcome → Type 0
+ConvertRefuses old bytes (BadTranscript name fault) = (name.now ≡ old) × (read_of One bytes ≡ Err fault)
+ConvertRefuses old bytes NoMemory = ⊤
+ConvertRefuses old bytes _ = ⊥
+
+-- how it ends: OLD is not read, or its text is refused, or the transcript is put
+abbrev pub ConvertEnds : (old transcript : List ℕ) → View → View → Outcome → Type 0
+ConvertEnds old transcript v w outcome =
+    Unread (old ∷ []) v w outcome
+    ⊎ ((bytes : List ℕ) × IsRead (v.held old) bytes
+    × ((ConvertRefuses old bytes outcome × (w ≡ after_fetches (old ∷ []) v))
+    ⊎ TranscriptPut transcript bytes (after_fetches (old ∷ []) v) w outcome))
+
+-- ---- all commands
+
+-- what the words' command does, and nothing where they are no command
+abbrev pub Ends : List Meaning → Option Command → View → View → Outcome → Type 0
+Ends cupboard None v w outcome = (outcome ≡ BadWords) × (w ≡ v)
+Ends cupboard (Some (Run names workers)) v w outcome = RunEnds cupboard names v w outcome
+Ends cupboard (Some (Audit transcript report)) v w outcome = AuditCommandEnds transcript report v w outcome
+Ends cupboard (Some (Twin names)) v w outcome = TwinCommandEnds names v w outcome
+Ends cupboard (Some (Make size plan readings)) v w outcome = MakeEnds size plan readings v w outcome
+Ends cupboard (Some (Load size workers transcript)) v w outcome = LoadEnds cupboard size transcript v w outcome
+Ends cupboard (Some (Convert old transcript)) v w outcome = ConvertEnds old transcript v w outcome
+Ends cupboard (Some Help) v w outcome = PutsEnd [] USAGE.now v w outcome
+Ends cupboard (Some Version) v w outcome = PutsEnd [] VERSION.now v w outcome

@@ -1,0 +1,39 @@
+-- The texts of a finished run, and what the runner of the two files answers.
+use Rattle.std.specs.Prelude.{◌≡◌, ℕ, List, Result, Ok, Err, ⊤}
+use Rattle.group_book.specs.Books.{BookView}
+use Rattle.link_lanes.specs.Lanes.{Meaning}
+use Rattle.plan_files.specs.PlanFiles.{plan_of}
+use Rattle.transcript_text.specs.declared.version.Version.TheVariants.{Two}
+use Rattle.transcript_text.specs.Transcripts.{TranscriptView, IsTranscript}
+use Rattle.transcript_text.specs.Spelling.{transcript_text}
+use Rattle.transcript_text.specs.Heads.{read_of}
+use Rattle.totals_report.specs.Books.{row_in, summary_in}
+use Rattle.totals_report.specs.Reading.{rows_of_text}
+use Rattle.totals_report.specs.Reports.{report_rows, report_text, summary_text}
+use Rattle.commands.specs.declared.texts.RunTexts.{RunTexts}
+use Rattle.commands.specs.declared.texts.Refusal.{Refusal}
+use Rattle.commands.specs.declared.texts.Refusal.TheVariants.{Plan, Lane, Readings, Memory}
+use Rattle.commands.specs.Runs.{Texts, Makes}
+use Rattle.commands.specs.Ends.{RefusesLane, RefusesReadings}
+
+-- the texts that are kept
+abbrev pub texts_of : RunTexts → Texts
+texts_of kept = record { transcript = kept.transcript.items; report = kept.report.items; summary = kept.summary.items }
+
+-- the texts are those of a transcript and of a book's outcomes
+pub record AreTextsOf (book : BookView) (t : TranscriptView) (texts : Texts) : Type 0 where
+  pub sound : IsTranscript t
+  pub transcript : texts.transcript ≡ transcript_text t
+  pub read_back : read_of Two texts.transcript ≡ Ok t
+  pub report : texts.report ≡ report_text book.presence.plan (row_in book)
+  pub rows_back : rows_of_text texts.report ≡ Ok (report_rows book.presence.plan (row_in book))
+  pub summary : texts.summary ≡ summary_text (summary_in book)
+
+-- the texts of a run of the values of the bytes, or the first that is refused: the plan file, a lane row of it, or the readings file;
+-- want of memory is free
+abbrev pub TextsEnd : List Meaning → List ℕ → List ℕ → Result RunTexts Refusal → Type 0
+TextsEnd cupboard plan_bytes readings_bytes (Ok kept) = Makes cupboard plan_bytes readings_bytes (texts_of kept)
+TextsEnd cupboard plan_bytes readings_bytes (Err (Plan fault)) = plan_of plan_bytes ≡ Err fault
+TextsEnd cupboard plan_bytes readings_bytes (Err (Lane fault)) = RefusesLane cupboard plan_bytes fault
+TextsEnd cupboard plan_bytes readings_bytes (Err (Readings fault)) = RefusesReadings cupboard plan_bytes readings_bytes fault
+TextsEnd cupboard plan_bytes readings_bytes (Err Memory) = ⊤

@@ -1,0 +1,91 @@
+-- What the bytes of the four files of `twin` come to.
+use Rattle.std.specs.Prelude.{◌≡◌, ◌⊎◌, ℕ, List, reverse, Result, Ok, Err, ⊤}
+use Rattle.desk_outside.specs.Desk.{View}
+use Rattle.group_plan.specs.Tables.{ReadingsView}
+use Rattle.link_lanes.specs.Lanes.{Meaning}
+use Rattle.mask_stream.specs.KeyStreams.{streams}
+use Rattle.plan_files.specs.declared.fault.FileError.{FileError}
+use Rattle.plan_files.specs.PlanFiles.{PlanFileView, plan_of}
+use Rattle.plan_files.specs.Readings.{readings_of}
+use Rattle.transcript_log.specs.declared.Line.{Line}
+use Rattle.transcript_text.specs.Transcripts.{TranscriptView}
+use Rattle.ideal_masks.specs.declared.Differ.TheVariants.{Presence, Total}
+use Rattle.twin_worlds.specs.declared.rows.MovedRow.{MovedRow}
+use Rattle.twin_worlds.specs.declared.answers.TwinError.{TwinError}
+use Rattle.twin_worlds.specs.declared.answers.TwinError.TheVariants as twin
+use Rattle.twin_worlds.specs.Twins.{IsRecord, TwinEnds}
+use Rattle.commands.specs.declared.outcome.Outcome.{Outcome}
+use Rattle.commands.specs.declared.outcome.Outcome.TheVariants.{NoMemory, BadPlan, BadReadings, BadTranscript, OtherPlan, OtherLine, OtherPresence, OtherTotal}
+use Rattle.commands.specs.Words.{TwinNames}
+use Rattle.commands.specs.Calls.{IsRead}
+use Rattle.commands.specs.Runs.{Texts, Makes}
+
+-- the bytes of a plan file, of two readings files, and of a transcript
+pub record TwinBytes : Type 0 where
+  pub plan : List ℕ
+  pub readings : List ℕ
+  pub other : List ℕ
+  pub transcript : List ℕ
+
+-- they were read under these names
+pub record AreReadBy (names : TwinNames) (v : View) (bytes : TwinBytes) : Type 0 where
+  pub plan : IsRead (v.held names.plan) bytes.plan
+  pub readings : IsRead (v.held names.readings) bytes.readings
+  pub other : IsRead (v.held names.other) bytes.other
+  pub transcript : IsRead (v.held names.transcript) bytes.transcript
+
+-- what the first three say: a plan file, and two tables of readings
+pub record TwinValues : Type 0 where
+  pub file : PlanFileView
+  pub first : ReadingsView
+  pub second : ReadingsView
+
+pub record AreTwinValues (bytes : TwinBytes) (values : TwinValues) : Type 0 where
+  pub plan : plan_of bytes.plan ≡ Ok values.file
+  pub first : readings_of values.file.plan bytes.readings ≡ Ok values.first
+  pub second : readings_of values.file.plan bytes.other ≡ Ok values.second
+
+-- the files have values, and under the stream words of the keys this is what `twin` answers for the two tables and the transcript
+abbrev pub Compared : TwinBytes → Result (List MovedRow) TwinError → Type 0
+Compared bytes result =
+    (values : TwinValues) × AreTwinValues bytes values × TwinEnds (streams values.file.keys) values.first values.second bytes.transcript result
+
+-- ---- refusals
+
+-- the plan file has a value, and the first readings file has this fault
+abbrev pub RefusesFirst : TwinBytes → FileError → Type 0
+RefusesFirst bytes fault = (file : PlanFileView) × (plan_of bytes.plan ≡ Ok file) × (readings_of file.plan bytes.readings ≡ Err fault)
+
+-- both have values, and the second readings file has this fault
+abbrev pub RefusesSecond : TwinBytes → FileError → Type 0
+RefusesSecond bytes fault =
+    (file : PlanFileView) × (first : ReadingsView)
+    × (plan_of bytes.plan ≡ Ok file) × (readings_of file.plan bytes.readings ≡ Ok first) × (readings_of file.plan bytes.other ≡ Err fault)
+
+-- what the files say is refused, by its cause; want of memory is free
+abbrev pub TwinRefuses : TwinNames → TwinBytes → Outcome → Type 0
+TwinRefuses names bytes (BadPlan name fault) = (name.now ≡ names.plan) × (plan_of bytes.plan ≡ Err fault)
+TwinRefuses names bytes (BadReadings name fault) =
+    ((name.now ≡ names.readings) × RefusesFirst bytes fault) ⊎ ((name.now ≡ names.other) × RefusesSecond bytes fault)
+TwinRefuses names bytes (BadTranscript name fault) = (name.now ≡ names.transcript) × Compared bytes (Err (twin.Transcript fault))
+TwinRefuses names bytes (OtherPlan name) = (name.now ≡ names.transcript) × Compared bytes (Err twin.Head)
+TwinRefuses names bytes (OtherLine name line expected) =
+    (name.now ≡ names.transcript) × ((found : Line) × Compared bytes (Err (twin.NotThis line expected.line found expected.tick expected.fate)))
+TwinRefuses names bytes (OtherPresence group round meter) = Compared bytes (Err (twin.Differ (Presence group round meter)))
+TwinRefuses names bytes (OtherTotal group round first second) = Compared bytes (Err (twin.Differ (Total group round first second)))
+TwinRefuses names bytes NoMemory = ⊤
+TwinRefuses names bytes _ = ⊥
+
+-- the comparison of the bytes under these names
+abbrev pub BytesCompared : TwinNames → TwinBytes → Result (List MovedRow) Outcome → Type 0
+BytesCompared names bytes (Ok rows) = Compared bytes (Ok rows)
+BytesCompared names bytes (Err outcome) = TwinRefuses names bytes outcome
+
+-- ---- what a run stores
+
+-- whatever files are run, the transcript that is made is the record of the readings under the stream words of the keys
+abbrev pub RunsAreRecorded : Type 0
+RunsAreRecorded =
+    (cupboard : List Meaning) (plan_bytes readings_bytes : List ℕ) (texts : Texts) → Makes cupboard plan_bytes readings_bytes texts
+    → (file : PlanFileView) × (readings : ReadingsView) × (t : TranscriptView)
+    × (plan_of plan_bytes ≡ Ok file) × (readings_of file.plan readings_bytes ≡ Ok readings) × IsRecord (streams file.keys) readings texts.transcript t

@@ -1,0 +1,182 @@
+-- The words of the command line, without the program's name.
+use Rattle.std.specs.Prelude.{ℕ, Bool, true, false, ◌&&◌, ◌||◌, not, List, [], ◌∷◌, Option, Some, None, if◌then◌else◌, codes}
+use Rattle.std.specs.Str.{bytes_eq}
+use Rattle.field_texts.specs.Numbers.{number_of, within}
+use Rattle.load_maker.specs.Sizes.{is_within}
+use Rattle.commands.specs.declared.words.RunFiles.{RunFiles}
+
+-- the names of the files of `run`
+pub record RunNames : Type 0 where
+  pub plan : List ℕ
+  pub readings : List ℕ
+  pub report : List ℕ
+  pub transcript : List ℕ
+
+-- the names of the files of `twin`
+pub record TwinNames : Type 0 where
+  pub plan : List ℕ
+  pub readings : List ℕ
+  pub other : List ℕ
+  pub transcript : List ℕ
+  pub masks : List ℕ
+
+-- a size of made files: the seed, and how many groups, meters of each, and rounds
+pub record Size : Type 0 where
+  pub seed : ℕ
+  pub groups : ℕ
+  pub meters : ℕ
+  pub rounds : ℕ
+
+-- what the words ask for
+pub data Command : Type 0 where
+  Run : (names : RunNames) (workers : ℕ) → Command
+  Audit : (transcript report : List ℕ) → Command
+  Twin : (names : TwinNames) → Command
+  Make : (size : Size) (plan readings : List ℕ) → Command
+  Load : (size : Size) (workers : ℕ) (transcript : Option (List ℕ)) → Command
+  Convert : (old transcript : List ℕ) → Command
+  Help : Command
+  Version : Command
+
+-- ---- names of files
+
+-- one of the names is this
+abbrev pub has_name : List ℕ → List (List ℕ) → Bool
+has_name name [] = false
+has_name name (other ∷ others) = bytes_eq other name || has_name name others
+
+-- a word that is not empty
+abbrev pub is_name : List ℕ → Bool
+is_name [] = false
+is_name (_ ∷ _) = true
+
+-- each word is a name, and no two are the same
+abbrev pub are_names : List (List ℕ) → Bool
+are_names [] = true
+are_names (name ∷ names) = is_name name && not (has_name name names) && are_names names
+
+-- the names that the program keeps
+abbrev pub names_of : RunFiles → RunNames
+names_of files = record { plan = files.plan.now; readings = files.readings.now; report = files.report.now; transcript = files.transcript.now }
+
+-- ---- numbers
+
+-- 1 to 16 workers
+abbrev pub workers_of : List ℕ → Option ℕ
+workers_of word = within 1 17 (number_of word)
+
+-- a size of four numbers, of which the last three are within the limits of plans
+abbrev pub size_by : (seed groups meters rounds : Option ℕ) → Option Size
+size_by (Some seed) (Some groups) (Some meters) (Some rounds) =
+    if is_within groups meters rounds then Some (record { seed = seed; groups = groups; meters = meters; rounds = rounds }) else None
+size_by _ _ _ _ = None
+
+-- the size that four words spell
+unfoldable pub size_of : (seed groups meters rounds : List ℕ) → Option Size
+size_of seed groups meters rounds = size_by (number_of seed) (number_of groups) (number_of meters) (number_of rounds)
+
+-- ---- commands, by the words behind the verb
+
+-- a command that takes a number, where there is one
+abbrev pub with_number : Option ℕ → (ℕ → Option Command) → Option Command
+with_number None command = None
+with_number (Some n) command = command n
+
+-- `run` with these files, where they are names, and so many workers
+unfoldable pub run_with : (plan readings report transcript : List ℕ) → ℕ → Option Command
+run_with plan readings report transcript workers =
+    if are_names (plan ∷ readings ∷ report ∷ transcript ∷ [])
+    then Some (Run (record { plan = plan; readings = readings; report = report; transcript = transcript }) workers)
+    else None
+
+-- `run PLAN READINGS REPORT TRANSCRIPT [WORKERS]`; 4 workers where no number is given
+abbrev pub run_of : List (List ℕ) → Option Command
+run_of (plan ∷ readings ∷ report ∷ transcript ∷ []) = run_with plan readings report transcript 4
+run_of (plan ∷ readings ∷ report ∷ transcript ∷ workers ∷ []) = with_number (workers_of workers) (run_with plan readings report transcript)
+run_of _ = None
+
+-- `audit TRANSCRIPT REPORT`
+unfoldable pub audit_with : (transcript report : List ℕ) → Option Command
+audit_with transcript report = if are_names (transcript ∷ report ∷ []) then Some (Audit transcript report) else None
+
+abbrev pub audit_of : List (List ℕ) → Option Command
+audit_of (transcript ∷ report ∷ []) = audit_with transcript report
+audit_of _ = None
+
+-- `twin` with these files, where they are names
+unfoldable pub twin_with : (plan readings other transcript masks : List ℕ) → Option Command
+twin_with plan readings other transcript masks =
+    if are_names (plan ∷ readings ∷ other ∷ transcript ∷ masks ∷ [])
+    then Some (Twin (record { plan = plan; readings = readings; other = other; transcript = transcript; masks = masks }))
+    else None
+
+-- `twin PLAN READINGS OTHER TRANSCRIPT MASKS`
+abbrev pub twin_of : List (List ℕ) → Option Command
+twin_of (plan ∷ readings ∷ other ∷ transcript ∷ masks ∷ []) = twin_with plan readings other transcript masks
+twin_of _ = None
+
+-- a command that takes a size, where there is one
+abbrev pub with_size : Option Size → (Size → Option Command) → Option Command
+with_size None command = None
+with_size (Some size) command = command size
+
+-- `make` with this size, where both are names
+unfoldable pub make_with : Size → (plan readings : List ℕ) → Option Command
+make_with size plan readings = if are_names (plan ∷ readings ∷ []) then Some (Make size plan readings) else None
+
+-- `make SEED GROUPS METERS ROUNDS PLAN READINGS`
+abbrev pub make_of : List (List ℕ) → Option Command
+make_of (seed ∷ groups ∷ meters ∷ rounds ∷ plan ∷ readings ∷ []) = with_size (size_of seed groups meters rounds) (λ size. make_with size plan readings)
+make_of _ = None
+
+-- `load` with this size and so many workers, and a transcript where it is a name or there is none
+unfoldable pub load_with : Option (List ℕ) → Size → ℕ → Option Command
+load_with None size workers = Some (Load size workers None)
+load_with (Some transcript) size workers = if is_name transcript then Some (Load size workers (Some transcript)) else None
+
+-- `load SEED GROUPS METERS ROUNDS WORKERS [TRANSCRIPT]`
+abbrev pub load_of : List (List ℕ) → Option Command
+load_of (seed ∷ groups ∷ meters ∷ rounds ∷ workers ∷ []) =
+    with_size (size_of seed groups meters rounds) (λ size. with_number (workers_of workers) (load_with None size))
+load_of (seed ∷ groups ∷ meters ∷ rounds ∷ workers ∷ transcript ∷ []) =
+    with_size (size_of seed groups meters rounds) (λ size. with_number (workers_of workers) (load_with (Some transcript) size))
+load_of _ = None
+
+-- `convert OLD TRANSCRIPT`
+unfoldable pub convert_with : (old transcript : List ℕ) → Option Command
+convert_with old transcript = if are_names (old ∷ transcript ∷ []) then Some (Convert old transcript) else None
+
+abbrev pub convert_of : List (List ℕ) → Option Command
+convert_of (old ∷ transcript ∷ []) = convert_with old transcript
+convert_of _ = None
+
+-- a command that has no words
+abbrev pub alone : Command → List (List ℕ) → Option Command
+alone command [] = Some command
+alone command (_ ∷ _) = None
+
+-- ---- the command that the words are, by the first of them
+
+-- a word that asks for the usage
+abbrev pub asks_help : List ℕ → Bool
+asks_help verb = bytes_eq verb (codes "help") || bytes_eq verb (codes "--help") || bytes_eq verb (codes "-h")
+
+-- a word that asks for the version
+abbrev pub asks_version : List ℕ → Bool
+asks_version verb = bytes_eq verb (codes "version") || bytes_eq verb (codes "--version") || bytes_eq verb (codes "-V")
+
+unfoldable pub command_by : List ℕ → List (List ℕ) → Option Command
+command_by verb words =
+    if bytes_eq verb (codes "run") then run_of words
+    else if bytes_eq verb (codes "audit") then audit_of words
+    else if bytes_eq verb (codes "twin") then twin_of words
+    else if bytes_eq verb (codes "make") then make_of words
+    else if bytes_eq verb (codes "load") then load_of words
+    else if bytes_eq verb (codes "convert") then convert_of words
+    else if asks_help verb then alone Help words
+    else if asks_version verb then alone Version words
+    else None
+
+abbrev pub command_of : List (List ℕ) → Option Command
+command_of [] = None
+command_of (verb ∷ words) = command_by verb words

@@ -1,0 +1,271 @@
+//! The texts of complaints.
+
+ghost use Rattle.std.specs.Prelude.{◌≡◌, ◌++◌, IfOk, codes, string_bytes};
+ghost use Rattle.commands.specs.Causes.{key_text, plan_error_name, span_error_name, key_error_text, cause_text, rack_cause_name, read_error_name};
+ghost use Rattle.transcript_text.specs.Faults.{fault_line};
+ghost use Rattle.commands.specs.Outcomes.{file_complaint, line_complaint, row_or_nothing, row_complaint, IsText, HasComplaint, complaint_of};
+ghost use Rattle.transcript_text.specs.declared.version.Version.TheVariants.{Two};
+ghost use Rattle.transcript_text.specs.Spelling.{entry_text};
+ghost use Rattle.transcript_text.specs.Writing.{IsWritable};
+
+use crate::outcome::Outcome;
+use group_plan::{PlanError, SpanError};
+use link_lanes::RackCause;
+use pair_keys::{KeyError, KeyId};
+use plan_files::{FileCause, FileError};
+use std::alloc::{AllocError, Global};
+use totals_report::{ReportRow, row_text};
+use transcript_log::Entry;
+use transcript_text::{ReadError, line_text};
+
+#[tactic(auto, unfolding(crate::specs::Causes::key_text))]
+fn key_text(alloc: Global, key: KeyId) -> Result<String, AllocError>
+    ensures { IfOk result (λ text. string_bytes text ≡ key_text key) }
+{
+    match key {
+        KeyId::Own { group, meter } => format!(in alloc; "own {group} {meter}"),
+        KeyId::Pair { group, low, high } => format!(in alloc; "pair {group} {low} {high}"),
+    }
+}
+
+fn plan_error_name(error: PlanError) -> &'static str
+    ensures { result.now ≡ plan_error_name error }
+{
+    match error {
+        PlanError::NoGroup => "NoGroup",
+        PlanError::TooManyGroups(_) => "TooManyGroups",
+        PlanError::SameName(_, _) => "SameName",
+        PlanError::Meters(_) => "Meters",
+        PlanError::Floor(_) => "Floor",
+        PlanError::Rounds => "Rounds",
+        PlanError::Window => "Window",
+        PlanError::TooManyReadings(_) => "TooManyReadings",
+        PlanError::Memory => "Memory",
+        PlanError::TooManyPairs(_) => "TooManyPairs",
+    }
+}
+
+fn span_error_name(error: SpanError) -> &'static str
+    ensures { result.now ≡ span_error_name error }
+{
+    match error {
+        SpanError::Range(_) => "Range",
+        SpanError::Twice(_) => "Twice",
+        SpanError::Memory => "Memory",
+    }
+}
+
+#[tactic(auto, unfolding(crate::specs::Causes::key_error_text))]
+fn key_error_text(alloc: Global, error: KeyError) -> Result<String, AllocError>
+    ensures { IfOk result (λ text. string_bytes text ≡ key_error_text error) }
+{
+    match error {
+        KeyError::Range => String::from_str(alloc, "Range"),
+        KeyError::Twice(key) => {
+            let key = key_text(alloc, key)?;
+            format!(in alloc; "Twice {key}")
+        }
+        KeyError::Missing(key) => {
+            let key = key_text(alloc, key)?;
+            format!(in alloc; "Missing {key}")
+        }
+    }
+}
+
+#[tactic(auto, unfolding(crate::specs::Causes::cause_text))]
+fn cause_text(alloc: Global, cause: FileCause) -> Result<String, AllocError>
+    ensures { IfOk result (λ text. string_bytes text ≡ cause_text cause) }
+{
+    match cause {
+        FileCause::Row => String::from_str(alloc, "Row"),
+        FileCause::Fields => String::from_str(alloc, "Fields"),
+        FileCause::Number => String::from_str(alloc, "Number"),
+        FileCause::Name => String::from_str(alloc, "Name"),
+        FileCause::Hex => String::from_str(alloc, "Hex"),
+        FileCause::Plan(error) => {
+            let name = plan_error_name(error);
+            format!(in alloc; "Plan {name}")
+        }
+        FileCause::Key(error) => {
+            let text = key_error_text(alloc, error)?;
+            format!(in alloc; "Key {text}")
+        }
+        FileCause::LaneSpan => String::from_str(alloc, "LaneSpan"),
+        FileCause::Range => String::from_str(alloc, "Range"),
+        FileCause::Short => String::from_str(alloc, "Short"),
+        FileCause::Extra => String::from_str(alloc, "Extra"),
+        FileCause::Memory => String::from_str(alloc, "Memory"),
+        FileCause::Member(error) => {
+            let name = span_error_name(error);
+            format!(in alloc; "Member {name}")
+        }
+        FileCause::NotMember => String::from_str(alloc, "NotMember"),
+    }
+}
+
+fn rack_cause_name(cause: RackCause) -> &'static str
+    ensures { result.now ≡ rack_cause_name cause }
+{
+    match cause {
+        RackCause::NoSuchLane => "NoSuchLane",
+        RackCause::BadArgument => "BadArgument",
+        RackCause::Memory => "Memory",
+    }
+}
+
+#[tactic(auto, unfolding(crate::specs::Outcomes::file_complaint))]
+fn file_complaint(alloc: Global, name: &str, fault: FileError) -> Result<String, AllocError>
+    ensures { IfOk result (λ text. string_bytes text ≡ file_complaint name.now fault) }
+{
+    let row = fault.row;
+    let cause = cause_text(alloc, fault.cause)?;
+    format!(in alloc; "meteragg: {name} row {row}: {cause}\n")
+}
+
+// The faulty line of a transcript.
+fn fault_line(fault: ReadError) -> u64
+    ensures { result ≡ fault_line fault }
+{
+    match fault {
+        ReadError::Head(line)
+        | ReadError::Line(line)
+        | ReadError::Field(line, _)
+        | ReadError::NoEnd(line)
+        | ReadError::Count(line)
+        | ReadError::After(line) => line,
+        ReadError::Memory => 0,
+    }
+}
+
+#[tactic(auto, unfolding(crate::specs::Causes::read_error_name))]
+fn read_error_name(alloc: Global, fault: ReadError) -> Result<String, AllocError>
+    ensures { IfOk result (λ text. string_bytes text ≡ read_error_name fault) }
+{
+    match fault {
+        ReadError::Head(_) => String::from_str(alloc, "Head"),
+        ReadError::Line(_) => String::from_str(alloc, "Line"),
+        ReadError::Field(_, field) => format!(in alloc; "Field {field}"),
+        ReadError::NoEnd(_) => String::from_str(alloc, "NoEnd"),
+        ReadError::Count(_) => String::from_str(alloc, "Count"),
+        ReadError::After(_) => String::from_str(alloc, "After"),
+        ReadError::Memory => String::from_str(alloc, "Memory"),
+    }
+}
+
+#[tactic(auto, unfolding(crate::specs::Outcomes::line_complaint))]
+fn line_complaint(alloc: Global, name: &str, line: u64, cause: &str) -> Result<String, AllocError>
+    ensures { IfOk result (λ text. string_bytes text ≡ line_complaint name.now line cause.now) }
+{
+    format!(in alloc; "meteragg: {name} line {line}: {cause}\n")
+}
+
+#[tactic(auto, unfolding(crate::specs::Outcomes::row_or_nothing))]
+fn row_or_nothing(alloc: Global, row: &Option<ReportRow>) -> Result<Vec<u8>, AllocError>
+    ensures { IfOk result (λ text. text.items ≡ row_or_nothing row.now) }
+{
+    match row {
+        None => Ok(String::from_str(alloc, "nothing")?.into_bytes()),
+        Some(row) => row_text(alloc, row),
+    }
+}
+
+#[tactic(auto, unfolding(crate::specs::Outcomes::row_complaint))]
+fn row_complaint(
+    alloc: Global,
+    at: u32,
+    from_frames: &Option<ReportRow>,
+    reported: &Option<ReportRow>,
+) -> Result<Vec<u8>, AllocError>
+    ensures { IfOk result (λ text. text.items ≡ row_complaint at from_frames.now reported.now) }
+{
+    let mut text = format!(in alloc; "meteragg: row {at}: from frames ")?.into_bytes();
+    text.extend_from_slice(&row_or_nothing(alloc, from_frames)?)?;
+    text.extend_from_slice(b", reported ")?;
+    text.extend_from_slice(&row_or_nothing(alloc, reported)?)?;
+    text.extend_from_slice(b"\n")?;
+    Ok(text)
+}
+
+// The complaint of a line of a transcript that should be another.
+#[tactic(auto, unfolding(crate::specs::Outcomes::line_complaint))]
+fn expected_complaint(
+    alloc: Global,
+    name: &str,
+    line: u64,
+    expected: &Entry,
+) -> Result<Vec<u8>, AllocError>
+    requires { IsWritable expected.now.line }
+    ensures { IfOk result (λ text. text.items ≡ line_complaint name.now line (codes "expected " ++ entry_text Two expected.now)) }
+{
+    let mut text = format!(in alloc; "meteragg: {name} line {line}: expected ")?.into_bytes();
+    text.extend_from_slice(&line_text(alloc, expected)?)?;
+    text.extend_from_slice(b"\n")?;
+    Ok(text)
+}
+
+// The text of a complaint of one line of text.
+#[tactic(auto, unfolding(crate::specs::Outcomes::complaint_of))]
+fn text_complaint(alloc: Global, outcome: &Outcome<'_>) -> Result<String, AllocError>
+    ensures { IfOk result (λ text. IsText outcome.now → string_bytes text ≡ complaint_of outcome.now) }
+{
+    match outcome {
+        Outcome::Done | Outcome::OtherRow { .. } | Outcome::OtherLine { .. } => {
+            Ok(String::new(alloc))
+        }
+        Outcome::NoMemory => String::from_str(alloc, "meteragg: no memory\n"),
+        Outcome::BadWords => String::from_str(alloc, "meteragg: bad words\n"),
+        Outcome::CannotRead(name) => format!(in alloc; "meteragg: cannot read {name}\n"),
+        Outcome::TooLong(name) => format!(in alloc;
+            "meteragg: {name} is longer than 268435456 bytes\n"
+        ),
+        Outcome::CannotWrite(name) => format!(in alloc; "meteragg: cannot write {name}\n"),
+        Outcome::CannotPrint => String::from_str(alloc, "meteragg: cannot print\n"),
+        Outcome::BadPlan(name, fault) | Outcome::BadReadings(name, fault) => {
+            file_complaint(alloc, name, *fault)
+        }
+        Outcome::BadTranscript(name, fault) => {
+            let cause = read_error_name(alloc, *fault)?;
+            line_complaint(alloc, name, fault_line(*fault), &cause)
+        }
+        Outcome::BadReport(name, line) => line_complaint(alloc, name, *line, "Line"),
+        Outcome::Impossible(name, line) => line_complaint(alloc, name, *line, "impossible"),
+        Outcome::OtherPlan(name) => format!(in alloc; "meteragg: {name}: other plan\n"),
+        Outcome::OtherPresence {
+            group,
+            round,
+            meter,
+        } => format!(in alloc; "meteragg: presence {group} {round} {meter}\n"),
+        Outcome::OtherTotal {
+            group,
+            round,
+            first,
+            second,
+        } => format!(in alloc; "meteragg: total {group} {round} {first} {second}\n"),
+        Outcome::BadLane(fault) => {
+            let row = fault.row;
+            let cause = rack_cause_name(fault.cause);
+            format!(in alloc; "meteragg: lane row {row}: {cause}\n")
+        }
+    }
+}
+
+/// The text of the complaint, none where the command was done.
+#[tactic(auto, unfolding(crate::specs::Outcomes::complaint_of))]
+pub fn complaint(alloc: Global, outcome: &Outcome<'_>) -> Result<Vec<u8>, AllocError>
+    requires { HasComplaint outcome.now }
+    ensures { IfOk result (λ text. text.items ≡ complaint_of outcome.now) }
+{
+    match outcome {
+        Outcome::OtherRow {
+            at,
+            from_frames,
+            reported,
+        } => row_complaint(alloc, *at, from_frames, reported),
+        Outcome::OtherLine {
+            name,
+            line,
+            expected,
+        } => expected_complaint(alloc, name, *line, expected),
+        _ => Ok(text_complaint(alloc, outcome)?.into_bytes()),
+    }
+}

@@ -1,0 +1,49 @@
+//! The command `convert`.
+
+ghost use Rattle.std.specs.Prelude.{◌≡◌, ◌≤◌, IfOk, string_bytes};
+ghost use Rattle.desk_outside.specs.Desk.{Rose};
+ghost use Rattle.commands.specs.Ends.{converted_line, ConvertEnds};
+ghost use Rattle.commands.specs.Outcomes.{IsFault};
+
+use crate::desk_calls::{NewFile, fetch, put_one};
+use crate::outcome::Outcome;
+use crate::words::ConvertFiles;
+use desk_outside::Desk;
+use std::alloc::{AllocError, Global};
+use transcript_text::{ReadError, Transcript, read_old, write};
+
+// The line that says how many entries the transcript has.
+#[tactic(auto, unfolding(crate::specs::Ends::converted_line))]
+fn converted_line(alloc: Global, lines: usize) -> Result<String, AllocError>
+    ensures { IfOk result (λ text. string_bytes text ≡ converted_line lines) }
+{
+    format!(in alloc; "converted: lines={lines}\n")
+}
+
+/// Fetches a transcript of version 1 and puts the same transcript in version 2.
+pub fn convert<'a, D: Desk>(alloc: Global, files: ConvertFiles<'a>, desk: &mut D) -> Outcome<'a>
+    ensures ends { ConvertEnds files.entry.old.now files.entry.transcript.now (D.view desk.old) (D.view desk.new) result }
+    ensures later { D.faults desk.old ≤ D.faults desk.new }
+    ensures cause { IsFault result → Rose (D.faults desk.old) (D.faults desk.new) }
+{
+    let bytes = match fetch(alloc, files.old, desk) {
+        Ok(bytes) => bytes,
+        Err(outcome) => return outcome,
+    };
+    let transcript = match read_old(alloc, &bytes) {
+        Ok(transcript) => transcript,
+        Err(ReadError::Memory) => return Outcome::NoMemory,
+        Err(fault) => return Outcome::BadTranscript(files.old, fault),
+    };
+    let Ok(text) = write(alloc, &transcript) else {
+        return Outcome::NoMemory;
+    };
+    let Ok(line) = converted_line(alloc, transcript.entries().len()) else {
+        return Outcome::NoMemory;
+    };
+    let file = NewFile {
+        name: files.transcript,
+        bytes: text.as_slice(),
+    };
+    put_one(file, line.as_bytes(), desk)
+}

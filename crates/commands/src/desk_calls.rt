@@ -1,0 +1,122 @@
+//! The calls of a command on the desk: fetches at its beginning, puts and a said line at its end.
+
+ghost use Rattle.std.specs.Prelude.{◌≤◌, [], ◌∷◌, IfErr};
+ghost use Rattle.desk_outside.specs.Desk.{Rose};
+ghost use Rattle.commands.specs.Calls.{OneFetched, TwoFetched, putting, PutsEnd};
+ghost use Rattle.commands.specs.Outcomes.{IsFault};
+
+use crate::outcome::Outcome;
+use desk_outside::{Desk, DeskError, FetchError};
+use std::alloc::Global;
+
+/// The most bytes that a file may have.
+const MOST_BYTES: u64 = 1 << 28;
+
+/// Fetches a file, or says how the command ends.
+pub fn fetch<'a, D: Desk>(
+    alloc: Global,
+    name: &'a str,
+    desk: &mut D,
+) -> Result<Vec<u8>, Outcome<'a>>
+    ensures ends { OneFetched name.now (D.view desk.old) (D.view desk.new) result }
+    ensures later { D.faults desk.old ≤ D.faults desk.new }
+    ensures cause { IfErr result (λ outcome. IsFault outcome → Rose (D.faults desk.old) (D.faults desk.new)) }
+{
+    match desk.fetch(alloc, name, MOST_BYTES) {
+        Ok(bytes) => Ok(bytes),
+        Err(FetchError::Failed) => Err(Outcome::CannotRead(name)),
+        Err(FetchError::TooLong(_)) => Err(Outcome::TooLong(name)),
+        Err(FetchError::Memory) => Err(Outcome::NoMemory),
+    }
+}
+
+/// Fetches two files, one after the other, or says how the command ends.
+pub fn fetch_two<'a, D: Desk>(
+    alloc: Global,
+    first: &'a str,
+    second: &'a str,
+    desk: &mut D,
+) -> Result<(Vec<u8>, Vec<u8>), Outcome<'a>>
+    ensures ends { TwoFetched first.now second.now (D.view desk.old) (D.view desk.new) result }
+    ensures later { D.faults desk.old ≤ D.faults desk.new }
+    ensures cause { IfErr result (λ outcome. IsFault outcome → Rose (D.faults desk.old) (D.faults desk.new)) }
+{
+    let first_bytes = match desk.fetch(alloc, first, MOST_BYTES) {
+        Ok(bytes) => bytes,
+        Err(FetchError::Failed) => return Err(Outcome::CannotRead(first)),
+        Err(FetchError::TooLong(_)) => return Err(Outcome::TooLong(first)),
+        Err(FetchError::Memory) => return Err(Outcome::NoMemory),
+    };
+    match desk.fetch(alloc, second, MOST_BYTES) {
+        Ok(bytes) => Ok((first_bytes, bytes)),
+        Err(FetchError::Failed) => Err(Outcome::CannotRead(second)),
+        Err(FetchError::TooLong(_)) => Err(Outcome::TooLong(second)),
+        Err(FetchError::Memory) => Err(Outcome::NoMemory),
+    }
+}
+
+/// Says a line.
+pub fn say<'a, D: Desk>(line: &[u8], desk: &mut D) -> Outcome<'a>
+    ensures ends { PutsEnd [] line.now (D.view desk.old) (D.view desk.new) result }
+    ensures later { D.faults desk.old ≤ D.faults desk.new }
+    ensures cause { IsFault result → Rose (D.faults desk.old) (D.faults desk.new) }
+{
+    match desk.say(line) {
+        Ok(()) => Outcome::Done,
+        Err(DeskError::Failed) => Outcome::CannotPrint,
+        Err(DeskError::Memory) => Outcome::NoMemory,
+    }
+}
+
+/// A file to put: its name and its bytes.
+#[derive(Clone, Copy)]
+pub struct NewFile<'a, 'b> {
+    pub name: &'a str,
+    pub bytes: &'b [u8],
+}
+
+/// Puts a file and then says a line.
+pub fn put_one<'a, D: Desk>(file: NewFile<'a, '_>, line: &[u8], desk: &mut D) -> Outcome<'a>
+    ensures ends { PutsEnd (putting file.entry.name.now file.entry.bytes.now ∷ []) line.now (D.view desk.old) (D.view desk.new) result }
+    ensures later { D.faults desk.old ≤ D.faults desk.new }
+    ensures cause { IsFault result → Rose (D.faults desk.old) (D.faults desk.new) }
+{
+    match desk.put(file.name, file.bytes) {
+        Ok(()) => {}
+        Err(DeskError::Failed) => return Outcome::CannotWrite(file.name),
+        Err(DeskError::Memory) => return Outcome::NoMemory,
+    }
+    match desk.say(line) {
+        Ok(()) => Outcome::Done,
+        Err(DeskError::Failed) => Outcome::CannotPrint,
+        Err(DeskError::Memory) => Outcome::NoMemory,
+    }
+}
+
+/// Puts two files, one after the other, and then says a line.
+pub fn put_two<'a, D: Desk>(
+    first: NewFile<'a, '_>,
+    second: NewFile<'a, '_>,
+    line: &[u8],
+    desk: &mut D,
+) -> Outcome<'a>
+    ensures ends { PutsEnd (putting first.entry.name.now first.entry.bytes.now ∷ putting second.entry.name.now second.entry.bytes.now ∷ []) line.now (D.view desk.old) (D.view desk.new) result }
+    ensures later { D.faults desk.old ≤ D.faults desk.new }
+    ensures cause { IsFault result → Rose (D.faults desk.old) (D.faults desk.new) }
+{
+    match desk.put(first.name, first.bytes) {
+        Ok(()) => {}
+        Err(DeskError::Failed) => return Outcome::CannotWrite(first.name),
+        Err(DeskError::Memory) => return Outcome::NoMemory,
+    }
+    match desk.put(second.name, second.bytes) {
+        Ok(()) => {}
+        Err(DeskError::Failed) => return Outcome::CannotWrite(second.name),
+        Err(DeskError::Memory) => return Outcome::NoMemory,
+    }
+    match desk.say(line) {
+        Ok(()) => Outcome::Done,
+        Err(DeskError::Failed) => Outcome::CannotPrint,
+        Err(DeskError::Memory) => Outcome::NoMemory,
+    }
+}

@@ -1,0 +1,21 @@
+//! The commands, over any desk: everything that the program does.
+#![tactic(auto)]
+
+mod audit;
+mod complaints;
+mod convert;
+mod cupboard;
+mod desk_calls;
+mod load;
+mod make;
+mod outcome;
+mod program;
+mod run;
+mod texts;
+mod twin;
+mod usage;
+mod words;
+
+pub use cupboard::with_lanes;
+pub use program::meteragg;
+pub use usage::{USAGE, VERSION};

@@ -1,0 +1,69 @@
+//! The command `load`.
+
+ghost use Rattle.std.specs.Prelude.{◌≤◌, IsTrue, map};
+ghost use Rattle.desk_outside.specs.Desk.{Rose};
+ghost use Rattle.load_maker.specs.Sizes.{is_within};
+ghost use Rattle.commands.specs.Commands.{size_in, name_in};
+ghost use Rattle.commands.specs.Ends.{LoadEnds};
+ghost use Rattle.commands.specs.Outcomes.{IsFault};
+
+use crate::desk_calls::{NewFile, put_one, say};
+use crate::outcome::Outcome;
+use crate::texts::{Refusal, run_texts};
+use crate::words::LoadWords;
+use collector_workers::Gate;
+use desk_outside::Desk;
+use link_lanes::Lane;
+use load_maker::{MakeError, make};
+use std::alloc::Global;
+use std::sync::Wait;
+use std::thread::Threads;
+
+/// Makes the two files of a size, runs them in memory, puts the transcript where it has a name, and says the summary.
+pub fn load<'a, R: Threads + Wait + Sync, D: Desk, G: Gate>(
+    rt: &R,
+    alloc: Global,
+    words: LoadWords<'a>,
+    desk: &mut D,
+    cupboard: Vec<Box<dyn Lane>>,
+    gate: &G,
+) -> Outcome<'a>
+    requires size { IsTrue (is_within words.size.groups words.size.meters words.size.rounds) }
+    requires least { 1 ≤ words.workers }
+    requires most { words.workers ≤ 16 }
+    ensures ends { LoadEnds (map (λ b. meaning b) cupboard.items) (size_in words.entry.size) (name_in words.entry.transcript) (D.view desk.old) (D.view desk.new) result }
+    ensures later { D.faults desk.old ≤ D.faults desk.new }
+    ensures cause { IsFault result → Rose (D.faults desk.old) (D.faults desk.new) }
+{
+    let size = words.size;
+    let made = match make(alloc, size.seed, size.groups, size.meters, size.rounds) {
+        Ok(made) => made,
+        Err(MakeError::Memory) => return Outcome::NoMemory,
+        Err(MakeError::Range) => unreachable!(),
+    };
+    let texts = match run_texts(
+        rt,
+        alloc,
+        &made.plan,
+        &made.readings,
+        cupboard,
+        words.workers,
+        gate,
+    ) {
+        Ok(texts) => texts,
+        Err(Refusal::Lane(fault)) => return Outcome::BadLane(fault),
+        Err(Refusal::Memory) => return Outcome::NoMemory,
+        Err(Refusal::Plan(_fault)) => unreachable!(),
+        Err(Refusal::Readings(_fault)) => unreachable!(),
+    };
+    match words.transcript {
+        None => say(texts.summary.as_slice(), desk),
+        Some(name) => {
+            let transcript = NewFile {
+                name,
+                bytes: texts.transcript.as_slice(),
+            };
+            put_one(transcript, texts.summary.as_slice(), desk)
+        }
+    }
+}

@@ -1,0 +1,50 @@
+//! The command `make`.
+
+ghost use Rattle.std.specs.Prelude.{◌≡◌, ◌≤◌, IsTrue, IfOk, string_bytes};
+ghost use Rattle.desk_outside.specs.Desk.{Rose};
+ghost use Rattle.load_maker.specs.Sizes.{is_within};
+ghost use Rattle.commands.specs.Commands.{size_in};
+ghost use Rattle.commands.specs.Ends.{made_line, MakeEnds};
+ghost use Rattle.commands.specs.Outcomes.{IsFault};
+
+use crate::desk_calls::{NewFile, put_two};
+use crate::outcome::Outcome;
+use crate::words::MakeWords;
+use desk_outside::Desk;
+use load_maker::{MakeError, make as make_files};
+use std::alloc::{AllocError, Global};
+
+// The line that says how many readings there are, present or not.
+#[tactic(auto, unfolding(crate::specs::Ends::made_line))]
+fn made_line(alloc: Global, readings: u64) -> Result<String, AllocError>
+    ensures { IfOk result (λ text. string_bytes text ≡ made_line readings) }
+{
+    format!(in alloc; "made: readings={readings}\n")
+}
+
+/// Makes the two files of a size, puts the plan and then the readings, and says how many readings there are.
+pub fn make<'a, D: Desk>(alloc: Global, words: MakeWords<'a>, desk: &mut D) -> Outcome<'a>
+    requires { IsTrue (is_within words.size.groups words.size.meters words.size.rounds) }
+    ensures ends { MakeEnds (size_in words.entry.size) words.entry.plan.now words.entry.readings.now (D.view desk.old) (D.view desk.new) result }
+    ensures later { D.faults desk.old ≤ D.faults desk.new }
+    ensures cause { IsFault result → Rose (D.faults desk.old) (D.faults desk.new) }
+{
+    let size = words.size;
+    let made = match make_files(alloc, size.seed, size.groups, size.meters, size.rounds) {
+        Ok(made) => made,
+        Err(MakeError::Memory) => return Outcome::NoMemory,
+        Err(MakeError::Range) => unreachable!(),
+    };
+    let Ok(line) = made_line(alloc, size.groups * size.meters * size.rounds) else {
+        return Outcome::NoMemory;
+    };
+    let plan = NewFile {
+        name: words.plan,
+        bytes: made.plan.as_slice(),
+    };
+    let readings = NewFile {
+        name: words.readings,
+        bytes: made.readings.as_slice(),
+    };
+    put_two(plan, readings, line.as_bytes(), desk)
+}

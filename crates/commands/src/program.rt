@@ -1,0 +1,117 @@
+//! The program, over any desk.
+
+ghost use Rattle.std.specs.Prelude.{◌≡◌, ◌↔◌, None, ◌≤◌, List, map, string_bytes};
+ghost use Rattle.desk_outside.specs.Desk.{Rose};
+ghost use Rattle.commands.specs.Words.{command_of};
+ghost use Rattle.commands.specs.Ends.{Ends};
+ghost use Rattle.commands.specs.Accepted.{AcceptedIsDone};
+ghost use Rattle.commands.specs.Audits.{RunsAreConfirmed};
+ghost use Rattle.commands.specs.Twins.{RunsAreRecorded};
+ghost use Rattle.commands.specs.Outcomes.{HasComplaint, Tells, status_of, IsFault};
+ghost use Rattle.commands.specs.Promise.{EndsAndTells};
+
+use crate::audit::audit;
+use crate::complaints::complaint;
+use crate::convert::convert;
+use crate::desk_calls::say;
+use crate::load::load;
+use crate::make::make;
+use crate::outcome::Outcome;
+use crate::run::run;
+use crate::twin::twin;
+use crate::usage::{USAGE, VERSION};
+use crate::words::{Command, parse};
+use collector_workers::Gate;
+use desk_outside::Desk;
+use link_lanes::Lane;
+use std::alloc::Global;
+use std::sync::Wait;
+use std::thread::Threads;
+
+// Does what the words ask for.
+fn perform<'a, R: Threads + Wait + Sync, D: Desk, G: Gate>(
+    rt: &R,
+    alloc: Global,
+    words: &'a [String],
+    desk: &mut D,
+    cupboard: Vec<Box<dyn Lane>>,
+    gate: &G,
+) -> Outcome<'a>
+    ensures ends { Ends (map (λ b. meaning b) cupboard.items) (command_of (map string_bytes words.now)) (D.view desk.old) (D.view desk.new) result }
+    ensures later { D.faults desk.old ≤ D.faults desk.new }
+    ensures cause { IsFault result → Rose (D.faults desk.old) (D.faults desk.new) }
+{
+    match parse(words) {
+        None => Outcome::BadWords,
+        Some(Command::Run(words)) => run(rt, alloc, words, desk, cupboard, gate),
+        Some(Command::Audit(files)) => audit(alloc, files, desk),
+        Some(Command::Twin(files)) => twin(alloc, files, desk),
+        Some(Command::Make(words)) => make(alloc, words, desk),
+        Some(Command::Load(words)) => load(rt, alloc, words, desk, cupboard, gate),
+        Some(Command::Convert(files)) => convert(alloc, files, desk),
+        Some(Command::Help) => say(USAGE.as_bytes(), desk),
+        Some(Command::Version) => say(VERSION.as_bytes(), desk),
+    }
+}
+
+// Complains of what was refused or failed, once at most.
+fn tell<D: Desk>(alloc: Global, outcome: &Outcome<'_>, desk: &mut D)
+    requires { HasComplaint outcome.now }
+    ensures ends { Tells outcome.now (D.view desk.old) (D.view desk.new) }
+    ensures later { D.faults desk.old ≤ D.faults desk.new }
+{
+    if let Outcome::Done = *outcome {
+        return;
+    }
+    let Ok(text) = complaint(alloc, outcome) else {
+        return;
+    };
+    let _ = desk.complain(&text);
+}
+
+fn status(outcome: &Outcome<'_>) -> u8
+    ensures { result ≡ status_of outcome.now }
+{
+    match outcome {
+        Outcome::Done => 0,
+        Outcome::NoMemory => 1,
+        Outcome::BadWords => 2,
+        Outcome::CannotRead(_) | Outcome::TooLong(_) => 3,
+        Outcome::CannotWrite(_) | Outcome::CannotPrint => 4,
+        Outcome::BadPlan(_, _) => 5,
+        Outcome::BadReadings(_, _) => 6,
+        Outcome::BadTranscript(_, _)
+        | Outcome::BadReport(_, _)
+        | Outcome::Impossible(_, _)
+        | Outcome::OtherPlan(_)
+        | Outcome::OtherLine { .. } => 7,
+        Outcome::OtherPresence { .. } | Outcome::OtherTotal { .. } => 8,
+        Outcome::OtherRow { .. } => 9,
+        Outcome::BadLane(_) => 10,
+    }
+}
+
+/// Does what the words ask for on the desk, with the lanes of the cupboard, complains where that fails, and answers the
+/// status: 0 done, 1 no memory, 2 bad words, 3 a file that cannot be read or is longer than 2^28 bytes, 4 a file or an
+/// output that cannot be written, 5 a bad plan, 6 bad readings, 7 a text that is no transcript or no report, or a
+/// transcript that is impossible or isn't that of these files, 8 readings that don't agree, 9 a report that is not what the
+/// frames give, 10 a lane row that gets no lane.
+pub fn meteragg<R: Threads + Wait + Sync, D: Desk, G: Gate>(
+    rt: &R,
+    alloc: Global,
+    words: &[String],
+    desk: &mut D,
+    cupboard: Vec<Box<dyn Lane>>,
+    gate: &G,
+) -> u8
+    ensures ends { EndsAndTells (map (λ b. meaning b) cupboard.items) (command_of (map string_bytes words.now)) (D.view desk.old) (D.view desk.new) (D.faults desk.old) (D.faults desk.new) result }
+    ensures accepted { AcceptedIsDone (map (λ b. meaning b) cupboard.items) (command_of (map string_bytes words.now)) (D.view desk.old) (D.faults desk.old) (D.faults desk.new) result }
+    // The audit finds no fault in what a run stores, and what a run stores is the record of its readings under its keys.
+    ensures confirmed { RunsAreConfirmed }
+    ensures recorded { RunsAreRecorded }
+    ensures words { (result ≡ 2) ↔ (command_of (map string_bytes words.now) ≡ None) }
+{
+    let outcome = perform(rt, alloc, words, desk, cupboard, gate);
+    tell(alloc, &outcome, desk);
+    status(&outcome)
+}

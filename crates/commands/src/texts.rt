@@ -1,0 +1,99 @@
+//! What `run` makes of the bytes of its two files.
+
+ghost use Rattle.std.specs.Prelude.{◌≤◌, ◌^◌, length, map, IfOk};
+ghost use Rattle.commands.specs.RunTexts.{TextsEnd, AreTextsOf, texts_of};
+
+use collector_workers::Gate;
+use link_lanes::{Lane, Rack, RackCause, RackError};
+use plan_files::{FileCause, FileError, read_plan, read_readings};
+use std::alloc::{AllocError, Global};
+use std::sync::Wait;
+use std::thread::Threads;
+use tick_run::{Finished, RunError, run_plan};
+use totals_report::{report, summary};
+use transcript_text::write;
+
+/// The texts of a run.
+#[derive(Debug, Drop)]
+pub struct RunTexts {
+    pub transcript: Vec<u8>,
+    pub report: Vec<u8>,
+    pub summary: Vec<u8>,
+}
+
+/// Why there is no run.
+#[derive(Clone, Copy, Debug, PartialEq, Eq)]
+pub enum Refusal {
+    /// The plan file has this fault.
+    Plan(FileError),
+    /// A lane row of the plan file gets no lane.
+    Lane(RackError),
+    /// The readings file has this fault.
+    Readings(FileError),
+    /// Memory ran out.
+    Memory,
+}
+
+// The texts of a finished run. The book goes before the longest text is written, so that both needn't fit.
+fn finished_texts(alloc: Global, finished: Finished) -> Result<RunTexts, AllocError>
+    ensures { IfOk result (λ kept. AreTextsOf finished.book finished.transcript (texts_of kept)) }
+{
+    let Finished { book, transcript } = finished;
+    let report = report(alloc, &book)?;
+    let summary = summary(alloc, &book)?;
+    drop(book);
+    Ok(RunTexts {
+        transcript: write(alloc, &transcript)?,
+        report,
+        summary,
+    })
+}
+
+/// The texts of a run of the values of the two files.
+pub fn run_texts<R: Threads + Wait + Sync, G: Gate>(
+    rt: &R,
+    alloc: Global,
+    plan_bytes: &[u8],
+    readings_bytes: &[u8],
+    cupboard: Vec<Box<dyn Lane>>,
+    workers: u32,
+    gate: &G,
+) -> Result<RunTexts, Refusal>
+    requires plan { length plan_bytes.now ≤ 2 ^ 28 }
+    requires readings { length readings_bytes.now ≤ 2 ^ 28 }
+    requires least { 1 ≤ workers }
+    requires most { workers ≤ 16 }
+    ensures { TextsEnd (map (λ b. meaning b) cupboard.items) plan_bytes.now readings_bytes.now result }
+{
+    let file = match read_plan(alloc, plan_bytes) {
+        Ok(file) => file,
+        Err(fault) => match fault.cause {
+            FileCause::Memory => return Err(Refusal::Memory),
+            _ => return Err(Refusal::Plan(fault)),
+        },
+    };
+    let mut rack = match Rack::fit(alloc, cupboard, file.lanes.as_slice()) {
+        Ok(rack) => rack,
+        Err(fault) => match fault.cause {
+            RackCause::Memory => return Err(Refusal::Memory),
+            _ => return Err(Refusal::Lane(fault)),
+        },
+    };
+    let readings = match read_readings(alloc, &file.plan, readings_bytes) {
+        Ok(readings) => readings,
+        Err(fault) => match fault.cause {
+            FileCause::Memory => return Err(Refusal::Memory),
+            _ => return Err(Refusal::Readings(fault)),
+        },
+    };
+    let finished = match run_plan(
+        rt, alloc, &file.plan, &readings, &file.keys, &mut rack, workers, gate,
+    ) {
+        Ok(finished) => finished,
+        Err(RunError::Memory) => return Err(Refusal::Memory),
+    };
+    match finished_texts(alloc, finished) {
+        Ok(texts) => Ok(texts),
+        Err(AllocError) => Err(Refusal::Memory),
+    }
+}

@@ -1,0 +1,401 @@
+//! The words of the command line.
+
+ghost use Rattle.std.specs.Prelude.{◌≡◌, ◌≤◌, ℕ, List, None, Some, IfSome, MatchOption, map, string_bytes};
+ghost use Rattle.commands.specs.Words.{Run, Audit, Twin, Make, Load, Convert, Help, Version, has_name, are_names, names_of, workers_of, run_with, run_of, size_of, audit_of, twin_with, twin_of, make_of, load_with, load_of, convert_of, alone, asks_help, asks_version, command_by, command_of};
+ghost use Rattle.commands.specs.Commands.{twin_names_of, size_in, name_in, asked, IsSize, IsWithin};
+
+use field_texts::{read_number, read_number_within};
+use load_maker::is_within;
+
+/// The number of workers where the words name none.
+const USUAL_WORKERS: u32 = 4;
+
+/// The greatest number of workers.
+const MOST_WORKERS: u64 = 16;
+
+/// The names of the files of `run`.
+#[derive(Clone, Copy, Debug)]
+pub struct RunFiles<'a> {
+    pub plan: &'a str,
+    pub readings: &'a str,
+    pub report: &'a str,
+    pub transcript: &'a str,
+}
+
+/// `run PLAN READINGS REPORT TRANSCRIPT [WORKERS]`.
+#[derive(Clone, Copy, Debug)]
+pub struct RunWords<'a> {
+    pub files: RunFiles<'a>,
+    /// 1 to 16.
+    pub workers: u32,
+}
+
+/// The names of the files of `audit`.
+#[derive(Clone, Copy, Debug)]
+pub struct AuditFiles<'a> {
+    pub transcript: &'a str,
+    pub report: &'a str,
+}
+
+/// The names of the files of `twin`.
+#[derive(Clone, Copy, Debug)]
+pub struct TwinFiles<'a> {
+    pub plan: &'a str,
+    pub readings: &'a str,
+    pub other: &'a str,
+    pub transcript: &'a str,
+    pub masks: &'a str,
+}
+
+/// A size of made files.
+#[derive(Clone, Copy, Debug)]
+pub struct Size {
+    pub seed: u64,
+    /// 1 to 256.
+    pub groups: u64,
+    /// Of each group: 2 to 256.
+    pub meters: u64,
+    /// 1 to 4096.
+    pub rounds: u64,
+}
+
+/// `make SEED GROUPS METERS ROUNDS PLAN READINGS`.
+#[derive(Clone, Copy, Debug)]
+pub struct MakeWords<'a> {
+    pub size: Size,
+    pub plan: &'a str,
+    pub readings: &'a str,
+}
+
+/// `load SEED GROUPS METERS ROUNDS WORKERS [TRANSCRIPT]`.
+#[derive(Clone, Copy, Debug)]
+pub struct LoadWords<'a> {
+    pub size: Size,
+    /// 1 to 16.
+    pub workers: u32,
+    pub transcript: Option<&'a str>,
+}
+
+/// The names of the files of `convert`.
+#[derive(Clone, Copy, Debug)]
+pub struct ConvertFiles<'a> {
+    pub old: &'a str,
+    pub transcript: &'a str,
+}
+
+/// What the words ask for.
+#[derive(Clone, Copy, Debug)]
+pub enum Command<'a> {
+    /// Runs the values of the plan file and the readings file.
+    Run(RunWords<'a>),
+    /// Checks a report against a transcript.
+    Audit(AuditFiles<'a>),
+    /// Shows the mask words under which other readings give the same transcript.
+    Twin(TwinFiles<'a>),
+    /// Makes the two files of a size.
+    Make(MakeWords<'a>),
+    /// Runs the files of a size in memory.
+    Load(LoadWords<'a>),
+    /// Brings a transcript of version 1 up to version 2.
+    Convert(ConvertFiles<'a>),
+    /// Says the usage.
+    Help,
+    /// Says the program's name and version.
+    Version,
+}
+
+// Whether some of the names is this one.
+fn has_name(names: &[&str], name: &str) -> bool
+    ensures { result ≡ has_name name.now (map (λ other. other.now) names.now) }
+{
+    match names {
+        [] => false,
+        [first, rest @ ..] => *first == name || has_name(rest, name),
+    }
+}
+
+// Whether each word is a name, and no two are the same.
+fn are_names(names: &[&str]) -> bool
+    ensures { result ≡ are_names (map (λ name. name.now) names.now) }
+{
+    match names {
+        [] => true,
+        [first, rest @ ..] => !first.is_empty() && !has_name(rest, first) && are_names(rest),
+    }
+}
+
+// A number of workers.
+fn workers(word: &str) -> Option<u32>
+    ensures value { result ≡ workers_of word.now }
+    ensures few { IfSome result (λ n. (1 ≤ n) × (n ≤ 16)) }
+{
+    let workers = read_number_within(word.as_bytes(), 1, MOST_WORKERS + 1)?;
+    Some(workers as u32)
+}
+
+// `run` with these files and so many workers, where the words are names.
+#[tactic(auto, unfolding(crate::specs::Words::run_with))]
+fn run_with<'a>(
+    plan: &'a str,
+    readings: &'a str,
+    report: &'a str,
+    transcript: &'a str,
+    workers: u32,
+) -> Option<RunWords<'a>>
+    ensures command { MatchOption result (run_with plan.now readings.now report.now transcript.now workers ≡ None)
+        (λ run. run_with plan.now readings.now report.now transcript.now workers ≡ Some (Run (names_of run.files) run.workers)) }
+    ensures workers { IfSome result (λ run. run.workers ≡ workers) }
+{
+    if are_names(&[plan, readings, report, transcript]) {
+        let files = RunFiles {
+            plan,
+            readings,
+            report,
+            transcript,
+        };
+        Some(RunWords { files, workers })
+    } else {
+        None
+    }
+}
+
+// `run` by the words behind the verb.
+fn run_words(words: &[String]) -> Option<RunWords<'_>>
+    ensures command { MatchOption result (run_of (map string_bytes words.now) ≡ None)
+        (λ run. run_of (map string_bytes words.now) ≡ Some (Run (names_of run.files) run.workers)) }
+    ensures workers { IfSome result (λ run. (1 ≤ run.workers) × (run.workers ≤ 16)) }
+{
+    match words {
+        [plan, readings, report, transcript] => {
+            run_with(plan, readings, report, transcript, USUAL_WORKERS)
+        }
+        [plan, readings, report, transcript, number] => {
+            let workers = workers(number)?;
+            run_with(plan, readings, report, transcript, workers)
+        }
+        _ => None,
+    }
+}
+
+// `audit` by the words behind the verb.
+#[tactic(auto, unfolding(crate::specs::Words::audit_with))]
+fn audit_words(words: &[String]) -> Option<AuditFiles<'_>>
+    ensures { MatchOption result (audit_of (map string_bytes words.now) ≡ None)
+        (λ files. audit_of (map string_bytes words.now) ≡ Some (Audit files.transcript.now files.report.now)) }
+{
+    match words {
+        [transcript, report] => {
+            if are_names(&[transcript, report]) {
+                Some(AuditFiles { transcript, report })
+            } else {
+                None
+            }
+        }
+        _ => None,
+    }
+}
+
+// `twin` with these files, where the words are names.
+#[tactic(auto, unfolding(crate::specs::Words::twin_with))]
+fn twin_with<'a>(
+    plan: &'a str,
+    readings: &'a str,
+    other: &'a str,
+    transcript: &'a str,
+    masks: &'a str,
+) -> Option<TwinFiles<'a>>
+    ensures { MatchOption result (twin_with plan.now readings.now other.now transcript.now masks.now ≡ None)
+        (λ files. twin_with plan.now readings.now other.now transcript.now masks.now ≡ Some (Twin (twin_names_of files))) }
+{
+    if are_names(&[plan, readings, other, transcript, masks]) {
+        Some(TwinFiles {
+            plan,
+            readings,
+            other,
+            transcript,
+            masks,
+        })
+    } else {
+        None
+    }
+}
+
+// `twin` by the words behind the verb.
+fn twin_words(words: &[String]) -> Option<TwinFiles<'_>>
+    ensures { MatchOption result (twin_of (map string_bytes words.now) ≡ None)
+        (λ files. twin_of (map string_bytes words.now) ≡ Some (Twin (twin_names_of files))) }
+{
+    match words {
+        [plan, readings, other, transcript, masks] => {
+            twin_with(plan, readings, other, transcript, masks)
+        }
+        _ => None,
+    }
+}
+
+// The size that four words spell.
+#[tactic(auto, unfolding(crate::specs::Words::size_of))]
+fn read_size(seed: &str, groups: &str, meters: &str, rounds: &str) -> Option<Size>
+    ensures value { MatchOption result (size_of seed.now groups.now meters.now rounds.now ≡ None) (λ size. size_of seed.now groups.now meters.now rounds.now ≡ Some (size_in size)) }
+    ensures within { IfSome result (λ size. IsSize size) }
+{
+    let seed = read_number(seed.as_bytes())?;
+    let groups = read_number(groups.as_bytes())?;
+    let meters = read_number(meters.as_bytes())?;
+    let rounds = read_number(rounds.as_bytes())?;
+    if is_within(groups, meters, rounds) {
+        Some(Size {
+            seed,
+            groups,
+            meters,
+            rounds,
+        })
+    } else {
+        None
+    }
+}
+
+// `make` by the words behind the verb.
+#[tactic(auto, unfolding(crate::specs::Words::make_with))]
+fn make_words(words: &[String]) -> Option<MakeWords<'_>>
+    ensures command { MatchOption result (make_of (map string_bytes words.now) ≡ None)
+        (λ make. make_of (map string_bytes words.now) ≡ Some (Make (size_in make.size) make.plan.now make.readings.now)) }
+    ensures within { IfSome result (λ make. IsSize make.size) }
+{
+    match words {
+        [seed, groups, meters, rounds, plan, readings] => {
+            let size = read_size(seed, groups, meters, rounds)?;
+            if are_names(&[plan, readings]) {
+                Some(MakeWords {
+                    size,
+                    plan,
+                    readings,
+                })
+            } else {
+                None
+            }
+        }
+        _ => None,
+    }
+}
+
+// `load` with a size, a number of workers, and the name of a transcript where there is one.
+#[tactic(auto, unfolding(crate::specs::Words::load_with))]
+fn load_with<'a>(size: Size, workers: u32, transcript: Option<&'a str>) -> Option<LoadWords<'a>>
+    ensures command { MatchOption result (load_with (name_in transcript.entry) (size_in size) workers ≡ None)
+        (λ load. load_with (name_in transcript.entry) (size_in size) workers ≡ Some (Load (size_in load.size) load.workers (name_in load.transcript))) }
+    ensures size { IfSome result (λ load. load.size ≡ size) }
+    ensures workers { IfSome result (λ load. load.workers ≡ workers) }
+{
+    match transcript {
+        Some(name) if name.is_empty() => None,
+        _ => Some(LoadWords {
+            size,
+            workers,
+            transcript,
+        }),
+    }
+}
+
+// `load` by the words behind the verb.
+fn load_words(words: &[String]) -> Option<LoadWords<'_>>
+    ensures command { MatchOption result (load_of (map string_bytes words.now) ≡ None)
+        (λ load. load_of (map string_bytes words.now) ≡ Some (Load (size_in load.size) load.workers (name_in load.transcript))) }
+    ensures within { IfSome result (λ load. IsSize load.size × (1 ≤ load.workers) × (load.workers ≤ 16)) }
+{
+    match words {
+        [seed, groups, meters, rounds, number] => {
+            let size = read_size(seed, groups, meters, rounds)?;
+            let workers = workers(number)?;
+            load_with(size, workers, None)
+        }
+        [seed, groups, meters, rounds, number, transcript] => {
+            let size = read_size(seed, groups, meters, rounds)?;
+            let workers = workers(number)?;
+            load_with(size, workers, Some(transcript))
+        }
+        _ => None,
+    }
+}
+
+// `convert` by the words behind the verb.
+#[tactic(auto, unfolding(crate::specs::Words::convert_with))]
+fn convert_words(words: &[String]) -> Option<ConvertFiles<'_>>
+    ensures { MatchOption result (convert_of (map string_bytes words.now) ≡ None)
+        (λ files. convert_of (map string_bytes words.now) ≡ Some (Convert files.old.now files.transcript.now)) }
+{
+    match words {
+        [old, transcript] => {
+            if are_names(&[old, transcript]) {
+                Some(ConvertFiles { old, transcript })
+            } else {
+                None
+            }
+        }
+        _ => None,
+    }
+}
+
+// Whether the word asks for the usage.
+fn asks_help(verb: &str) -> bool
+    ensures { result ≡ asks_help verb.now }
+{
+    verb == "help" || verb == "--help" || verb == "-h"
+}
+
+// Whether the word asks for the version.
+fn asks_version(verb: &str) -> bool
+    ensures { result ≡ asks_version verb.now }
+{
+    verb == "version" || verb == "--version" || verb == "-V"
+}
+
+// A command that has no words.
+fn alone<'a>(command: Command<'a>, words: &'a [String]) -> Option<Command<'a>>
+    ensures { MatchOption result (alone (asked command.entry) (map string_bytes words.now) ≡ None) (λ it. alone (asked command.entry) (map string_bytes words.now) ≡ Some (asked it)) }
+{
+    match words {
+        [] => Some(command),
+        _ => None,
+    }
+}
+
+// The command of a verb and the words behind it.
+#[tactic(auto, unfolding(crate::specs::Words::command_by))]
+fn command_by<'a>(verb: &str, words: &'a [String]) -> Option<Command<'a>>
+    ensures command { MatchOption result (command_by verb.now (map string_bytes words.now) ≡ None)
+        (λ command. command_by verb.now (map string_bytes words.now) ≡ Some (asked command)) }
+    ensures within { IfSome result (λ command. IsWithin command) }
+{
+    if verb == "run" {
+        Some(Command::Run(run_words(words)?))
+    } else if verb == "audit" {
+        Some(Command::Audit(audit_words(words)?))
+    } else if verb == "twin" {
+        Some(Command::Twin(twin_words(words)?))
+    } else if verb == "make" {
+        Some(Command::Make(make_words(words)?))
+    } else if verb == "load" {
+        Some(Command::Load(load_words(words)?))
+    } else if verb == "convert" {
+        Some(Command::Convert(convert_words(words)?))
+    } else if asks_help(verb) {
+        alone(Command::Help, words)
+    } else if asks_version(verb) {
+        alone(Command::Version, words)
+    } else {
+        None
+    }
+}
+
+/// The command that the words are, if they are one.
+pub fn parse(words: &[String]) -> Option<Command<'_>>
+    ensures command { MatchOption result (command_of (map string_bytes words.now) ≡ None)
+        (λ command. command_of (map string_bytes words.now) ≡ Some (asked command)) }
+    ensures within { IfSome result (λ command. IsWithin command) }
+{
+    match words {
+        [] => None,
+        [verb, rest @ ..] => command_by(verb, rest),
+    }
+}
