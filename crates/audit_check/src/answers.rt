@@ -1,3 +1,5 @@
+//! What an audit answers: the counts of a confirmed report, or why the frames do not confirm it.
+
 use std::alloc::{AllocError, AllocFailed};
 use totals_report::ReportRow;
 

@@ -1,3 +1,5 @@
+//! The audit: the lines of a transcript replayed, and the rows that they give compared with those of a report.
+
 ghost use Rattle.std.specs.Prelude.{◌≡◌, ◌<◌, ◌^◌, length, All};
 ghost use Rattle.transcript_log.specs.Events.{lines_of};
 ghost use Rattle.transcript_text.specs.Transcripts.{Fits};

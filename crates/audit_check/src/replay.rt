@@ -22,6 +22,7 @@ pub(crate) struct Replay {
     answered: Vec<MeterSet>,
 }
 
+// The place of a round among those of all groups, counted from 0.
 fn page_at(plan: &Plan, group: u16, round: u32) -> usize
     requires { IsTrue (is_round plan.now group round) }
     ensures at { result ≡ page_at plan.now group round }
@@ -30,6 +31,7 @@ fn page_at(plan: &Plan, group: u16, round: u32) -> usize
     group as usize * plan.rounds() as usize + round as usize
 }
 
+// An empty set for each of so many rounds.
 fn no_answers_of(alloc: Global, rounds: usize) -> Result<Vec<MeterSet>, AllocError>
     ensures { IfOk result (λ answered. answered.items ≡ replicate rounds []) }
 {

@@ -16,6 +16,7 @@ use mod_word::Word;
 /// The most that one reading can be, in watt-hours.
 const MOST: u64 = (1 << 40) - 1;
 
+// The word of a posted frame; a meter that sent none counts for nothing.
 fn word_or_zero(posted: Option<Frame>) -> Word
     ensures { result ≡ word_or_zero posted }
 {

@@ -58,6 +58,7 @@ fn add_rows<M: Masks>(masks: &M, group: u16, round: u32, members: &MeterSet, sum
     }
 }
 
+// The sums before any word is added.
 fn zeros(alloc: Global, count: usize) -> Result<Vec<u64>, AllocError>
     ensures { IfOk result (λ zeros. zeros.items ≡ replicate count 0) }
 {

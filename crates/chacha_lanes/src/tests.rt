@@ -1,3 +1,5 @@
+//! Mask words made eight at a time, compared with those of one key by itself.
+
 use crate::{WordRow, stream_word};
 
 fn key_ending_in(last: u8) -> [u8; 32] {

@@ -1,3 +1,5 @@
+//! A gate before each commit of a worker, so that a test can choose who goes first.
+
 /// What each worker calls before each of its commits. It has no effect on any answer.
 pub trait Gate: Sync {
     /// Called by a worker; workers are numbered from 1.

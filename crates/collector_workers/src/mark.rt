@@ -1,3 +1,5 @@
+//! What a batch answers: the book, and what became of each parcel.
+
 use group_book::{Book, TakeError};
 use meter_frames::FrameError;
 use shared_book::Reply;

@@ -1,4 +1,5 @@
-// The outside, as a program sees it.
+//! The outside, as a program sees it.
+
 ghost use Rattle.std.specs.Prelude.{◌≡◌, ◌≤◌, ◌<◌, ◌^◌, ℕ, IfOk, IsErrOf};
 ghost use Rattle.desk_outside.specs.Desk.{View, FetchEnds, PutEnds, SayEnds, ComplainEnds, Rose};
 
@@ -9,9 +10,13 @@ use thiserror::Error;
 /// A desk's four kinds of calls.
 #[derive(Clone, Copy, Debug, PartialEq, Eq)]
 pub enum DeskKind {
+    /// The bytes under a name were asked for.
     Fetch,
+    /// Bytes were put under a name.
     Put,
+    /// Bytes were printed.
     Say,
+    /// Bytes were printed as a complaint.
     Complain,
 }
 
@@ -30,6 +35,7 @@ impl Model for CallName {
 }
 
 impl CallName {
+    /// The name of a call; an error where memory runs out.
     pub(crate) fn new(alloc: Global, name: &str) -> Result<CallName, AllocError>
         ensures { IfOk result (λ made. made ≡ name.now) }
     {
@@ -64,6 +70,7 @@ pub enum FetchError {
     /// There are more bytes than were asked for; the number is one above those.
     #[error("too long, with {0} bytes or more")]
     TooLong(u64),
+    /// Memory ran out.
     #[error("no memory")]
     Memory,
 }
@@ -74,6 +81,7 @@ pub enum DeskError {
     /// The outside failed, perhaps after some of the bytes.
     #[error("cannot write")]
     Failed,
+    /// Memory ran out.
     #[error("no memory")]
     Memory,
 }

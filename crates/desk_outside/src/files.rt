@@ -1,4 +1,5 @@
-// The desk over files and the standard streams, of which it tells nothing.
+//! The desk over files and the standard streams, of which it tells nothing.
+
 ghost use Rattle.std.specs.Prelude.{◌≡◌, ◌≤◌, ◌<◌, ◌^◌, IsErrOf};
 ghost use Rattle.desk_outside.specs.Desk.{FetchEnds, PutEnds, SayEnds, ComplainEnds, Rose, one_more, untold};
 
@@ -29,6 +30,7 @@ pub struct FileDesk<'r, R> {
 impl<'r, R: Files + Print + Eprint + AllocGlobal> FileDesk<'r, R> {
     ghost use Rattle.desk_outside.specs.Files.{faults_of};
 
+    /// A desk that has fetched nothing and counts no fault.
     pub fn new(rt: &'r R) -> FileDesk<'r, R>
         ensures { faults_of result ≡ 0 }
     {

@@ -1,4 +1,5 @@
-// The desk in memory, which tells everything and fails where it is told to.
+//! The desk in memory, which tells everything and fails where it is told to.
+
 ghost use Rattle.std.specs.Prelude.{◌≡◌, ◌≤◌, ◌<◌, ◌^◌, ◌||◌, ◌++◌, if◌then◌else◌, ℕ, List, [], true, false, Some, None, OnOk, OnErr, IsErrOf};
 ghost use Rattle.std.specs.Option.{option_copied};
 ghost use Rattle.std.specs.Str.{bytes_eq};

@@ -1,4 +1,5 @@
-// Whole files: the bytes go into a new file beside the name, which takes the name once all of them are there.
+//! Whole files: the bytes go into a new file beside the name, which takes the name once all of them are there.
+
 use std::alloc::Global;
 use std::fs::{Metadata, OpenFile, OpenOptions, Permissions};
 use std::io::{ErrorKind, Write};
@@ -18,6 +19,7 @@ pub(crate) struct FileId {
 }
 
 impl FileId {
+    /// The file that these metadata are of.
     pub(crate) fn of(metadata: &Metadata) -> FileId {
         FileId {
             device: metadata.dev(),

@@ -1,3 +1,5 @@
+//! What a book answers to a Send and to a Take, and what a round comes to.
+
 use meter_frames::Frame;
 use missing_round::MeterSet;
 

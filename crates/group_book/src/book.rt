@@ -235,6 +235,7 @@ impl Book {
         }
     }
 
+    // The page of a round.
     fn page(&self, group: u16, round: u32) -> &Page
         requires { IsTrue (has_round self.now group round) }
         ensures page { IsPage (shape_of self.now) group round result.now self.now.journal }

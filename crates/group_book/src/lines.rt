@@ -16,6 +16,7 @@ type Parts = (
     Option<Ending>,
 );
 
+/// Adds the line of a Send, with no frame where it had no effect.
 pub(crate) fn add_send(journal: &mut Vec<Line>, tag: Tag, frame: Option<Frame>)
     requires { vec_len journal.old < vec_capacity journal.old }
     ensures lines { journal.new.items ≡ journal.old.items ++ SendLine tag frame ∷ [] }
@@ -25,6 +26,7 @@ pub(crate) fn add_send(journal: &mut Vec<Line>, tag: Tag, frame: Option<Frame>)
     journal.push_reserved(Line::Send { tag, frame });
 }
 
+/// Adds the line of a Take with its verdict.
 pub(crate) fn add_take(journal: &mut Vec<Line>, tag: Tag, verdict: Verdict)
     requires { vec_len journal.old < vec_capacity journal.old }
     ensures lines { journal.new.items ≡ journal.old.items ++ TakeLine tag verdict ∷ [] }
@@ -34,6 +36,7 @@ pub(crate) fn add_take(journal: &mut Vec<Line>, tag: Tag, verdict: Verdict)
     journal.push_reserved(Line::Take { tag, verdict });
 }
 
+/// Adds the line of a Close.
 pub(crate) fn add_close(journal: &mut Vec<Line>, group: u16, round: u32, closing: &Closing)
     requires { vec_len journal.old < vec_capacity journal.old }
     ensures lines { journal.new.items ≡ journal.old.items ++ CloseLine group round closing.now ∷ [] }
@@ -47,6 +50,7 @@ pub(crate) fn add_close(journal: &mut Vec<Line>, group: u16, round: u32, closing
     });
 }
 
+/// Adds the line of an End.
 pub(crate) fn add_end(journal: &mut Vec<Line>, group: u16, round: u32, ending: &Ending)
     requires { vec_len journal.old < vec_capacity journal.old }
     ensures lines { journal.new.items ≡ journal.old.items ++ EndLine group round ending.now ∷ [] }

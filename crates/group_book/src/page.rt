@@ -38,6 +38,7 @@ impl Model for Page {
 }
 
 impl Page {
+    /// A round that is open and has taken no frame.
     pub fn new(members: MeterSet, floor: u16) -> Page
         requires least { 2 ≤ floor }
         requires most { floor ≤ 256 }
@@ -102,6 +103,7 @@ impl Page {
         Verdict::Fresh
     }
 
+    /// Closes the round, and keeps the missing set where it is announced.
     pub fn close(&mut self) -> Closing
         ensures round { Closes self.old.round result self.new.round }
         ensures told { self.new.told ≡ self.old.told }
@@ -113,6 +115,7 @@ impl Page {
         closing
     }
 
+    /// Ends the round, and keeps what it came to.
     pub fn end(&mut self) -> Ending
         ensures round { Ends self.old.round result self.new.round }
         ensures told { self.new.told ≡ self.old.told }

@@ -6,12 +6,14 @@ ghost use Rattle.group_book.specs.Places.{is_round, all_rounds, page_at, kind_nu
 
 use group_plan::{Kind, Plan, Tag};
 
+/// Whether the plan has this group and round.
 pub(crate) fn is_round(plan: &Plan, group: u16, round: u32) -> bool
     ensures { result ≡ is_round plan.now group round }
 {
     (group as usize) < plan.groups().len() && round < plan.rounds()
 }
 
+/// The place of a round's page, counted from 0: rounds stand one after another by groups.
 pub(crate) fn page_at(plan: &Plan, group: u16, round: u32) -> usize
     requires { IsTrue (is_round plan.now group round) }
     ensures at { result ≡ page_at plan.now group round }
@@ -20,6 +22,7 @@ pub(crate) fn page_at(plan: &Plan, group: u16, round: u32) -> usize
     group as usize * plan.rounds() as usize + round as usize
 }
 
+// The order in which frames are kept: readings, announcements, answers.
 fn kind_number(kind: Kind) -> usize
     ensures number { result ≡ kind_number kind }
     ensures within { result < 3 }
@@ -31,6 +34,7 @@ fn kind_number(kind: Kind) -> usize
     }
 }
 
+/// The place of a tag's frame, counted from 0: kinds one after another, and in each by places.
 pub(crate) fn frame_at(plan: &Plan, tag: Tag) -> usize
     requires { IsTrue (is_place plan.now tag.group tag.round tag.meter) }
     ensures at { result ≡ frame_at plan.now tag.group tag.round tag.meter tag.kind }

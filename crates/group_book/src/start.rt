@@ -34,6 +34,7 @@ fn floor_of(plan: &Plan, group: u16) -> u16
     plan.groups()[group as usize].floor as u16
 }
 
+// The page with which a round begins.
 fn first_page(plan: &Plan, group: u16, round: u32) -> Page
     requires { IsTrue (is_round plan.now group round) }
     ensures { result ≡ first_page plan.now group round }
@@ -51,6 +52,7 @@ fn first_page_at(plan: &Plan, at: usize) -> Page
     first_page(plan, (at / rounds) as u16, (at % rounds) as u32)
 }
 
+/// The pages with which a book begins, one after another by groups.
 pub(crate) fn first_pages(alloc: Global, plan: &Plan) -> Result<Vec<Page>, AllocError>
     ensures limits { OnOk result (IsWithinLimits plan.now) }
     ensures pages { IfOk result (λ pages. pages.items ≡ map (first_page_at plan.now) (range_with_len 0 (all_rounds plan.now))) }
@@ -63,12 +65,14 @@ pub(crate) fn first_pages(alloc: Global, plan: &Plan) -> Result<Vec<Page>, Alloc
     Ok(pages)
 }
 
+// No frame for so many tags.
 fn no_frames_of(alloc: Global, tags: usize) -> Result<Vec<Option<Frame>>, AllocError>
     ensures { IfOk result (λ frames. frames.items ≡ replicate tags None) }
 {
     vec![in alloc; None; tags]
 }
 
+/// No frame under any tag of the plan.
 pub(crate) fn no_frames(alloc: Global, plan: &Plan) -> Result<Vec<Option<Frame>>, AllocError>
     ensures { IfOk result (λ frames. frames.items ≡ replicate (all_tags plan.now) None) }
 {

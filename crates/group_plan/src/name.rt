@@ -1,3 +1,5 @@
+//! The name of a group.
+
 ghost use Rattle.std.specs.Prelude.{◌≡◌, IsTrue};
 ghost use Rattle.std.specs.List.{list_all};
 ghost use Rattle.group_plan.specs.Names.{is_name, is_name_byte, MakesName};

@@ -1,3 +1,5 @@
+//! Plans within their limits, and the numbers of their meters and places.
+
 ghost use Rattle.std.specs.Prelude.{◌≡◌, ◌<◌, ◌≤◌, ◌^◌, IsTrue, None, IfOk, IfSome, length, map, position, replicate};
 ghost use Rattle.std.specs.List.{All};
 ghost use Rattle.group_plan.specs.Plans.{IsWithinLimits, is_place, is_member, holds, last_tick, size, all_meters, pairs as pairs_among};
@@ -89,6 +91,7 @@ impl Model for Rounds {
 }
 
 impl Rounds {
+    /// Whether the span has the round.
     fn holds(&self, round: u32) -> bool
         ensures { result ≡ holds self.now round }
     {
@@ -121,6 +124,7 @@ impl Model for Plan {
     ghost invariant = { KeepsPlan };
 }
 
+/// Whether the number of groups is within the limits.
 fn check_count(groups: &[GroupPlan]) -> Result<(), PlanError>
     ensures checked { Finds (wrong_count groups.now) result }
     ensures few { IfOk result (λ _. length groups.now ≤ 256) }
@@ -134,6 +138,7 @@ fn check_count(groups: &[GroupPlan]) -> Result<(), PlanError>
     Ok(())
 }
 
+/// The first group of this name.
 fn position_of_name(groups: &[GroupPlan], name: &[u8]) -> Option<usize>
     requires { length groups.now ≤ 256 }
     ensures found { result ≡ position_of_name name.now groups.now }
@@ -142,6 +147,7 @@ fn position_of_name(groups: &[GroupPlan], name: &[u8]) -> Option<usize>
     groups.iter().position(|group| group.name.bytes() == name)
 }
 
+/// Whether no two groups have one name.
 #[tactic(auto, using(crate::proofs::Faults::same_name_more, crate::proofs::Faults::same_name_found, crate::proofs::Faults::same_name_end))]
 fn check_names(groups: &[GroupPlan]) -> Result<(), PlanError>
     requires { length groups.now ≤ 256 }
@@ -164,6 +170,7 @@ fn position_of_wrong_meters(groups: &[GroupPlan]) -> Option<usize>
     groups.iter().position(|group| group.has_wrong_meters())
 }
 
+/// Whether each group has as many meters as it may.
 fn check_meters(groups: &[GroupPlan]) -> Result<(), PlanError>
     requires { length groups.now ≤ 256 }
     ensures checked { Finds (wrong_meters groups.now) result }
@@ -183,6 +190,7 @@ fn position_of_wrong_floor(groups: &[GroupPlan]) -> Option<usize>
     groups.iter().position(|group| group.has_wrong_floor())
 }
 
+/// Whether the floor of each group is within its meters.
 fn check_floors(groups: &[GroupPlan]) -> Result<(), PlanError>
     requires { length groups.now ≤ 256 }
     ensures { Finds (wrong_floor groups.now) result }
@@ -212,6 +220,7 @@ fn check_windows(w1: u32, w2: u32) -> Result<(), PlanError>
     Ok(())
 }
 
+/// How many meters all groups have.
 fn meters_of(groups: &[GroupPlan]) -> u64
     requires { length groups.now ≤ 256 }
     ensures { result ≡ meters_of groups.now }
@@ -219,6 +228,7 @@ fn meters_of(groups: &[GroupPlan]) -> u64
     groups.iter().map(|group| u64::from(group.meters)).sum()
 }
 
+/// Whether there are no more readings than a plan may have.
 #[tactic(auto, using(crate::proofs::Faults::meters_of_le))]
 fn check_readings(groups: &[GroupPlan], rounds: u32) -> Result<(), PlanError>
     requires groups { length groups.now ≤ 256 }
@@ -233,6 +243,7 @@ fn check_readings(groups: &[GroupPlan], rounds: u32) -> Result<(), PlanError>
     Ok(())
 }
 
+/// How many pairs so many meters make.
 fn pairs_among(meters: u32) -> u64
     requires { meters ≤ 256 }
     ensures { result ≡ pairs_among meters }
@@ -241,6 +252,7 @@ fn pairs_among(meters: u32) -> u64
     meters * meters.saturating_sub(1) / 2
 }
 
+/// Whether there are no more pairs of meters than a plan may have.
 fn check_pairs(groups: &[GroupPlan]) -> Result<(), PlanError>
     requires groups { length groups.now ≤ 256 }
     requires meters { All (λ g. g.meters ≤ 256) groups.now }
@@ -256,6 +268,7 @@ fn check_pairs(groups: &[GroupPlan]) -> Result<(), PlanError>
     Ok(())
 }
 
+/// The first fault of a plan, in the order of the checks.
 #[tactic(auto, using(crate::proofs::Faults::meters_of_le))]
 fn check(groups: &[GroupPlan], rounds: u32, w1: u32, w2: u32) -> Result<(), PlanError>
     ensures checked { Finds (first_fault groups.now rounds w1 w2) result }
@@ -298,6 +311,7 @@ fn copy_of_starts(alloc: Global, starts: &[usize]) -> Result<Vec<usize>, AllocEr
     starts.to_vec(alloc)
 }
 
+/// A span of all rounds for each of so many meters.
 fn whole_spans(alloc: Global, meters: usize, rounds: u32) -> Result<Vec<Rounds>, AllocError>
     ensures { IfOk result (λ spans. spans.items ≡ replicate meters (whole rounds)) }
 {
@@ -348,6 +362,7 @@ impl Plan {
         self.size_of(group as usize)
     }
 
+    /// How many meters a group has, 0 where there is no such group.
     fn size_of(&self, group: usize) -> u32
         ensures meters { result ≡ size self.now.groups group }
         ensures few { result ≤ 256 }
@@ -412,6 +427,7 @@ impl Plan {
         self.number_of(group as usize, meter as usize)
     }
 
+    /// The number of a meter among those of all groups, counted from 0.
     fn number_of(&self, group: usize, meter: usize) -> usize
         requires { meter < size self.now.groups group }
         ensures at { result ≡ meter_at self.now.groups group meter }

@@ -1,3 +1,5 @@
+//! The tables over the places of a plan: readings, and who has one.
+
 ghost use Rattle.std.specs.Prelude.{◌≡◌, ◌<◌, ◌^◌, IsTrue, IsSome, IfOk, IfSome, None, is_some, map, replicate};
 ghost use Rattle.group_plan.specs.Plans.{is_place, is_member};
 ghost use Rattle.group_plan.specs.Places.{places};
@@ -26,6 +28,7 @@ impl Model for Readings {
     ghost invariant = { λ r. KeepsReadings r.plan r.values.items };
 }
 
+/// No reading at each of so many places.
 fn no_values(alloc: Global, places: usize) -> Result<Vec<Option<u64>>, AllocError>
     ensures { IfOk result (λ values. values.items ≡ replicate places None) }
 {
@@ -92,6 +95,7 @@ impl Model for Presence {
     ghost invariant = { λ p. KeepsPresence p.plan p.present.items };
 }
 
+/// At which places there is a reading.
 fn presence_of(alloc: Global, values: &[Option<u64>]) -> Result<Vec<bool>, AllocError>
     ensures { IfOk result (λ present. present.items ≡ map is_some values.now) }
 {

@@ -1,3 +1,5 @@
+//! The tag of a frame: its group, round, meter and kind.
+
 /// What a frame says.
 #[derive(Clone, Copy, Debug, PartialEq, Eq)]
 pub enum Kind {

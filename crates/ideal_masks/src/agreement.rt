@@ -26,6 +26,7 @@ fn has_reading(readings: &Readings, group: u16, round: u32, meter: u8) -> bool
     readings.get(group, round, meter).is_some()
 }
 
+// Whether the tables have a reading of the same meters in the round.
 fn check_meters(first: &Readings, second: &Readings, group: u16, round: u32) -> Result<(), Differ>
     requires plan { second.now.plan ≡ first.now.plan }
     requires round { round < first.now.plan.rounds }
@@ -47,6 +48,7 @@ fn check_meters(first: &Readings, second: &Readings, group: u16, round: u32) -> 
     Ok(())
 }
 
+// Whether the tables have a reading of the same meters in each round of the group.
 fn check_rounds(first: &Readings, second: &Readings, group: u16) -> Result<(), Differ>
     requires plan { second.now.plan ≡ first.now.plan }
     requires before { AreAlikeBefore (reading first.now.table) (reading second.now.table) group 0 0 }
@@ -95,6 +97,7 @@ fn sum_of_readings(readings: &Readings, group: u16, round: u32, meters: MeterSet
 }
 
 impl<'a> Compared<'a> {
+    // Whether the tables have one sum over the survivors, where all of them have answered.
     fn check_total(&self) -> Result<(), Differ>
         requires compared { IsCompared self.now }
         requires before { HaveOneTotalBefore (shape_of self.now.book.now) (reading self.now.first.now.table) (reading self.now.second.now.table) (past self.now.book.now) self.now.group self.now.round }
@@ -120,6 +123,7 @@ impl<'a> Compared<'a> {
     }
 }
 
+// Whether the tables have one sum over the survivors in each opened round of the group.
 fn check_group(first: &Readings, second: &Readings, book: &Book, group: u16) -> Result<(), Differ>
     requires plans { AreOfOne first.now second.now book.now }
     requires group { group < length book.now.presence.plan.groups }

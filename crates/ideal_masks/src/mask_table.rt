@@ -142,6 +142,7 @@ fn word_is(word: Word)
     let _number = word.value();
 }
 
+// The words of a meter in a round, its own and those with the meters above it.
 fn meter_words<M: Masks>(
     alloc: Global,
     plan: &Plan,
@@ -161,6 +162,7 @@ fn meter_words<M: Masks>(
     Ok(MeterWords { own, higher })
 }
 
+// The words of all meters of a group in a round.
 fn round_words<M: Masks>(
     alloc: Global,
     plan: &Plan,
@@ -180,6 +182,7 @@ fn round_words<M: Masks>(
     Ok(RoundWords { meters })
 }
 
+// The words of a group in all rounds.
 fn group_words<M: Masks>(
     alloc: Global,
     plan: &Plan,
@@ -197,6 +200,7 @@ fn group_words<M: Masks>(
     Ok(GroupWords { rounds })
 }
 
+// The words of all groups.
 fn all_words<M: Masks>(alloc: Global, plan: &Plan, masks: &M) -> Result<Vec<GroupWords>, AllocError>
     requires { M.plan masks.now ≡ plan.now }
     ensures words { IfOk result (λ words. words.items ≡ tabulate (length plan.now.groups) (group_of plan.now (M.table masks.now))) }
@@ -324,6 +328,7 @@ impl MaskTable {
         let _plan = self.plan();
     }
 
+    // Adds to the own word of a meter.
     fn move_own(&mut self, group: u32, round: u32, meter: u32, by: Word)
         requires key { IsKeyOf self.old.plan (Own group meter) }
         requires round { round < self.old.plan.rounds }
@@ -336,6 +341,7 @@ impl MaskTable {
         self.set_own(group, round, meter, word);
     }
 
+    // Adds to the word of a pair.
     fn move_pair(&mut self, group: u32, round: u32, low: u32, high: u32, by: Word)
         requires key { IsKeyOf self.old.plan (Pair group low high) }
         requires round { round < self.old.plan.rounds }

@@ -33,6 +33,7 @@ impl<'a> Compared<'a> {
         }
     }
 
+    // The key whose words are the meter's own.
     fn own_id(&self, meter: u8) -> KeyId
         ensures { result ≡ Own self.now.group meter }
     {

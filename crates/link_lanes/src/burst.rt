@@ -1,3 +1,5 @@
+//! The lane `burst`, which loses posts in turns.
+
 ghost use Rattle.std.specs.Prelude.{◌≡◌, None};
 ghost use Rattle.link_lanes.specs.Kinds.{turns_of, burst_by};
 ghost use Rattle.link_lanes.specs.MadeLanes.{burst_lane};
@@ -28,6 +30,7 @@ impl Model for Turns {
     ghost inverse = { λ t. record { passed = t.passed; lost = t.lost } };
 }
 
+// The turns that an argument spells, `N:M`.
 fn read_turns(arg: &str) -> Option<Turns>
     ensures { result ≡ turns_of arg.now }
 {

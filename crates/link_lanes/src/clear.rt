@@ -1,3 +1,5 @@
+//! The lane `clear`, which gives each post one copy of delay 1.
+
 ghost use Rattle.std.specs.Prelude.{◌≡◌};
 ghost use Rattle.link_lanes.specs.Kinds.{clear_by};
 ghost use Rattle.link_lanes.specs.MadeLanes.{clear_lane};

@@ -1,3 +1,5 @@
+//! Lanes taken from a cupboard by name, and hung in a rack for the rows of a plan file.
+
 ghost use Rattle.std.specs.Prelude.{◌≡◌, ◌<◌, length, map, remove, slice_index_or, Some, None, MatchOption, bytes_eq};
 ghost use Rattle.link_lanes.specs.Racks.{slots, posts_of, HasRoom};
 ghost use Rattle.link_lanes.specs.Loads.{LoadEnds};
@@ -49,6 +51,7 @@ fn find_named(left: &[Box<dyn Lane>], name: &[u8]) -> Option<usize>
     }
 }
 
+// Loads a lane of the cupboard.
 fn load(alloc: Global, lane: &mut Box<dyn Lane>, arg: &str) -> Result<(), LaneError>
     ensures { LoadEnds (meaning lane.old) arg.now (meaning lane.new) result }
 {

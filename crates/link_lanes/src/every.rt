@@ -1,3 +1,5 @@
+//! The lane `every`, which gives each Nth post a fate of its own.
+
 ghost use Rattle.std.specs.Prelude.{◌≡◌, None};
 ghost use Rattle.link_lanes.specs.Kinds.{nth_of, every_by};
 ghost use Rattle.link_lanes.specs.MadeLanes.{every_lane};
@@ -28,6 +30,7 @@ impl Model for Nth {
     ghost inverse = { λ n. record { step = n.step; fate = n.fate } };
 }
 
+// The step and the fate that an argument spells, `N:FATE`.
 fn read_nth(arg: &str) -> Option<Nth>
     ensures { result ≡ nth_of arg.now }
 {

@@ -1,3 +1,5 @@
+//! The trait of a lane, which gives posted frames their fates.
+
 ghost use Rattle.std.specs.Prelude.{◌≡◌, ◌<◌, ◌^◌};
 ghost use Rattle.link_lanes.specs.Lanes.{Meaning, counted};
 ghost use Rattle.link_lanes.specs.Loads.{LoadEnds};

@@ -1,3 +1,5 @@
+//! Fates that need no test.
+
 ghost use Rattle.std.specs.Prelude.{◌≡◌, ◌≤◌, [], ◌∷◌};
 
 use crate::Fate;

@@ -1,3 +1,5 @@
+//! The rack: lanes that hang for spans of ticks, and the posts that passed them.
+
 ghost use Rattle.std.specs.Prelude.{◌≡◌, ◌<◌, ◌≤◌, ◌+◌, ◌^◌, ◌++◌, [], ◌∷◌, nat_le, length, map, filter, IsTrue};
 ghost use Rattle.link_lanes.specs.Lanes.{answer_at, fate_through, after_post, lasts};
 ghost use Rattle.link_lanes.specs.Counts.{slot, are_up_to};
@@ -49,6 +51,7 @@ pub struct Rack {
 }
 
 impl Rack {
+    /// A rack without lanes.
     pub(crate) fn new(alloc: Global) -> Rack
         ensures lanes { slots (λ b. meaning b) result ≡ [] }
         ensures posts { posts_of result ≡ [] }

@@ -1,3 +1,5 @@
+//! The row of a plan file that asks for a lane.
+
 ghost use Rattle.std.specs.Prelude.{◌≡◌, true, not, position};
 ghost use Rattle.std.specs.List.{list_all};
 ghost use Rattle.link_lanes.specs.ArgBytes.{is_arg_byte};
@@ -51,6 +53,7 @@ fn is_arg_byte(byte: u8) -> bool
     byte.is_ascii_graphic()
 }
 
+// The place of the first byte that an argument may not have.
 fn first_other_byte(text: &[u8]) -> Option<usize>
     ensures { result ≡ position (λ b. not (is_arg_byte b)) text.now }
 {

@@ -1,3 +1,5 @@
+//! The lane `rules`, which gives posts their fates by tag.
+
 ghost use Rattle.std.specs.Prelude.{◌≡◌, ◌==◌, None, IfOk};
 ghost use Rattle.std.specs.Option.{option_map};
 ghost use Rattle.link_lanes.specs.Kinds.{any_or, kind_of, kind_number, index_of, rule_of, rules_of, is_or_any, matches, first_fate, rules_by};
@@ -29,6 +31,7 @@ impl Model for Rule {
     ghost inverse = { λ r. record { group = r.group; round = r.round; kind = r.kind; meter = r.meter; fate = r.fate } };
 }
 
+// The index that a text spells; the inner None, for `*`, stands for any.
 fn read_index(text: &str) -> Option<Option<u32>>
     ensures { result ≡ index_of text.now }
 {
@@ -39,6 +42,7 @@ fn read_index(text: &str) -> Option<Option<u32>>
     Some(Some(index))
 }
 
+// The kind that a text spells; the inner None, for `*`, stands for any.
 fn read_kind(text: &str) -> Option<Option<Kind>>
     ensures { result ≡ any_or kind_of text.now }
 {
@@ -57,6 +61,7 @@ fn read_kind(text: &str) -> Option<Option<Kind>>
     None
 }
 
+// The rule that a text spells, `G.R.K.I=FATE`.
 fn read_rule(text: &str) -> Option<Rule>
     ensures { result ≡ rule_of text.now }
 {
@@ -93,6 +98,7 @@ fn read_rules(alloc: Global, arg: &str) -> Result<Option<Vec<Rule>>, AllocError>
     Ok(Some(rules))
 }
 
+// Whether an index is the wanted one, where one is wanted.
 fn is_or_any(wanted: Option<u32>, found: u32) -> bool
     ensures { result ≡ is_or_any wanted found }
 {
@@ -102,6 +108,7 @@ fn is_or_any(wanted: Option<u32>, found: u32) -> bool
     }
 }
 
+// Whether a kind is the wanted one, where one is wanted.
 fn is_kind_or_any(wanted: Option<Kind>, found: Kind) -> bool
     ensures { result ≡ is_or_any (option_map kind_number wanted) (kind_number found) }
 {

@@ -1,3 +1,5 @@
+//! The lane `seeded`, which draws fates from a seed.
+
 ghost use Rattle.std.specs.Prelude.{◌≡◌, ◌+◌, ◌<◌, ◌^◌, ◌∷◌, [], None, slice_index};
 ghost use Rattle.std.specs.Option.{ForSome};
 ghost use Rattle.rand_chacha.specs.ChaCha.{word_at};
@@ -35,6 +37,7 @@ impl Model for Chances {
     ghost inverse = { λ c. record { seed = c.seed; loss = c.loss; again = c.again; spread = c.spread } };
 }
 
+// The seed and the chances that an argument spells.
 fn read_chances(arg: &str) -> Option<Chances>
     ensures { result ≡ chances_of arg.now }
 {
@@ -51,6 +54,7 @@ fn read_chances(arg: &str) -> Option<Chances>
     })
 }
 
+// The ChaCha20 stream of a seed.
 fn stream_of(seed: u64) -> ChaCha20Rng
     ensures { result ≡ stream_at seed 0 }
 {
@@ -75,6 +79,7 @@ fn four_words(stream: &mut ChaCha20Rng) -> [u32; 4]
     [first, second, third, fourth]
 }
 
+// The fate that four words of the stream give a post.
 fn draw_fate(chances: Chances, words: [u32; 4], coming: Fate) -> Fate
     ensures { result ≡ drawn_unless_lost chances (slice_index words 0) (slice_index words 1) (slice_index words 2) (slice_index words 3) coming }
 {

@@ -141,6 +141,7 @@ fn tag_at(bytes: &[u8], kind: Kind) -> Tag
     }
 }
 
+/// The kind that a frame's byte stands for.
 fn kind_of(byte: u8) -> Option<Kind>
     ensures { result ≡ kind_of byte }
 {

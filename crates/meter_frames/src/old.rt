@@ -1,3 +1,5 @@
+//! Frames of version 1, which are only read.
+
 ghost use Rattle.std.specs.Prelude.{◌≡◌, ◌≤◌, length, Ok};
 ghost use Rattle.meter_frames.specs.declared.Frame.{Frame};
 ghost use Rattle.meter_frames.specs.OldFrames.{old_spelling, IsOldFrame, old_set_at, ReadsOld, DecodesOld};

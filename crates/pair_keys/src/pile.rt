@@ -28,12 +28,14 @@ pub struct KeyPile {
     ghost keeps: { KeepsKeys plan groups.items },
 }
 
+// So many places for keys, with none put yet.
 fn slots(alloc: Global, count: usize) -> Result<Vec<Slot>, AllocError>
     ensures { IfOk result (λ slots. slots.items ≡ replicate count None) }
 {
     vec![in alloc; None; count]
 }
 
+// For each meter a place for its key with each lower meter.
 fn lower_rows(alloc: Global, meters: usize) -> Result<Vec<Vec<Slot>>, AllocError>
     ensures { IfOk result (λ rows. AreEmptyRows meters rows.items) }
 {
@@ -44,6 +46,7 @@ fn lower_rows(alloc: Global, meters: usize) -> Result<Vec<Vec<Slot>>, AllocError
     Ok(rows)
 }
 
+// The places for the keys of a group of so many meters.
 fn group_keys(alloc: Global, meters: usize) -> Result<GroupKeys, AllocError>
     ensures { IfOk result (λ keys. IsEmptyGroup meters keys) }
 {
@@ -53,6 +56,7 @@ fn group_keys(alloc: Global, meters: usize) -> Result<GroupKeys, AllocError>
     })
 }
 
+// The places for the keys of all groups.
 fn all_groups(alloc: Global, groups: &[GroupPlan]) -> Result<Vec<GroupKeys>, AllocError>
     ensures { IfOk result (λ keys. AreEmptyGroups groups.now (length groups.now) keys.items) }
 {
@@ -63,6 +67,7 @@ fn all_groups(alloc: Global, groups: &[GroupPlan]) -> Result<Vec<GroupKeys>, All
     Ok(keys)
 }
 
+// The first meter whose own key is lacking.
 fn missing_own(own: &[Slot]) -> Option<usize>
     ensures { result ≡ position is_none own.now }
 {
@@ -84,6 +89,7 @@ fn missing_above(lower: &[Vec<Slot>], low: usize) -> Option<usize>
     None
 }
 
+// The first pair whose key is lacking, by the lower meter and then the higher one.
 fn missing_pair(lower: &[Vec<Slot>]) -> Option<(usize, usize)>
     requires { AreRows lower.now }
     ensures { MatchOption result (HasRowsTo lower.now (length lower.now)) (λ pair. LacksPair lower.now pair.0 pair.1) }
@@ -133,6 +139,7 @@ impl KeyPile {
         })
     }
 
+    // The place for the own key of a meter, where the plan has the meter.
     fn own_slot(&self, group: usize, meter: usize) -> Option<Slot>
         ensures { result ≡ own_slot (slice_get self.now.groups.items group) meter }
     {
@@ -142,6 +149,7 @@ impl KeyPile {
         }
     }
 
+    // The place for the key of a pair, where the plan has the pair and its lower meter comes first.
     fn pair_slot(&self, group: usize, low: usize, high: usize) -> Option<Slot>
         ensures { result ≡ pair_slot (row_in (slice_get self.now.groups.items group) high) low }
     {
@@ -188,6 +196,7 @@ impl KeyPile {
         }
     }
 
+    // The first key that the plan has and the pile lacks.
     fn first_missing(&self) -> Option<KeyId>
         ensures { MatchOption result (IsComplete (keys_of self.now)) (IsFirstMissing (keys_of self.now)) }
     {

@@ -128,6 +128,7 @@ fn is_ended(past: &[Event], group: u16, round: u32) -> bool
     }
 }
 
+/// Whether the reading was sent, by a meter that has one.
 #[tactic(auto, unfolding(transcript_log::specs::Events::once))]
 fn is_reading_sent<W: World>(world: &W, past: &[Event], group: u16, round: u32, meter: u8) -> bool
     ensures { result ≡ is_reading_sent (W.shape world.now) group round meter past.now }
@@ -147,6 +148,7 @@ fn is_reading_sent<W: World>(world: &W, past: &[Event], group: u16, round: u32, 
     }
 }
 
+/// Whether the reading was taken, after it was sent and before the round was closed.
 #[tactic(auto, unfolding(transcript_log::specs::Events::once))]
 fn is_reading_taken<W: World>(world: &W, past: &[Event], group: u16, round: u32, meter: u8) -> bool
     ensures { result ≡ is_reading_taken (W.shape world.now) group round meter past.now }
@@ -168,6 +170,7 @@ fn is_reading_taken<W: World>(world: &W, past: &[Event], group: u16, round: u32,
     }
 }
 
+/// The members whose reading is taken.
 fn survivors<W: World>(world: &W, past: &[Event], group: u16, round: u32) -> MeterSet
     ensures { result ≡ survivors (W.shape world.now) group round past.now }
 {
@@ -181,6 +184,7 @@ fn survivors<W: World>(world: &W, past: &[Event], group: u16, round: u32) -> Met
     kept
 }
 
+/// The members whose reading is not taken.
 fn missing<W: World>(world: &W, past: &[Event], group: u16, round: u32) -> MeterSet
     ensures { result ≡ missing (W.shape world.now) group round past.now }
 {
@@ -189,6 +193,7 @@ fn missing<W: World>(world: &W, past: &[Event], group: u16, round: u32) -> Meter
         .minus(survivors(world, past, group, round))
 }
 
+/// Whether the round was closed with at least as many survivors as the floor.
 fn is_announced<W: World>(world: &W, past: &[Event], group: u16, round: u32) -> bool
     ensures { result ≡ is_announced (W.shape world.now) group round past.now }
 {
@@ -288,6 +293,7 @@ fn is_answer_taken<W: World>(world: &W, past: &[Event], group: u16, round: u32, 
     }
 }
 
+/// The survivors whose answer is not taken.
 fn lacking<W: World>(world: &W, past: &[Event], group: u16, round: u32) -> MeterSet
     ensures { result ≡ lacking (W.shape world.now) group round past.now }
 {
@@ -309,6 +315,7 @@ fn all_taken<W: World>(world: &W, past: &[Event], group: u16, round: u32) -> boo
 
 // ---- the line of an event
 
+/// Whether a Send has effect.
 fn may_send<W: World>(world: &W, past: &[Event], tag: Tag) -> bool
     ensures { result ≡ may_send (W.shape world.now) tag.kind tag.group tag.round tag.meter past.now }
 {
@@ -358,6 +365,7 @@ fn is_taken<W: World>(world: &W, past: &[Event], tag: Tag) -> bool
     }
 }
 
+/// Whether a Take comes after the round was closed, for a reading, or ended, for an answer.
 fn is_late(past: &[Event], tag: Tag) -> bool
     ensures { result ≡ is_late tag.kind tag.group tag.round past.now }
 {
@@ -411,6 +419,7 @@ fn ending<W: World>(world: &W, past: &[Event], group: u16, round: u32) -> Ending
     }
 }
 
+/// The frame of a Send, or none where the Send has no effect.
 fn frame<W: World>(world: &W, past: &[Event], tag: Tag) -> Option<Frame>
     ensures { result ≡ frame (W.shape world.now) (W.contents world.now) tag past.now }
 {

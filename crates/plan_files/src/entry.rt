@@ -34,6 +34,7 @@ pub enum Entry {
     Member(Span),
 }
 
+/// What a row `own,GROUP,METER,KEY` says.
 #[tactic(auto, unfolding(crate::specs::PlanRows::own_row))]
 fn own_row(row: &ByteRecord) -> Result<Entry, FileCause>
     ensures { result ≡ own_row (fields_of row.now) }
@@ -45,6 +46,7 @@ fn own_row(row: &ByteRecord) -> Result<Entry, FileCause>
     Ok(Entry::Own { group, meter, key })
 }
 
+/// What a row `pair,GROUP,LOW,HIGH,KEY` says.
 #[tactic(auto, unfolding(crate::specs::PlanRows::pair_row))]
 fn pair_row(row: &ByteRecord) -> Result<Entry, FileCause>
     ensures { result ≡ pair_row (fields_of row.now) }
@@ -62,6 +64,7 @@ fn pair_row(row: &ByteRecord) -> Result<Entry, FileCause>
     })
 }
 
+/// What a row `member,GROUP,METER,FROM,UNTIL` says.
 #[tactic(auto, unfolding(crate::specs::PlanRows::member_row))]
 fn member_row(row: &ByteRecord) -> Result<Entry, FileCause>
     ensures { result ≡ member_row (fields_of row.now) }
@@ -91,6 +94,7 @@ fn arg_field(alloc: Global, row: &ByteRecord, place: usize) -> Result<Arg, FileC
     }
 }
 
+/// What a row `lane,NAME,ARGUMENT,FROM,TO` says. The number is the row's in the file.
 #[tactic(auto, unfolding(crate::specs::PlanRows::lane_row))]
 fn lane_row(alloc: Global, number: u32, row: &ByteRecord) -> Result<Entry, FileCause>
     ensures { Answers (lane_row number (fields_of row.now)) result }

@@ -73,6 +73,7 @@ pub fn settle(plan: Plan, spans: &[Span]) -> Result<(Plan, Option<SpanError>), A
     }
 }
 
+/// Puts the own key of a row into the pile.
 fn put_own(keys: &mut KeyPile, group: u32, meter: u32, key: [u8; 32]) -> Result<(), FileCause>
     ensures { PutsKey (keys_of keys.old) (Own group meter) key result (keys_of keys.new) }
 {
@@ -82,6 +83,7 @@ fn put_own(keys: &mut KeyPile, group: u32, meter: u32, key: [u8; 32]) -> Result<
     }
 }
 
+/// Puts the pair key of a row into the pile.
 fn put_pair(
     keys: &mut KeyPile,
     group: u32,
@@ -97,6 +99,7 @@ fn put_pair(
     }
 }
 
+/// Adds the lane of a row, where its ticks are within the plan's.
 #[tactic(auto, unfolding(crate::specs::Gathering::hang_lane))]
 fn hang_lane(lanes: &mut Vec<LaneRow>, lane: LaneRow, last_tick: u32) -> Result<(), FileCause>
     ensures { HangsLane lanes.old.items lane last_tick result lanes.new.items }

@@ -26,6 +26,7 @@ pub struct Head {
     pub windows: Windows,
 }
 
+/// The first row is `plan,1`.
 #[tactic(auto, unfolding(crate::specs::PlanRows::plan_row))]
 fn check_version(row: &ByteRecord) -> Result<(), FileCause>
     ensures { result ≡ plan_row (fields_of row.now) }
@@ -36,6 +37,7 @@ fn check_version(row: &ByteRecord) -> Result<(), FileCause>
     Ok(())
 }
 
+/// The number in a row `rounds,ROUNDS`.
 #[tactic(auto, unfolding(crate::specs::PlanRows::rounds_row))]
 fn read_rounds(row: &ByteRecord) -> Result<u32, FileCause>
     ensures { result ≡ rounds_row (fields_of row.now) }
@@ -47,6 +49,7 @@ fn read_rounds(row: &ByteRecord) -> Result<u32, FileCause>
     number_field(row, 1)
 }
 
+/// The windows in a row `windows,READING,RECOVERY`.
 #[tactic(auto, unfolding(crate::specs::PlanRows::windows_row))]
 fn read_windows(row: &ByteRecord) -> Result<Windows, FileCause>
     ensures { result ≡ windows_row (fields_of row.now) }
@@ -60,6 +63,7 @@ fn read_windows(row: &ByteRecord) -> Result<Windows, FileCause>
     Ok(Windows { reading, recovery })
 }
 
+/// The group of a row `group,NAME,METERS,FLOOR`.
 #[tactic(auto, unfolding(crate::specs::PlanRows::group_row))]
 fn read_group(row: &ByteRecord) -> Result<GroupPlan, FileCause>
     ensures { result ≡ group_row (fields_of row.now) }
@@ -75,6 +79,7 @@ fn read_group(row: &ByteRecord) -> Result<GroupPlan, FileCause>
     })
 }
 
+/// Whether the file starts with its version.
 #[tactic(auto, unfolding(crate::specs::PlanForms::row_due))]
 fn check_first_row(rows: &[ByteRecord]) -> Result<(), FileError>
     ensures { result ≡ row_due plan_row (map fields_of rows.now) 0 }
@@ -91,6 +96,7 @@ fn check_first_row(rows: &[ByteRecord]) -> Result<(), FileError>
     }
 }
 
+/// The rounds of the plan.
 #[tactic(auto, unfolding(crate::specs::PlanForms::row_due))]
 fn read_second_row(rows: &[ByteRecord]) -> Result<u32, FileError>
     ensures { result ≡ row_due rounds_row (map fields_of rows.now) 1 }
@@ -107,6 +113,7 @@ fn read_second_row(rows: &[ByteRecord]) -> Result<u32, FileError>
     }
 }
 
+/// The windows of the plan.
 #[tactic(auto, unfolding(crate::specs::PlanForms::row_due))]
 fn read_third_row(rows: &[ByteRecord]) -> Result<Windows, FileError>
     ensures value { result ≡ row_due windows_row (map fields_of rows.now) 2 }

@@ -1,3 +1,5 @@
+//! The calls on a shared book: open, commit, split, join and shut.
+
 ghost use Rattle.std.specs.Prelude.{◌≡◌, ◌≢◌, MatchBool, ◌+◌, ◌^◌, ◌<◌, ◌≤◌, ◌∷◌, [], None, length, vec_len, vec_capacity, IfOk, IfErr, MatchResult, replicate};
 ghost use Rattle.group_book.specs.Books.{BookView};
 ghost use Rattle.shared_book.specs.declared.desk.Desk.{Desk};

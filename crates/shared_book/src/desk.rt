@@ -1,3 +1,5 @@
+//! The desk: what the pass whose turn it is holds.
+
 ghost use Rattle.std.specs.Prelude.{◌≡◌, ℕ, ◌+◌, ◌<◌, ◌≤◌, length, slice_index_or, is_some, None, vec_len, vec_capacity};
 ghost use Rattle.shared_book.specs.Turns.{Replied, Passed};
 ghost use Rattle.shared_book.specs.Places.{open_places};

@@ -1,3 +1,5 @@
+//! The rule of the tickets and of the desk, and each step that it allows.
+
 use crate::desk::Desk;
 use crate::parcel::Parcel;
 use crate::turn::View;

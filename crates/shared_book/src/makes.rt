@@ -1,3 +1,5 @@
+//! One turn on the desk.
+
 ghost use Rattle.std.specs.Prelude.{◌≡◌, ◌<◌, vec_len, Some};
 ghost use Rattle.shared_book.specs.Desks.{DoneAt, MakeEnds};
 
@@ -40,6 +42,7 @@ impl Desk {
     }
 }
 
+/// The reply that a place keeps once it is done.
 fn kept(reply: &Reply) -> Option<Reply>
     ensures { result ≡ Some reply.now }
 {

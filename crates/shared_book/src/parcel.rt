@@ -1,3 +1,5 @@
+//! Parcels, what they ask of the book, and what it answers.
+
 ghost use Rattle.std.specs.Prelude.{◌≡◌};
 ghost use Rattle.shared_book.specs.Parcels.{request_of, decoded};
 
@@ -8,6 +10,7 @@ use round_machine::{Closing, Ending, Verdict};
 /// What a collector brings to the book: the bytes of a frame to be taken, or a round to be closed or ended.
 #[derive(Clone, Copy, Debug, PartialEq, Eq)]
 pub enum Parcel {
+    /// The bytes of a frame.
     Bytes([u8; 52]),
     Close { group: u16, round: u32 },
     End { group: u16, round: u32 },
@@ -16,8 +19,11 @@ pub enum Parcel {
 /// What the book answered.
 #[derive(Clone, Copy, Debug, PartialEq, Eq)]
 pub enum Reply {
+    /// The frame's verdict.
     Took(Verdict),
+    /// What the Close came to.
     Closed(Closing),
+    /// What the End came to.
     Ended(Ending),
 }
 

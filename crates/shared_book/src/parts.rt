@@ -1,3 +1,5 @@
+//! A shared book, its passes, and what it comes to.
+
 ghost use Rattle.std.specs.Prelude.{◌≡◌, ◌≤◌};
 ghost use Rattle.shared_book.specs.Opened.{opening_of};
 ghost use Rattle.shared_book.specs.Rests.{Rests};

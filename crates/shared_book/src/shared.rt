@@ -1,3 +1,5 @@
+//! Tickets: a pass draws one, waits for its turn, and passes the turn on.
+
 ghost use Rattle.std.specs.Prelude.{◌≡◌, ◌<◌, ◌∷◌, [], true, length};
 ghost use Rattle.shared_book.specs.declared.desk.Desk.{Desk};
 ghost use Rattle.shared_book.specs.Turns.{IsRequestAt};
@@ -17,8 +19,10 @@ use std::time::Duration;
 /// The words, the ticket that is drawn next and the ticket that is served, and the slot with the desk.
 pub type Counter = Shared<Desk, View, Key, Law>;
 
+/// The word with the ticket that is drawn next.
 const TICKET: usize = 0;
 
+/// The word with the ticket that is served.
 const SERVING: usize = 1;
 
 /// Slept by a pass that finds the desk taken.

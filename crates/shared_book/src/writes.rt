@@ -1,3 +1,5 @@
+//! The line that one request adds to the book.
+
 ghost use Rattle.std.specs.Prelude.{◌≡◌, ◌≤◌};
 ghost use Rattle.transcript_log.specs.declared.Line.TheVariants.{Close as CloseLine, End as EndLine};
 ghost use Rattle.shared_book.specs.declared.parcel.Reply.TheVariants.{Closed, Ended};
@@ -28,6 +30,7 @@ pub(crate) fn write(book: &mut Book, request: &Request) -> Result<Made, CommitEr
     }
 }
 
+/// The line of a frame that the book takes.
 #[tactic(auto, using(crate::proofs::Judging::took, crate::proofs::Judging::not_taken))]
 fn take(book: &mut Book, frame: &Frame) -> Result<Made, CommitError>
     requires { 1 ≤ book.old.spare }
@@ -45,6 +48,7 @@ fn take(book: &mut Book, frame: &Frame) -> Result<Made, CommitError>
     }
 }
 
+/// The line of a Close of this round.
 #[tactic(auto, using(crate::proofs::Judging::closed_one, crate::proofs::Judging::no_close))]
 fn close(book: &mut Book, group: u16, round: u32) -> Result<Made, CommitError>
     requires { 1 ≤ book.old.spare }
@@ -57,6 +61,7 @@ fn close(book: &mut Book, group: u16, round: u32) -> Result<Made, CommitError>
     Ok(closed(group, round, &closing))
 }
 
+/// The line of an End of this round.
 #[tactic(auto, using(crate::proofs::Judging::ended_one, crate::proofs::Judging::no_end))]
 fn end(book: &mut Book, group: u16, round: u32) -> Result<Made, CommitError>
     requires { 1 ≤ book.old.spare }

@@ -13,6 +13,7 @@ use group_book::{Book, OutcomeState};
 use std::alloc::{AllocError, Global};
 use transcript_text::members;
 
+/// How a round stands in a report. A report does not say whose answers were lacking.
 fn outcome_of_state(state: OutcomeState) -> RowOutcome
     ensures { result ≡ outcome_of_state state }
 {

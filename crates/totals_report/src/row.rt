@@ -53,6 +53,7 @@ impl Model for Report {
 }
 
 impl Report {
+    /// A report of these rows, in order.
     pub(crate) fn new(rows: Vec<ReportRow>) -> Report
         ensures { result ≡ rows.items }
     {

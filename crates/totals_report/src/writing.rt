@@ -46,6 +46,7 @@ fn put_meters(out: &mut Vec<u8>, survivors: u16, missing: MeterSet) -> Result<()
     put_set(out, missing)
 }
 
+// The line of a row, without its newline.
 #[tactic(auto, unfolding(crate::specs::Texts::row_line))]
 fn put_row(out: &mut Vec<u8>, row: &ReportRow) -> Result<(), AllocError>
     ensures { OnOk result (out.new.items ≡ out.old.items ++ row_line row.now) }

@@ -1,3 +1,5 @@
+//! Why a text is no transcript.
+
 use std::alloc::{AllocError, AllocFailed};
 use transcript_log::Entry;
 

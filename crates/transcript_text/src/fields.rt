@@ -20,6 +20,7 @@ use meter_frames::{Frame, decode, decode_old};
 use missing_round::MeterSet;
 use round_machine::{Closing, Ending, Verdict};
 
+/// The kind that a letter stands for: `r`, `m` or `a`.
 pub(crate) fn kind(text: &[u8]) -> Option<Kind>
     ensures { result ≡ kind_of text.now }
 {
@@ -34,6 +35,7 @@ pub(crate) fn kind(text: &[u8]) -> Option<Kind>
     }
 }
 
+/// The verdict that a word stands for.
 pub(crate) fn verdict(text: &[u8]) -> Option<Verdict>
     ensures { result ≡ verdict_of text.now }
 {
@@ -61,6 +63,7 @@ fn dash(text: &[u8]) -> Result<(), RowFault>
     }
 }
 
+/// What the fields 5 and 6 of a Close say.
 #[tactic(auto, unfolding(crate::specs::Reading::closing_of))]
 pub(crate) fn closing(size: u32, word: &[u8], text: &[u8]) -> Result<Closing, RowFault>
     requires { size ≤ 256 }
@@ -80,6 +83,7 @@ pub(crate) fn closing(size: u32, word: &[u8], text: &[u8]) -> Result<Closing, Ro
     }
 }
 
+/// What the fields 5 and 6 of an End say.
 #[tactic(auto, unfolding(crate::specs::Reading::ending_of))]
 pub(crate) fn ending(size: u32, word: &[u8], text: &[u8]) -> Result<Ending, RowFault>
     requires { size ≤ 256 }
@@ -239,6 +243,7 @@ fn bytes(text: &[u8]) -> Option<[u8; 52]>
     }
 }
 
+/// The frame of 28 bytes of version 1.
 fn frame_of_old_bytes(bytes: &[u8]) -> Option<Frame>
     ensures { result ≡ frame_of_bytes One bytes.now }
 {
@@ -248,6 +253,7 @@ fn frame_of_old_bytes(bytes: &[u8]) -> Option<Frame>
     }
 }
 
+/// The frame of 52 bytes of version 2.
 fn frame_of_bytes(bytes: &[u8]) -> Option<Frame>
     ensures { result ≡ frame_of_bytes Two bytes.now }
 {

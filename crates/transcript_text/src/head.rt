@@ -42,6 +42,7 @@ pub(crate) struct Head<'a> {
     pub(crate) rest: &'a [u8],
 }
 
+/// A number below 2^32 in line `n`.
 fn number(n: u64, text: &[u8]) -> Result<u32, ReadError>
     ensures { result ≡ head_number n text.now }
 {
@@ -49,6 +50,7 @@ fn number(n: u64, text: &[u8]) -> Result<u32, ReadError>
     Ok(number as u32)
 }
 
+/// The first line, which says the version.
 #[tactic(auto, using(crate::proofs::HeadFields::title_many, crate::proofs::Cutting::length_view), unfolding(crate::specs::Heads::title_of))]
 fn title(version: Version, n: u64, line: &[u8]) -> Result<(), ReadError>
     ensures { result ≡ title_of version n (parts 44 line.now) }
@@ -68,6 +70,7 @@ fn title(version: Version, n: u64, line: &[u8]) -> Result<(), ReadError>
     }
 }
 
+/// The rounds that line `n` states.
 #[tactic(auto, using(crate::proofs::HeadFields::rounds_many, crate::proofs::Cutting::length_view), unfolding(crate::specs::Heads::rounds_of))]
 fn rounds(n: u64, line: &[u8]) -> Result<u32, ReadError>
     ensures { result ≡ rounds_of n (parts 44 line.now) }
@@ -82,6 +85,7 @@ fn rounds(n: u64, line: &[u8]) -> Result<u32, ReadError>
     }
 }
 
+/// The windows that line `n` states, in ticks.
 #[tactic(auto, using(crate::proofs::HeadFields::windows_many, crate::proofs::Cutting::length_view), unfolding(crate::specs::Heads::windows_of))]
 fn windows(n: u64, line: &[u8]) -> Result<(u32, u32), ReadError>
     ensures { result ≡ windows_of n (parts 44 line.now) }
@@ -127,6 +131,7 @@ fn first_lines(version: Version, bytes: &[u8]) -> Result<(Start, &[u8]), ReadErr
     Ok((Start { rounds, w1, w2 }, rest))
 }
 
+/// The name of a group in line `n`.
 fn name(n: u64, text: &[u8]) -> Result<Name, ReadError>
     ensures { result ≡ ok_or (name_of text.now) (HeadFault n) }
 {
@@ -136,6 +141,7 @@ fn name(n: u64, text: &[u8]) -> Result<Name, ReadError>
     }
 }
 
+/// The group that line `n` states.
 fn group(n: u64, fields: &Fields) -> Result<HeadRow, ReadError>
     requires { AreFields fields.now }
     ensures { result ≡ group_row n (view fields.now) }
@@ -160,6 +166,7 @@ fn meters_at(groups: &[GroupPlan], group: u32) -> u32
     }
 }
 
+/// Member lines stand by group, and in each by meter.
 fn comes_after(last: Option<Span>, span: &Span) -> bool
     ensures { result ≡ comes_after last span.now }
 {
@@ -182,6 +189,7 @@ fn span_fits(rounds: u32, groups: &[GroupPlan], last: Option<Span>, span: &Span)
         && comes_after(last, span)
 }
 
+/// The span that line `n` states, where it may follow the last one.
 fn member(
     n: u64,
     rounds: u32,
@@ -209,6 +217,7 @@ fn member(
     }
 }
 
+/// Member lines are of version 2 alone.
 fn is_two(version: Version) -> bool
     ensures { result ≡ is_two version }
 {
@@ -249,6 +258,7 @@ fn head_row(
     }
 }
 
+/// Whether each group fits version 1, which knows 64 meters at most.
 fn are_old(groups: &[GroupPlan]) -> bool
     ensures { result ≡ list_all (λ g. nat_le g.meters 64) groups.now }
 {
@@ -265,6 +275,7 @@ fn has_version(version: Version, groups: &[GroupPlan]) -> bool
     }
 }
 
+/// The fault at line `n`, which is `begin`, of numbers that no plan has.
 fn refused(n: u64, error: PlanError) -> ReadError
     ensures { result ≡ refused n error }
 {

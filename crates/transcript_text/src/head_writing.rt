@@ -148,6 +148,7 @@ fn put_start(out: &mut Vec<u8>, plan: &Plan) -> Result<(), AllocError>
     put_windows(out, plan.w1(), plan.w2())
 }
 
+/// The head of a plan, up to the newline after `begin`.
 #[tactic(auto, unfolding(crate::specs::Spelling::head_text))]
 pub(crate) fn put_head(out: &mut Vec<u8>, plan: &Plan) -> Result<(), AllocError>
     ensures { OnOk result (out.new.items ≡ out.old.items ++ head_text Two plan.now) }

@@ -13,6 +13,7 @@ use round_machine::{Closing, Ending, Verdict};
 use std::alloc::Global;
 use transcript_log::{Entry, Line};
 
+/// The fault of a row, as one of line `n`.
 fn in_line(n: u64, fault: RowFault) -> ReadError
     ensures { result ≡ in_line n fault }
 {

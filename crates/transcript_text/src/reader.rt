@@ -1,3 +1,5 @@
+//! The readers of a transcript, one for each version.
+
 ghost use Rattle.std.specs.Prelude.{◌≡◌, IfOk};
 ghost use Rattle.transcript_text.specs.declared.version.Version.TheVariants.{One, Two};
 ghost use Rattle.transcript_text.specs.Transcripts.{IsTranscript};
@@ -14,6 +16,7 @@ use crate::lines::entries;
 use crate::version::Version;
 use std::alloc::Global;
 
+/// The transcript whose text of this version the bytes are, or the first fault.
 #[tactic(auto, unfolding(crate::specs::Heads::read_of))]
 fn read_version(alloc: Global, version: Version, bytes: &[u8]) -> Result<Transcript, ReadError>
     ensures exact { Gives (λ t. t) result (read_of version bytes.now) }

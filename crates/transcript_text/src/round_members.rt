@@ -1,3 +1,5 @@
+//! The members of a round, for the layers above.
+
 ghost use Rattle.std.specs.Prelude.{◌≡◌};
 ghost use Rattle.group_plan.specs.Plans.{members};
 ghost use Rattle.transcript_text.specs.Transcripts.{HasRound};

@@ -14,6 +14,7 @@ use group_plan::{Plan, Tag};
 use link_lanes::Fate;
 use transcript_log::{Entry, Line};
 
+/// Field 1, a tick that is not below `last`.
 fn tick(last: u32, fields: &Fields) -> Result<u32, RowFault>
     requires { AreFields fields.now }
     ensures { result ≡ tick_of last (view fields.now) }
@@ -22,6 +23,7 @@ fn tick(last: u32, fields: &Fields) -> Result<u32, RowFault>
     Ok(tick.ok_or(RowFault::Field(1))? as u32)
 }
 
+/// Field 3, a group of the plan.
 fn group(plan: &Plan, fields: &Fields) -> Result<u16, RowFault>
     requires { AreFields fields.now }
     ensures { result ≡ group_of plan.now (view fields.now) }
@@ -31,6 +33,7 @@ fn group(plan: &Plan, fields: &Fields) -> Result<u16, RowFault>
     Ok(group as u16)
 }
 
+/// Field 4, a round of the plan.
 fn round(plan: &Plan, fields: &Fields) -> Result<u32, RowFault>
     requires { AreFields fields.now }
     ensures { result ≡ round_of plan.now (view fields.now) }
@@ -40,6 +43,7 @@ fn round(plan: &Plan, fields: &Fields) -> Result<u32, RowFault>
     Ok(round as u32)
 }
 
+/// Fields 3 to 6, a tag of the plan.
 #[tactic(auto, unfolding(crate::specs::Reading::tag_of))]
 fn tag(plan: &Plan, fields: &Fields) -> Result<Tag, RowFault>
     requires { AreFields fields.now }
@@ -68,6 +72,7 @@ fn no_fate() -> Fate
     }
 }
 
+/// The entry of a Send line.
 #[tactic(auto, unfolding(crate::specs::Reading::send_of))]
 fn send(version: Version, plan: &Plan, last: u32, fields: &Fields) -> Result<Entry, RowFault>
     requires { AreFields fields.now }
@@ -85,6 +90,7 @@ fn send(version: Version, plan: &Plan, last: u32, fields: &Fields) -> Result<Ent
     })
 }
 
+/// The entry of a Take line.
 #[tactic(auto, unfolding(crate::specs::Reading::take_of))]
 fn take(plan: &Plan, last: u32, fields: &Fields) -> Result<Entry, RowFault>
     requires { AreFields fields.now }
@@ -100,6 +106,7 @@ fn take(plan: &Plan, last: u32, fields: &Fields) -> Result<Entry, RowFault>
     })
 }
 
+/// The entry of a Close line.
 #[tactic(auto, unfolding(crate::specs::Reading::close_of))]
 fn close(plan: &Plan, last: u32, fields: &Fields) -> Result<Entry, RowFault>
     requires { AreFields fields.now }
@@ -120,6 +127,7 @@ fn close(plan: &Plan, last: u32, fields: &Fields) -> Result<Entry, RowFault>
     })
 }
 
+/// The entry of an End line.
 #[tactic(auto, unfolding(crate::specs::Reading::end_of))]
 fn end(plan: &Plan, last: u32, fields: &Fields) -> Result<Entry, RowFault>
     requires { AreFields fields.now }

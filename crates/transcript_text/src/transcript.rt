@@ -1,3 +1,5 @@
+//! Transcripts: a plan and entries that fit it.
+
 ghost use Rattle.std.specs.Prelude.{◌≡◌, ◌≤◌, ◌^◌, ◌<◌, [], ◌∷◌, ◌++◌, IfOk, OnOk, OnErr};
 ghost use Rattle.missing_round.specs.Sets.{IsSet};
 ghost use Rattle.transcript_log.specs.declared.Line.TheVariants.{Send, Close, End};
@@ -29,6 +31,7 @@ impl Model for Transcript {
     ghost invariant = { λ t. IsTranscript (record { plan = t.plan; entries = t.entries.items }) };
 }
 
+/// What the type says of a set. The functions below say it of the parts of a line, up to the whole entry.
 fn set_is(set: MeterSet)
     ensures { IsSet set }
 {
@@ -124,6 +127,7 @@ type Parts = (
     Option<Line>,
 );
 
+/// Adds an entry at the end.
 fn add(entries: &mut Vec<Entry>, entry: Entry) -> Result<(), AllocError>
     ensures ok { OnOk result (entries.new.items ≡ entries.old.items ++ entry ∷ []) }
     ensures err { OnErr result (entries.new.items ≡ entries.old.items) }

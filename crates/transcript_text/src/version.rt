@@ -1,3 +1,5 @@
+//! The versions of a transcript's text.
+
 /// The version of a transcript's text.
 #[derive(Clone, Copy, Debug, PartialEq, Eq)]
 pub enum Version {

@@ -16,6 +16,7 @@ use round_machine::{Closing, Ending, Verdict};
 use std::alloc::{AllocError, Global};
 use transcript_log::{Entry, Line};
 
+/// The delays joined by `+`, or `-` where there is none.
 fn put_fate(out: &mut Vec<u8>, fate: Fate) -> Result<(), AllocError>
     ensures { OnOk result (out.new.items ≡ out.old.items ++ numbers_text fate) }
 {
@@ -46,6 +47,7 @@ pub(crate) fn put_two(out: &mut Vec<u8>, first: u64, second: u64) -> Result<(), 
     put_number(out, second)
 }
 
+/// The group, round, kind and meter, parted by commas.
 fn put_tag(out: &mut Vec<u8>, tag: Tag) -> Result<(), AllocError>
     ensures { OnOk result (out.new.items ≡ out.old.items ++ joined (tag_fields tag)) }
 {
@@ -58,6 +60,7 @@ fn put_tag(out: &mut Vec<u8>, tag: Tag) -> Result<(), AllocError>
     put_number(out, u64::from(tag.meter))
 }
 
+/// The 52 bytes of a frame in lower-case digits.
 fn put_frame(out: &mut Vec<u8>, frame: &Frame) -> Result<(), AllocError>
     requires { FitsKind frame.now.tag.kind frame.now.missing frame.now.word }
     ensures { OnOk result (out.new.items ≡ out.old.items ++ encode_lower (spelling frame.now)) }
@@ -69,6 +72,7 @@ fn put_frame(out: &mut Vec<u8>, frame: &Frame) -> Result<(), AllocError>
     out.extend_from_slice(&digits)
 }
 
+/// The fate and the frame of a Send, each after a comma, or `void` where it had no effect.
 fn put_sent(out: &mut Vec<u8>, fate: Fate, sent: &Option<Frame>) -> Result<(), AllocError>
     requires { IfSome sent.now (λ f. FitsKind f.tag.kind f.missing f.word) }
     ensures { OnOk result (out.new.items ≡ out.old.items ++ codes "," ++ joined (sent_fields Two fate sent.now)) }
@@ -95,6 +99,7 @@ fn put_verdict(out: &mut Vec<u8>, verdict: Verdict) -> Result<(), AllocError>
     }
 }
 
+/// What a Close came to: a word and a set, each after a comma.
 fn put_closing(out: &mut Vec<u8>, closing: Closing) -> Result<(), AllocError>
     ensures { OnOk result (out.new.items ≡ out.old.items ++ codes "," ++ joined (closing_fields closing)) }
 {
@@ -111,6 +116,7 @@ fn put_closing(out: &mut Vec<u8>, closing: Closing) -> Result<(), AllocError>
     }
 }
 
+/// What an End came to: a word and its total or set, each after a comma.
 fn put_ending(out: &mut Vec<u8>, ending: Ending) -> Result<(), AllocError>
     ensures { OnOk result (out.new.items ≡ out.old.items ++ codes "," ++ joined (ending_fields ending)) }
 {
@@ -129,6 +135,7 @@ fn put_ending(out: &mut Vec<u8>, ending: Ending) -> Result<(), AllocError>
     }
 }
 
+/// The line of an entry, without its newline.
 #[tactic(auto, unfolding(crate::specs::Spelling::entry_text))]
 fn put_entry(out: &mut Vec<u8>, entry: &Entry) -> Result<(), AllocError>
     requires { IsWritable entry.now.line }
@@ -177,6 +184,7 @@ pub fn line_text(alloc: Global, entry: &Entry) -> Result<Vec<u8>, AllocError>
     Ok(out)
 }
 
+/// The lines of all entries, and the `end` line with their number.
 #[tactic(auto, unfolding(crate::specs::Spelling::entries_text))]
 pub(crate) fn put_entries(out: &mut Vec<u8>, entries: &[Entry]) -> Result<(), AllocError>
     requires { All (λ e. IsWritable e.line) entries.now }

@@ -10,6 +10,7 @@ use mod_word::Word;
 use pair_keys::KeyId;
 use std::alloc::{AllocError, Global};
 
+// The 16 lower-case digits of a word.
 fn put_word(out: &mut Vec<u8>, word: Word) -> Result<(), AllocError>
     ensures { OnOk result (out.new.items ≡ out.old.items ++ word_text word) }
 {

@@ -1,3 +1,5 @@
+//! Spans: the rounds in which a meter is a member of its group.
+
 ghost use Rattle.std.specs.Prelude.{◌≡◌, ◌<◌, IsTrue};
 ghost use Rattle.group_plan.specs.Plans.{all_meters};
 ghost use Rattle.group_plan.specs.Places.{meter_at};
@@ -48,6 +50,7 @@ impl Span {
 }
 
 impl Plan {
+    /// Whether the plan has the meter and all rounds of the span, of which there is one at least.
     fn has_span(&self, span: &Span) -> bool
         ensures { result ≡ is_in_plan self.now span.now }
     {
@@ -56,6 +59,7 @@ impl Plan {
             && span.until <= self.rounds
     }
 
+    /// The number of the span's meter among those of all groups, counted from 0.
     fn number_of_span(&self, span: &Span) -> usize
         requires { IsTrue (is_in_plan self.now span.now) }
         ensures at { result ≡ meter_at self.now.groups span.now.group span.now.meter }
