@@ -29,9 +29,10 @@ from fuzz import EXAMPLES, PROGRAM, files_in, names_in, sample_files, words_of, 
 COMMANDS = [
     ("run <plan <readings >report >transcript 1", 0),
     ("run <plan <readings_with_a_fault >report >transcript 1", 6),
-    ("twin <plan <readings <other <transcript >masks", 0),
+    ("twin <late_plan <readings <late_other <late_transcript >masks", 0),
     ("audit <transcript <report", 0),
     ("audit <transcript <report_of_61", 9),
+    ("audit <made_transcript <made_report", 0),
     ("convert <old >transcript", 0),
     ("make 1 1 2 1 >plan >readings", 0),
     ("load 1 4 8 2 1 >transcript", 0),
@@ -162,17 +163,33 @@ def try_kind(options, shim, command, usual, kind, files):
             for name in after.keys() - before.keys():
                 os.remove(os.path.join(room, name))
     how = ", ".join(f"{count} with {status}" for status, count in sorted(ended.items()))
-    name = f"`{command.split()[0]}` ends with {usual.status}"
+    name = f"`{' '.join(words_of(command))}` ends with {usual.status}"
     print(f"| {name} | {kind} | {sum(ended.values())} | {how} | {wrong} |", flush=True)
     return wrong == 0 and set(ended) <= allowed(kind, usual.status)
 
 
+def run_whole(program, room, command):
+    """Runs a command that has to end with status 0."""
+    status, _, _ = run_with(program, command.split(), room, os.path.join(room, "told"))
+    if status != 0:
+        sys.exit(f"refused_calls: {command} ended with status {status}")
+
+
 def made_files(program):
-    """The sample files, and some that a command refuses."""
+    """The files of the example `north`, and some that a command refuses; those of a run in which the reading of meter 2 comes
+    late, with another table that agrees; and those of a made run of 4 groups of 8 meters."""
     with tempfile.TemporaryDirectory(prefix="refused-") as room:
         files = sample_files(program, room)[0]
     files["readings_with_a_fault"] = files["readings"].replace(b"30", b"03x")
     files["report_of_61"] = files["report"].replace(b"60", b"61")
+    files["late_plan"] = files["plan"] + b"lane,rules,0.0.r.2=2,0,0\n"
+    files["late_other"] = b"north,0,15,15,0\n"
+    with tempfile.TemporaryDirectory(prefix="refused-") as room:
+        write_files(room, {name: files[name] for name in ("late_plan", "readings")})
+        run_whole(program, room, "run late_plan readings late_report late_transcript 1")
+        run_whole(program, room, "make 1 4 8 2 made_plan made_readings")
+        run_whole(program, room, "run made_plan made_readings made_report made_transcript 1")
+        files.update(files_in(room))
     return files
 
 
