@@ -18,6 +18,7 @@ use totals_report::{ReportRow, row_text};
 use transcript_log::Entry;
 use transcript_text::{ReadError, line_text};
 
+// A key by its numbers: `own G I` or `pair G I J`.
 #[tactic(auto, unfolding(crate::specs::Causes::key_text))]
 fn key_text(alloc: Global, key: KeyId) -> Result<String, AllocError>
     ensures { IfOk result (λ text. string_bytes text ≡ key_text key) }
@@ -72,6 +73,7 @@ fn key_error_text(alloc: Global, error: KeyError) -> Result<String, AllocError>
     }
 }
 
+// The cause in the complaint of a plan file or a readings file.
 #[tactic(auto, unfolding(crate::specs::Causes::cause_text))]
 fn cause_text(alloc: Global, cause: FileCause) -> Result<String, AllocError>
     ensures { IfOk result (λ text. string_bytes text ≡ cause_text cause) }
@@ -113,6 +115,7 @@ fn rack_cause_name(cause: RackCause) -> &'static str
     }
 }
 
+// The complaint of a faulty plan file or readings file.
 #[tactic(auto, unfolding(crate::specs::Outcomes::file_complaint))]
 fn file_complaint(alloc: Global, name: &str, fault: FileError) -> Result<String, AllocError>
     ensures { IfOk result (λ text. string_bytes text ≡ file_complaint name.now fault) }
@@ -137,6 +140,7 @@ fn fault_line(fault: ReadError) -> u64
     }
 }
 
+// The cause in the complaint of a transcript, whose line is told beside it.
 #[tactic(auto, unfolding(crate::specs::Causes::read_error_name))]
 fn read_error_name(alloc: Global, fault: ReadError) -> Result<String, AllocError>
     ensures { IfOk result (λ text. string_bytes text ≡ read_error_name fault) }
@@ -152,6 +156,7 @@ fn read_error_name(alloc: Global, fault: ReadError) -> Result<String, AllocError
     }
 }
 
+// The complaint of a faulty line of a transcript or a report.
 #[tactic(auto, unfolding(crate::specs::Outcomes::line_complaint))]
 fn line_complaint(alloc: Global, name: &str, line: u64, cause: &str) -> Result<String, AllocError>
     ensures { IfOk result (λ text. string_bytes text ≡ line_complaint name.now line cause.now) }
@@ -159,6 +164,7 @@ fn line_complaint(alloc: Global, name: &str, line: u64, cause: &str) -> Result<S
     format!(in alloc; "meteragg: {name} line {line}: {cause}\n")
 }
 
+// A row of a report, or `nothing` where there is none.
 #[tactic(auto, unfolding(crate::specs::Outcomes::row_or_nothing))]
 fn row_or_nothing(alloc: Global, row: &Option<ReportRow>) -> Result<Vec<u8>, AllocError>
     ensures { IfOk result (λ text. text.items ≡ row_or_nothing row.now) }
@@ -169,6 +175,7 @@ fn row_or_nothing(alloc: Global, row: &Option<ReportRow>) -> Result<Vec<u8>, All
     }
 }
 
+// The complaint of the first row that is not what the frames give.
 #[tactic(auto, unfolding(crate::specs::Outcomes::row_complaint))]
 fn row_complaint(
     alloc: Global,
