@@ -1,5 +1,5 @@
 -- What one commit of the first pass settles, and how passes grow.
-use Rattle.std.proofs.Common.{◌≡◌, ℕ, List, [], ◌∷◌, ◌++◌, length, slice_get, Some, Err, sym, ap, ◌∙◌, subst, append_assoc, append-nil}
+use Rattle.std.proofs.Common.{◌≡◌, ℕ, List, [], ◌∷◌, ◌++◌, length, slice_get, Some, Err, refl, sym, ap, ◌∙◌, subst, append_assoc, append-nil}
 use Rattle.meter_frames.specs.declared.FrameError.{FrameError}
 use Rattle.group_book.specs.declared.answers.TakeError.{TakeError}
 use Rattle.shared_book.specs.declared.parcel.Parcel.{Parcel}
@@ -60,14 +60,24 @@ grows_commits o v w k parcel reply c = record {
 
 -- ---- one commit
 
+-- the history has the reply of a commit
+pub commits_reply : (o : Opening) (v w : PassView) (k : ℕ) (parcel : Parcel) (reply : Reply) → Commits o v k parcel reply w → reply_at k w.seen ≡ Some reply
+commits_reply o v w k parcel reply c =
+    let t : Turn = turn v.number k c.line in
+    let there : turn_at k w.seen ≡ Some t = ap (turn_at k) c.seen ∙ first_added t c.before c.first in
+    ap reply_in there ∙ c.replied
+
 -- the place was committed
 pub settles_made : (o : Opening) (v w : PassView) (k : ℕ) (parcel : Parcel) (reply : Reply) → IsLegal o w.seen → slice_get o.parcels k ≡ Some parcel → Commits o v k parcel reply w
     → Settles o v k parcel (Made reply) w
 settles_made o v w k parcel reply l at c =
-    let t : Turn = turn v.number k c.line in
-    let there : turn_at k w.seen ≡ Some t = ap (turn_at k) c.seen ∙ first_added t c.before c.first in
-    let says : reply_at k w.seen ≡ Some reply = ap reply_in there ∙ c.replied in
-    record { at = at; grows = grows_commits o v w k parcel reply c; marked = made o w.seen k parcel reply l at says }
+    record { at = at; grows = grows_commits o v w k parcel reply c; marked = made o w.seen k parcel reply l at (commits_reply o v w k parcel reply c) }
+
+-- a worker had committed the place
+pub settles_told : (o : Opening) (v w : PassView) (k : ℕ) (parcel : Parcel) (reply : Reply) → w ≡ v → IsLegal o v.seen → slice_get o.parcels k ≡ Some parcel → reply_at k v.seen ≡ Some reply
+    → Settles o v k parcel (Made reply) w
+settles_told o v w k parcel reply e l at says =
+    subst (λ (x : PassView). Settles o v k parcel (Made reply) x) (sym e) (record { at = at; grows = grows_same v v refl; marked = made o v.seen k parcel reply l at says })
 
 -- the place had been committed before
 pub settles_done : (o : Opening) (v w : PassView) (k : ℕ) (parcel : Parcel) (reply : Reply) (x : CommitError) → IsLegal o w.seen → slice_get o.parcels k ≡ Some parcel

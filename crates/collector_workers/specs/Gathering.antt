@@ -1,5 +1,5 @@
 -- What a first pass gains by a batch.
-use Rattle.std.specs.Prelude.{◌≡◌, ℕ, ◌+◌, ◌==◌, List, Vec, [], ◌∷◌, ◌++◌, length, map, reverse, filter, slice_get, Some, Result, Ok, Err}
+use Rattle.std.specs.Prelude.{◌≡◌, ℕ, ◌+◌, ◌==◌, ⊤, List, Vec, [], ◌∷◌, ◌++◌, length, map, reverse, filter, All, slice_get, Option, Some, None, Result, Ok, Err}
 use Rattle.std.specs.List.{range_with_len}
 use Rattle.std.specs.declared.alloc.AllocError.{AllocError}
 use Rattle.std.specs.declared.alloc.Global.{Global}
@@ -8,11 +8,13 @@ use Rattle.shared_book.specs.declared.parcel.Parcel.{Parcel}
 use Rattle.shared_book.specs.declared.parcel.Reply.{Reply}
 use Rattle.shared_book.specs.declared.turn.Turn.{Turn}
 use Rattle.shared_book.specs.declared.turn.Opening.{Opening}
-use Rattle.shared_book.specs.declared.parts.Pass.{Pass}
-use Rattle.shared_book.specs.Ends.{view}
+use Rattle.shared_book.specs.declared.parts.SharedBook.{SharedBook}
+use Rattle.shared_book.specs.Ends.{view, IsPassOf}
 use Rattle.shared_book.specs.Parcels.{Judged, Accepted, BadFrame, RefusedFrame, Outside, judged, reply_of}
-use Rattle.shared_book.specs.Turns.{StartsWith}
+use Rattle.shared_book.specs.Turns.{reply_at, StartsWith}
 use Rattle.shared_book.specs.Passes.{PassView}
+use Rattle.collector_workers.specs.declared.crew.Committed.{Committed}
+use Rattle.collector_workers.specs.declared.crew.Worker.{Worker}
 use Rattle.collector_workers.specs.declared.mark.Mark.{Mark}
 use Rattle.collector_workers.specs.declared.mark.Mark.TheVariants.{Made, Bad, Refused, OutOfPlan}
 
@@ -32,6 +34,25 @@ abbrev pub AreMarksOf : Opening → List Turn → List Mark → Type 0
 AreMarksOf o turns marks =
     (place : ℕ) (parcel : Parcel) (mark : Mark) → slice_get o.parcels place ≡ Some parcel → slice_get marks place ≡ Some mark →
     IsMarkOf (judged o.book parcel) (turns_of place turns) mark
+
+-- ---- what workers tell
+
+-- the history has the reply of the place
+abbrev pub IsReplyAt : List Turn → Committed → Type 0
+IsReplyAt seen committed = reply_at committed.place seen ≡ Some committed.reply
+
+-- a worker with a pass of the book, which has seen each reply that the worker keeps
+abbrev pub IsWorkerOf : SharedBook → Worker → Type 0
+IsWorkerOf book worker = IsPassOf book worker.pass × All (IsReplyAt (view worker.pass).seen) worker.committed.items
+
+-- nothing is told of the place, or the history has its reply
+abbrev pub IsTold : List Turn → ℕ → Option Reply → Type 0
+IsTold seen place None = ⊤
+IsTold seen place (Some reply) = reply_at place seen ≡ Some reply
+
+-- the history has each reply that is told, at its place
+abbrev pub AreReplies : List Turn → List (Option Reply) → Type 0
+AreReplies seen replies = (place : ℕ) (told : Option Reply) → slice_get replies place ≡ Some told → IsTold seen place told
 
 -- ---- the parts of a gathering
 
@@ -54,9 +75,9 @@ pub record Settles (o : Opening) (v : PassView) (place : ℕ) (parcel : Parcel) 
 abbrev pub SplitsAll : PassView → ℕ → PassView → Type 0
 SplitsAll v count w = w ≡ record v { made = v.made + count; out = v.out + count }
 
--- the numbers of some passes
-abbrev pub numbers_of : List Pass → List ℕ
-numbers_of passes = map (λ pass. (view pass).number) passes
+-- the numbers of some workers' passes
+abbrev pub numbers_of : List Worker → List ℕ
+numbers_of workers = map (λ worker. (view worker.pass).number) workers
 
 -- the passes with these numbers were joined, the last one first
 pub record JoinsAll (v : PassView) (numbers : List ℕ) (w : PassView) : Type 0 where

@@ -1,29 +1,48 @@
-//! Workers, each with a pass of its own.
+//! Workers, each with a pass of its own, and the replies that they bring back.
 
-ghost use Rattle.std.specs.Prelude.{◌≡◌, [], ◌+◌, ◌^◌, ◌<◌, ◌≤◌, length, vec_len, vec_capacity, All};
+ghost use Rattle.std.specs.Prelude.{◌≡◌, ◌⊎◌, ◌∷◌, ◌++◌, [], ◌+◌, ◌^◌, ◌<◌, ◌≤◌, List, length, vec_len, vec_capacity, All};
+ghost use Rattle.shared_book.specs.declared.turn.Turn.{Turn};
 ghost use Rattle.shared_book.specs.Ends.{view, IsPassOf};
 ghost use Rattle.std.specs.List.{range_with_len};
-ghost use Rattle.collector_workers.specs.Gathering.{numbers_of, SplitsAll, JoinsAll};
+ghost use Rattle.collector_workers.specs.Gathering.{IsReplyAt, AreReplies, IsWorkerOf, numbers_of, SplitsAll, JoinsAll};
 
 use crate::gate::Gate;
 use crossbeam_channel::Receiver;
-use shared_book::{Parcel, Pass, SharedBook};
+use shared_book::{Parcel, Pass, Reply, SharedBook};
 use std::alloc::{AllocError, Global};
 use std::sync::Wait;
 use std::thread;
 use std::thread::Threads;
 
-// So many parcels are work enough to start a thread for.
-const PARCELS_A_THREAD: usize = 256;
+/// A place that was committed, and the book's reply.
+#[derive(Clone, Copy)]
+pub struct Committed {
+    pub place: u32,
+    pub reply: Reply,
+}
 
-// How many of the workers have enough to do. With two workers and two parcels it is two at least.
-fn busy_workers(workers: usize, parcels: usize) -> usize
+/// A worker: its pass, and the places that it committed.
+#[derive(Drop)]
+pub struct Worker {
+    pub pass: Pass,
+    pub committed: Vec<Committed>,
+}
+
+// A worker that has committed nothing.
+fn new_worker(alloc: Global, pass: Pass) -> Worker
+    ensures { (result.pass ≡ pass) × (result.committed.items ≡ []) }
+{
+    Worker {
+        pass,
+        committed: Vec::new(alloc),
+    }
+}
+
+// How many of the workers have enough to do, where so many parcels are enough for one.
+fn busy_workers(workers: usize, parcels: usize, enough: usize) -> usize
     ensures { result ≤ workers }
 {
-    (parcels / PARCELS_A_THREAD)
-        .max(2)
-        .min(parcels)
-        .min(workers)
+    (parcels / enough.max(1)).max(1).min(parcels).min(workers)
 }
 
 // A channel that holds the numbers of all places, or as many as there is memory for.
@@ -43,56 +62,80 @@ pub(crate) fn all_places<R: Wait>(
     Ok(places)
 }
 
+// Adds a value to a list, where there is memory for it.
+fn keep<T: Copy>(list: &mut Vec<T>, value: T)
+    ensures { (list.new.items ≡ list.old.items ++ value ∷ []) ⊎ (list.new.items ≡ list.old.items) }
+{
+    let _ = list.push(value);
+}
+
+// Commits a place, and keeps its reply. Where there is no memory for it, the caller asks for it again.
+fn commit_place<R: Wait>(
+    rt: &R,
+    shared: &SharedBook,
+    worker: &mut Worker,
+    place: u32,
+    parcel: &Parcel,
+)
+    requires { IsWorkerOf shared.now worker.old }
+    ensures worker { IsWorkerOf shared.now worker.new }
+    ensures number { (view worker.new.pass).number ≡ (view worker.old.pass).number }
+{
+    if let Ok(reply) = shared.commit(rt, &mut worker.pass, place, parcel) {
+        keep(&mut worker.committed, Committed { place, reply });
+    }
+}
+
 // One worker: it receives a place, calls the gate and commits, until no place is left.
 fn work<R: Wait, G: Gate>(
     rt: &R,
     shared: &SharedBook,
-    pass: &mut Pass,
+    worker: &mut Worker,
     batch: &[Parcel],
     places: &Receiver<u32>,
     gate: &G,
-    worker: u32,
+    number: u32,
 )
-    requires { IsPassOf shared.now pass.old }
-    ensures pass { IsPassOf shared.now pass.new }
-    ensures number { (view pass.new).number ≡ (view pass.old).number }
+    requires { IsWorkerOf shared.now worker.old }
+    ensures worker { IsWorkerOf shared.now worker.new }
+    ensures number { (view worker.new.pass).number ≡ (view worker.old.pass).number }
 {
     'places: for _ in rt.forever() {
         let Ok(place) = places.recv(rt) else {
             return;
         };
         if let Some(parcel) = batch.get(place as usize) {
-            gate.at(worker);
-            let _ = shared.commit(rt, pass, place, parcel);
+            gate.at(number);
+            commit_place(rt, shared, worker, place, parcel);
         }
     }
     unreachable!()
 }
 
-// Workers beside each other, one thread each, until no place is left.
+// Workers beside each other, until no place is left. One of them works on the calling thread.
 fn work_beside<R: Threads + Wait + Sync, G: Gate>(
     rt: &R,
     shared: &SharedBook,
-    passes: &mut [Pass],
+    workers: &mut [Worker],
     batch: &[Parcel],
     places: &Receiver<u32>,
     gate: &G,
 )
-    requires passes { All (IsPassOf shared.now) passes.old }
-    requires few { length passes.old < 2 ^ 16 }
-    ensures passes { All (IsPassOf shared.now) passes.new }
-    ensures numbers { numbers_of passes.new ≡ numbers_of passes.old }
+    requires workers { All (IsWorkerOf shared.now) workers.old }
+    requires few { length workers.old < 2 ^ 16 }
+    ensures workers { All (IsWorkerOf shared.now) workers.new }
+    ensures numbers { numbers_of workers.new ≡ numbers_of workers.old }
 {
-    let workers = passes.len();
-    if workers > 0 {
+    let count = workers.len();
+    if count > 0 {
         thread::for_each_mut(
             rt,
-            passes,
             workers,
-            &|i: usize, pass: &mut Pass|
-                requires { IsPassOf shared.now pass.now × (i < 2 ^ 16) }
-                ensures { IsPassOf shared.entry.now pass.exit.now × ((view pass.exit.now).number ≡ (view pass.entry.now).number) }
-            { work(rt, shared, pass, batch, places, gate, i as u32 + 1) },
+            count,
+            &|i: usize, worker: &mut Worker|
+                requires { IsWorkerOf shared.now worker.now × (i < 2 ^ 16) }
+                ensures { IsWorkerOf shared.entry.now worker.exit.now × ((view worker.exit.now.pass).number ≡ (view worker.entry.now.pass).number) }
+            { work(rt, shared, worker, batch, places, gate, i as u32 + 1) },
         );
     }
 }
@@ -101,50 +144,102 @@ fn work_beside<R: Threads + Wait + Sync, G: Gate>(
 pub(crate) fn work_all<R: Threads + Wait + Sync, G: Gate>(
     rt: &R,
     shared: &SharedBook,
-    passes: &mut [Pass],
+    workers: &mut [Worker],
     batch: &[Parcel],
     places: &Receiver<u32>,
     gate: &G,
 )
-    requires passes { All (IsPassOf shared.now) passes.old }
-    requires few { length passes.old < 2 ^ 16 }
-    ensures passes { All (IsPassOf shared.now) passes.new }
-    ensures numbers { numbers_of passes.new ≡ numbers_of passes.old }
+    requires workers { All (IsWorkerOf shared.now) workers.old }
+    requires few { length workers.old < 2 ^ 16 }
+    ensures workers { All (IsWorkerOf shared.now) workers.new }
+    ensures numbers { numbers_of workers.new ≡ numbers_of workers.old }
 {
-    let count = busy_workers(passes.len(), batch.len());
-    let (busy, _idle) = passes.split_at_mut(count);
+    let count = busy_workers(workers.len(), batch.len(), gate.enough());
+    let (busy, _idle) = workers.split_at_mut(count);
     work_beside(rt, shared, busy, batch, places, gate);
 }
 
 // Splits a pass for each worker from the first.
-pub(crate) fn split_all(shared: &SharedBook, first: &mut Pass, passes: &mut Vec<Pass>, workers: u32)
+pub(crate) fn split_all(
+    alloc: Global,
+    shared: &SharedBook,
+    first: &mut Pass,
+    workers: &mut Vec<Worker>,
+    count: u32,
+)
     requires pass { IsPassOf shared.now first.old }
     requires first { (view first.old).number ≡ 0 }
-    requires few { (view first.old).made + workers < 2 ^ 32 }
-    requires empty { (passes.old.items ≡ []) × (vec_len passes.old ≡ 0) }
-    requires room { workers ≤ vec_capacity passes.old }
+    requires few { (view first.old).made + count < 2 ^ 32 }
+    requires empty { (workers.old.items ≡ []) × (vec_len workers.old ≡ 0) }
+    requires room { count ≤ vec_capacity workers.old }
     ensures pass { IsPassOf shared.now first.new }
-    ensures first { SplitsAll (view first.old) workers (view first.new) }
-    ensures passes { All (IsPassOf shared.now) passes.new.items }
-    ensures numbers { numbers_of passes.new.items ≡ range_with_len ((view first.old).made + 1) workers }
-    ensures long { vec_len passes.new ≡ workers }
+    ensures first { SplitsAll (view first.old) count (view first.new) }
+    ensures workers { All (IsWorkerOf shared.now) workers.new.items }
+    ensures numbers { numbers_of workers.new.items ≡ range_with_len ((view first.old).made + 1) count }
+    ensures long { vec_len workers.new ≡ count }
 {
-    for _worker in 0..workers {
+    for _worker in 0..count {
         let pass = shared.split(first);
-        passes.push_reserved(pass);
+        let worker = new_worker(alloc, pass);
+        workers.push_reserved(worker);
     }
 }
 
-// Takes the workers' passes back.
-pub(crate) fn join_all(shared: &SharedBook, first: &mut Pass, mut passes: Vec<Pass>)
+// Puts the reply at its place.
+fn tell(replies: &mut [Option<Reply>], committed: &Committed)
+    ensures long { length replies.new ≡ length replies.old }
+    ensures told { (seen : List Turn) → AreReplies seen replies.old → IsReplyAt seen committed.now → AreReplies seen replies.new }
+{
+    let place = committed.place as usize;
+    if place < replies.len() {
+        replies[place] = Some(committed.reply);
+    }
+}
+
+// Puts the replies at their places.
+fn tell_all(replies: &mut [Option<Reply>], committed: &[Committed])
+    ensures long { length replies.new ≡ length replies.old }
+    ensures told { (seen : List Turn) → AreReplies seen replies.old → All (IsReplyAt seen) committed.now → AreReplies seen replies.new }
+{
+    for one in committed {
+        tell(replies, one);
+    }
+}
+
+// Takes a worker's pass back, with the replies of the places that it committed.
+fn join_one(shared: &SharedBook, first: &mut Pass, worker: Worker, replies: &mut [Option<Reply>])
     requires pass { IsPassOf shared.now first.old }
     requires first { (view first.old).number ≡ 0 }
-    requires passes { All (IsPassOf shared.now) passes.items }
+    requires worker { IsWorkerOf shared.now worker }
+    requires told { AreReplies (view first.old).seen replies.old }
     ensures pass { IsPassOf shared.now first.new }
-    ensures first { JoinsAll (view first.old) (numbers_of passes.items) (view first.new) }
+    ensures first { JoinsAll (view first.old) ((view worker.pass).number ∷ []) (view first.new) }
+    ensures told { AreReplies (view first.new).seen replies.new }
+    ensures long { length replies.new ≡ length replies.old }
 {
-    while let Some(pass) = passes.pop() {
-        shared.join(first, pass);
+    let Worker { pass, committed } = worker;
+    shared.join(first, pass);
+    tell_all(replies, committed.as_slice());
+}
+
+// Takes the workers' passes back, with the replies of the places that they committed.
+pub(crate) fn join_all(
+    shared: &SharedBook,
+    first: &mut Pass,
+    mut workers: Vec<Worker>,
+    replies: &mut [Option<Reply>],
+)
+    requires pass { IsPassOf shared.now first.old }
+    requires first { (view first.old).number ≡ 0 }
+    requires workers { All (IsWorkerOf shared.now) workers.items }
+    requires told { AreReplies (view first.old).seen replies.old }
+    ensures pass { IsPassOf shared.now first.new }
+    ensures first { JoinsAll (view first.old) (numbers_of workers.items) (view first.new) }
+    ensures told { AreReplies (view first.new).seen replies.new }
+    ensures long { length replies.new ≡ length replies.old }
+{
+    while let Some(worker) = workers.pop() {
+        join_one(shared, first, worker, replies);
     }
-    passes.destroy_empty();
+    workers.destroy_empty();
 }

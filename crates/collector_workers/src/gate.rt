@@ -4,11 +4,21 @@
 pub trait Gate: Sync {
     /// Called by a worker; workers are numbered from 1.
     fn at(&self, worker: u32);
+
+    /// So many parcels are enough for a thread. One is enough where a gate says nothing else, so that a test has each of its
+    /// workers.
+    fn enough(&self) -> usize {
+        1
+    }
 }
 
-/// A gate that lets each worker through.
+/// A gate that lets each worker through, and has a thread for each 256 parcels.
 pub struct Free;
 
 impl Gate for Free {
     fn at(&self, _worker: u32) {}
+
+    fn enough(&self) -> usize {
+        256
+    }
 }

@@ -1,7 +1,7 @@
 //! Worked rows. The book of the plain case has one group of three meters with floor 2, and one round, in which each has a
 //! reading; the words are those of the readings 10, 20 and 30 under keys of zeros.
 
-ghost use Rattle.std.specs.Prelude.{◌^◌, ◌<◌, length};
+ghost use Rattle.std.specs.Prelude.{◌^◌, ◌<◌, vec_len};
 
 use crate::fixtures::{book_of_north, parcel, reading_frame, send_reading};
 use collector_workers::{Free, Gate, Mark, collect, gather};
@@ -37,19 +37,26 @@ fn sent_book(alloc: Global) -> Result<Book, Fail> {
     Ok(book)
 }
 
+// Lets each worker through; each parcel is enough for one.
+struct Each;
+
+impl Gate for Each {
+    fn at(&self, _worker: u32) {}
+}
+
 // Collects a batch with 16 workers into a book, and looks for the marks, and for the number of lines that the book then has.
 fn check_batch(
     rt: &(impl Threads + Wait + Abort + Sync),
     alloc: Global,
     row: &str,
     book: Book,
-    batch: &[Parcel],
+    batch: Vec<Parcel>,
     marks: &[Mark],
     lines: usize,
 )
-    requires { length batch.now < 2 ^ 32 }
+    requires { vec_len batch < 2 ^ 32 }
 {
-    let Ok(collected) = collect(rt, alloc, book, batch, 16, &Free) else {
+    let Ok(collected) = collect(rt, alloc, book, batch, 16, &Each) else {
         panic!(rt; "no memory at {row}")
     };
     assert_eq!(rt; collected.replies.as_slice(), marks, "at {row}");
@@ -67,12 +74,12 @@ fn batches_by_rows(rt: HostRuntime) -> Result<(), Fail> {
         alloc,
         "forged_parcel_refused",
         sent_book(alloc)?,
-        &[
+        vec![in alloc;
             parcel(0, WORDS[0]),
             Parcel::Bytes(encode(&posted)),
             Parcel::Bytes(encode(&came)),
             parcel(2, WORDS[2]),
-        ],
+        ]?,
         &[
             fresh,
             fresh,
@@ -81,13 +88,21 @@ fn batches_by_rows(rt: HostRuntime) -> Result<(), Fail> {
         ],
         6,
     );
-    check_batch(&rt, alloc, "empty_batch", new_book(alloc)?, &[], &[], 0);
+    check_batch(
+        &rt,
+        alloc,
+        "empty_batch",
+        new_book(alloc)?,
+        Vec::new(alloc),
+        &[],
+        0,
+    );
     check_batch(
         &rt,
         alloc,
         "close_outside_plan",
         new_book(alloc)?,
-        &[Parcel::Close { group: 1, round: 0 }],
+        vec![in alloc; Parcel::Close { group: 1, round: 0 }]?,
         &[Mark::OutOfPlan],
         0,
     );
@@ -96,7 +111,7 @@ fn batches_by_rows(rt: HostRuntime) -> Result<(), Fail> {
         alloc,
         "zero_bytes_no_frame",
         new_book(alloc)?,
-        &[Parcel::Bytes([0; 52])],
+        vec![in alloc; Parcel::Bytes([0; 52])]?,
         &[Mark::Bad(FrameError::Magic)],
         0,
     );
@@ -107,7 +122,8 @@ fn batches_by_rows(rt: HostRuntime) -> Result<(), Fail> {
 fn two_closes_in_one_batch(rt: HostRuntime) -> Result<(), Fail> {
     let alloc = rt.alloc();
     let close = Parcel::Close { group: 0, round: 0 };
-    let Ok(collected) = collect(&rt, alloc, new_book(alloc)?, &[close, close], 2, &Free) else {
+    let batch = vec![in alloc; close, close]?;
+    let Ok(collected) = collect(&rt, alloc, new_book(alloc)?, batch, 2, &Each) else {
         panic!(rt; "no memory")
     };
     let thin = Mark::Made(Reply::Closed(Closing::Thin(MeterSet::full(3))));
@@ -117,6 +133,24 @@ fn two_closes_in_one_batch(rt: HostRuntime) -> Result<(), Fail> {
             || collected.replies.as_slice() == [already, thin].as_slice()
     );
     assert_eq!(rt; collected.book.journal().len(), 2);
+    Ok(())
+}
+
+// With the gate of the program 1,200 parcels are enough for four workers.
+#[test]
+fn many_closes_in_one_batch(rt: HostRuntime) -> Result<(), Fail> {
+    let alloc = rt.alloc();
+    let batch = vec![in alloc; Parcel::Close { group: 0, round: 0 }; 1200]?;
+    let Ok(collected) = collect(&rt, alloc, new_book(alloc)?, batch, 4, &Free) else {
+        panic!(rt; "no memory")
+    };
+    let thin = Mark::Made(Reply::Closed(Closing::Thin(MeterSet::full(3))));
+    let already = Mark::Made(Reply::Closed(Closing::Already));
+    let marks = collected.replies.as_slice();
+    assert_eq!(rt; marks.len(), 1200);
+    assert_eq!(rt; marks.iter().filter(|mark| **mark == thin).count(), 1);
+    assert_eq!(rt; marks.iter().filter(|mark| **mark == already).count(), 1199);
+    assert_eq!(rt; collected.book.journal().len(), 1200);
     Ok(())
 }
 
@@ -291,5 +325,49 @@ fn gate_comes_before_each_commit(rt: HostRuntime) -> Result<(), Fail> {
             .iter()
             .all(|line| usize::from(meter_of(line)) != place)
     );
+    Ok(())
+}
+
+// Has a worker for each three parcels, and counts the calls of others than worker 1.
+#[derive(Drop)]
+struct Threes {
+    others: AtomicU64,
+}
+
+impl Gate for Threes {
+    fn at(&self, worker: u32) {
+        if worker != 1 {
+            self.others.fetch_add(1, Ordering::SeqCst);
+        }
+    }
+
+    fn enough(&self) -> usize {
+        3
+    }
+}
+
+// Four parcels are enough for one worker of sixteen, and the caller leaves all commits to it.
+#[test]
+fn four_parcels_have_one_worker(rt: HostRuntime) -> Result<(), Fail> {
+    let alloc = rt.alloc();
+    let gate = Threes {
+        others: AtomicU64::new(0),
+    };
+    let mut book = sent_book(alloc)?;
+    book.reserve(4)?;
+    let batch = [
+        parcel(0, WORDS[0]),
+        parcel(1, WORDS[1]),
+        parcel(2, WORDS[2]),
+        Parcel::Close { group: 0, round: 0 },
+    ];
+    let parcels = Vec::from_slice(alloc, &batch)?;
+    let Ok((shared, mut first)) = SharedBook::begin(alloc, book, parcels) else {
+        panic!(rt; "no memory")
+    };
+    gather(&rt, alloc, &shared, &mut first, &batch, 16, &gate)?;
+    assert_eq!(rt; gate.others.load(Ordering::SeqCst), 0);
+    let shut = shared.shut(first);
+    assert!(rt; shut.passes.iter().all(|pass| *pass == Some(1)));
     Ok(())
 }

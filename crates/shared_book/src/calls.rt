@@ -86,6 +86,13 @@ impl SharedBook {
         )
     }
 
+    /// The parcels that it was opened with.
+    pub fn parcels(&self) -> &[Parcel]
+        ensures { result.now ≡ (opening self.now).parcels }
+    {
+        self.parcels.as_slice()
+    }
+
     /// A further pass, which has seen what the first has.
     pub fn split(&self, pass: &mut Pass) -> Pass
         requires pass { IsPassOf self.now pass.old }

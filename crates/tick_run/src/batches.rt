@@ -78,7 +78,7 @@ fn commit_batch<R: Threads + Wait + Sync, G: Gate>(
     rt: &R,
     alloc: Global,
     run: Running,
-    batch: &[Parcel],
+    batch: Vec<Parcel>,
     tick: u32,
     workers: u32,
     gate: &G,
@@ -86,7 +86,7 @@ fn commit_batch<R: Threads + Wait + Sync, G: Gate>(
     requires workers { (1 ≤ workers) × (workers ≤ 16) }
     requires later { last_tick_from 0 run.transcript.entries ≤ tick }
     requires plan { run.transcript.plan ≡ run.book.presence.plan }
-    ensures { (events : List Event) → Ask run.book events batch.now → IfOk result (λ after. Batched tick events run.book after.book run.transcript after.transcript run.link after.link) }
+    ensures { (events : List Event) → Ask run.book events batch.items → IfOk result (λ after. Batched tick events run.book after.book run.transcript after.transcript run.link after.link) }
 {
     if batch.len() > u32::MAX as usize {
         return Err(RunError::Memory);
@@ -128,7 +128,7 @@ pub(crate) fn take_copies<R: Threads + Wait + Sync, G: Gate>(
     ensures { IfOk result (λ after. Batched tick (map Take tags.now) run.book after.book run.transcript after.transcript run.link after.link) }
 {
     let batch = copies_of(alloc, &run.book, tags)?;
-    commit_batch(rt, alloc, run, &batch, tick, workers, gate)
+    commit_batch(rt, alloc, run, batch, tick, workers, gate)
 }
 
 /// The round of which the window ends at the tick.
@@ -184,5 +184,5 @@ pub(crate) fn close_rounds<R: Threads + Wait + Sync, G: Gate>(
     ensures { IfOk result (λ after. Batched tick (calls_due (clock_of run.book.presence.plan) (length run.book.presence.plan.groups) tick) run.book after.book run.transcript after.transcript run.link after.link) }
 {
     let batch = calls_at(alloc, run.book.plan(), tick)?;
-    commit_batch(rt, alloc, run, &batch, tick, workers, gate)
+    commit_batch(rt, alloc, run, batch, tick, workers, gate)
 }

@@ -1,12 +1,12 @@
 use Rattle.std.proofs.Common.{◌≡◌, ◌∙◌, ap, length, rules, sym}
-use Rattle.shared_book.specs.declared.parts.Pass.{Pass}
 use Rattle.shared_book.specs.Ends.{view}
+use Rattle.collector_workers.specs.declared.crew.Worker.{Worker}
 use Rattle.collector_workers.proofs.Numbers.{same_numbers}
 use Rattle.collector_workers.proofs.crew.work_beside.Goals as goal
 
-pub returns-then-workers-gt0-clause-numbers : goal.returns-then-workers-gt0-clause-numbers
-returns-then-workers-gt0-clause-numbers g c =
-    let long : length c.for_each_mut.new.s ≡ length c.args.passes.now = search rules in
-    same_numbers c.args.passes.now c.for_each_mut.new.s long (λ i d lt.
+pub returns-then-count-gt0-clause-numbers : goal.returns-then-count-gt0-clause-numbers
+returns-then-count-gt0-clause-numbers g c =
+    let long : length c.for_each_mut.new.s ≡ length c.args.workers.now = search rules in
+    same_numbers c.args.workers.now c.for_each_mut.new.s long (λ i d lt.
     let change = (c.for_each_mut.ensures i d lt).1 in
-    ap (λ (p : Pass). (view p).number) (sym change.left) ∙ change.call.1 ∙ ap (λ (p : Pass). (view p).number) change.argument_is)
+    ap (λ (w : Worker). (view w.pass).number) (sym change.left) ∙ change.call.1 ∙ ap (λ (w : Worker). (view w.pass).number) change.argument_is)

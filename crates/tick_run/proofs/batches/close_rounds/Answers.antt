@@ -11,6 +11,5 @@ returns g c =
     let b = c.args.run.book in
     let plan = b.presence.plan in
     let events = calls_due (clock_of plan) (length plan.groups) c.args.tick in
-    let batch : c.deref.result.now ≡ parcels_due (clock_of plan) (length plan.groups) c.args.tick
-    = c.deref.ensures.value ∙ c.in_ok-batch.ensures ∙ ap (λ (p : PlanView). parcels_due (clock_of p) (length p.groups) c.args.tick) c.plan.ensures in
+    let batch = c.in_ok-batch.ensures ∙ ap (λ (p : PlanView). parcels_due (clock_of p) (length p.groups) c.args.tick) c.plan.ensures in
     c.commit_batch.ensures events (subst (λ (ps : List Parcel). Ask b events ps) (sym batch) (calls-asked b (clock_of plan) c.args.tick 0 (length plan.groups) refl (omega arith)))

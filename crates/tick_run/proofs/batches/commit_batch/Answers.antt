@@ -12,7 +12,7 @@ push_lines-requires-clause-lines g c =
     let done = c.in-Ok.ensures in
     let same = added-tail c.journal-before.result.now c.journal.result.now _ _ done.added c.journal-before.ensures.lines c.journal.ensures.lines done.journal in
     subst (λ (ls : List Line). All (FitsLine c.args.run.transcript.plan []) ls) (sym same)
-    (subst (λ (p : PlanView). All (FitsLine p []) done.added) (sym c.requires.plan) (collected-fit c.args.run.book c.args.batch.now _ _ done))
+    (subst (λ (p : PlanView). All (FitsLine p []) done.added) (sym c.requires.plan) (collected-fit c.args.run.book c.args.batch.items _ _ done))
 
 pub returns-in_ok-push_lines-in-Ok : goal.returns-in_ok-push_lines-in-Ok
 returns-in_ok-push_lines-in-Ok g c = λ events ask.
@@ -22,7 +22,7 @@ returns-in_ok-push_lines-in-Ok g c = λ events ask.
       added = done.added;
       presence = done.presence;
       journal = done.journal;
-      events_are = collected-events c.args.run.book events c.args.batch.now _ _ ask done;
+      events_are = collected-events c.args.run.book events c.args.batch.items _ _ ask done;
       script_is = c.in_ok-push_lines-in-Ok.ensures ∙ ap (λ (ls : List Line). record c.args.run.transcript { entries = c.args.run.transcript.entries ++ map (quiet c.args.tick) ls }) same;
       link = refl;
     }
