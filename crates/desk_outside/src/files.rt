@@ -55,8 +55,11 @@ impl<'r, R: Files + Print + Eprint + AllocGlobal> FileDesk<'r, R> {
         ensures { faults_of self.new ≡ faults_of self.old }
     {
         let file = fs::open(self.rt, name)?;
-        self.fetched.push(FileId::of(&file.metadata()?))?;
-        let mut bytes = Vec::new(alloc);
+        let metadata = file.metadata()?;
+        self.fetched.push(FileId::of(&metadata))?;
+        // Room for the whole file at once, so that its bytes need not be moved.
+        let room = metadata.len().min(most).saturating_add(1);
+        let mut bytes = Vec::with_capacity(alloc, room as usize)?;
         file.take(most).read_to_end(&mut bytes)?;
         Ok(bytes)
     }

@@ -23,6 +23,9 @@ fn in_line(n: u64, fault: RowFault) -> ReadError
     }
 }
 
+/// About as many bytes as a line has: room is made by it, so that what grows need not be moved.
+pub(crate) const BYTES_A_LINE: usize = 72;
+
 // What an entry is made of. A function that keeps an entry has to name these types.
 type Parts = (
     Option<Frame>,
@@ -44,7 +47,7 @@ pub(crate) fn entries(
     ensures { Gives (λ v. v.items) result (entries_from version plan.now first 0 0 (parts 10 bytes.now)) }
 {
     let _parts: Parts = (None, None, None, None, None);
-    let mut entries = Vec::new(alloc);
+    let mut entries = Vec::with_capacity(alloc, bytes.len() / BYTES_A_LINE)?;
     let mut rest = bytes;
     let mut last = 0u32;
     let mut n = first;

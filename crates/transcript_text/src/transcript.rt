@@ -142,10 +142,17 @@ impl Transcript {
     pub fn empty(alloc: Global, plan: &Plan) -> Result<Transcript, AllocError>
         ensures { IfOk result (λ transcript. transcript ≡ no_entries plan.now) }
     {
+        Transcript::with_room(alloc, plan, 0)
+    }
+
+    /// The transcript of a plan before its first entry, with room for so many entries.
+    pub fn with_room(alloc: Global, plan: &Plan, entries: usize) -> Result<Transcript, AllocError>
+        ensures { IfOk result (λ transcript. transcript ≡ no_entries plan.now) }
+    {
         let _groups = plan.groups();
         Ok(Transcript {
             plan: plan.try_copy()?,
-            entries: Vec::new(alloc),
+            entries: Vec::with_capacity(alloc, entries)?,
         })
     }
 

@@ -8,6 +8,7 @@ ghost use Rattle.transcript_text.specs.Heads.{read_of};
 
 use crate::Transcript;
 use crate::head_writing::put_head;
+use crate::lines::BYTES_A_LINE;
 use crate::writing::put_entries;
 use std::alloc::{AllocError, Global};
 
@@ -20,8 +21,8 @@ pub fn write(alloc: Global, transcript: &Transcript) -> Result<Vec<u8>, AllocErr
     // So `read` gives the transcript back.
     ensures read_back { IfOk result (λ text. read_of Two text.items ≡ Ok transcript.now) }
 {
-    let mut out = Vec::new(alloc);
     let entries = transcript.entries();
+    let mut out = Vec::with_capacity(alloc, entries.len().saturating_mul(BYTES_A_LINE))?;
     put_head(&mut out, transcript.plan())?;
     put_entries(&mut out, entries)?;
     Ok(out)
