@@ -4,3 +4,4 @@ pub mod WordLoops
 pub mod RowLemmas
 pub mod RowLoop
 pub mod GroupLemmas
+pub mod AnswerLoops

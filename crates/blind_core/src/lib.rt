@@ -1,8 +1,10 @@
 //! Reading words and answer words, over any table of masks.
 #![tactic(auto)]
 
+mod answering;
 mod group;
 mod words;
 
+pub use answering::answers;
 pub use group::masked_group;
 pub use words::{answer, masked};

@@ -12,7 +12,7 @@ use missing_round::MeterSet;
 use mod_word::Word;
 
 // The total and what a pair word adds to it: the word at the lower meter, and what takes it away at the higher one.
-fn with_share(total: u64, pair_word: u64, meter: u8, other: u8) -> u64
+pub(crate) fn with_share(total: u64, pair_word: u64, meter: u8, other: u8) -> u64
     requires { not (other == meter) ≡ true }
     ensures { (pair : ℕ → ℕ → ℕ) → pair_word ≡ between pair meter other → result ≡ word (total + share pair meter other) }
 {

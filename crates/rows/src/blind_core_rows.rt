@@ -2,7 +2,7 @@
 
 ghost use Rattle.std.specs.Prelude.{◌+◌, ◌-◌, [], ◌∷◌, replicate, slice_index_or};
 
-use blind_core::{answer, masked, masked_group};
+use blind_core::{answer, answers, masked, masked_group};
 use mask_stream::Masks;
 use missing_round::MeterSet;
 use mod_word::Word;
@@ -114,6 +114,8 @@ fn answers_open_total_30(rt: HostRuntime) {
     let missing = MeterSet::empty().with(2);
     assert_eq!(rt; answer(&IDEAL, 0, 0, 0, &missing), Word(107));
     assert_eq!(rt; answer(&IDEAL, 0, 0, 1, &missing), Word(211));
+    let both = answers(&IDEAL, 0, 0, &MeterSet::full(2), &missing);
+    assert_eq!(rt; both.as_slice(), [107, 211].as_slice());
 }
 
 #[test]
@@ -144,5 +146,9 @@ fn each_pair_word_asked_once(rt: HostRuntime) -> Result<(), Fail> {
     let words = masked_group(rt.alloc(), &masks, 0, &MeterSet::full(64), 0, &readings)?;
     assert_eq!(rt; words.len(), 64);
     assert_eq!(rt; masks.asked.load(Ordering::SeqCst), 2016);
+    let missing = MeterSet::empty().with(7).with(40).with(63);
+    let answers = answers(&masks, 0, 0, &MeterSet::full(64).minus(missing), &missing);
+    assert_eq!(rt; answers.len(), 61);
+    assert_eq!(rt; masks.asked.load(Ordering::SeqCst), 2016 + 183);
     Ok(())
 }
