@@ -1,9 +1,10 @@
 -- The loops over missing meters, and over the meters that answer.
-use Rattle.std.proofs.Common.{◌≡◌, ℕ, ◌+◌, ◌≤◌, Bool, true, false, IsTrue, List, [], ◌∷◌, ◌++◌, length, map, sum_by, refl, sym, ap, ◌∙◌, ⊎_elim, arith, subst}
+use Rattle.std.proofs.Common.{◌≡◌, ℕ, ◌+◌, ◌≤◌, Bool, true, false, IsTrue, List, [], ◌∷◌, ◌++◌, ◌<◌, nat_lt, suc, drop, length, map, replicate, set, get_or, sum_by, All, refl, sym, ap, ◌∙◌, ⊎_elim, arith, subst}
 use Rattle.std.specs.List.{list_all}
 use Rattle.std.specs.List.{filter, range_with_len}
-use Rattle.std.proofs.lemmas.Bool.{false≢true, and_parts, cases_Bool, eq-eqb}
-use Rattle.std.proofs.lemmas.List.{length-map}
+use Rattle.std.proofs.lemmas.Bool.{false≢true, and_parts, and_from, cases_Bool, eq-eqb, lt-ltb, ltb-true}
+use Rattle.std.proofs.lemmas.List.{length-map, length-replicate}
+use Rattle.std.proofs.Math.ListN.{get_or-map}
 use Rattle.std.proofs.lemmas.List.FromFn.{length-range_with_len}
 use Rattle.std.proofs.lemmas.List.Sums.{sum_by-cons, length-filter, count_by-le-length}
 use Rattle.group_plan.specs.Plans.{PlanView}
@@ -14,7 +15,11 @@ use Rattle.missing_round.specs.Words.{word, share}
 use Rattle.mask_stream.specs.Ends.{is_other, between}
 use Rattle.blind_core.specs.Blind.{are_places}
 use Rattle.blind_core.specs.Answers.{with_shares, with_all_shares}
+use Rattle.blind_core.proofs.PlaceLemmas.{test-member}
 use Rattle.blind_core.proofs.ShareLemmas.{others-are_ends}
+use Rattle.blind_core.proofs.GroupLemmas.{with_owns-member}
+use Rattle.blind_core.proofs.WordLoops.{Owns, owns_next}
+use Rattle.blind_core.specs.Rows.{with_owns}
 
 -- the meters that are left, their words and sums, and the sums that are made
 pub record Shared (pair : ℕ → ℕ → ℕ) (missing : ℕ) (is_end : ℕ → Bool) (all sums left words now made : List ℕ) : Type 0 where
@@ -117,3 +122,39 @@ all-shares pair (j ∷ missing) f meters =
     ∙ all-shares pair missing (λ i. word (f i + share pair i j)) meters
     ∙ same-map (λ i. word (word (f i + share pair i j) + sum_by (share pair i) missing)) (λ i. word (f i + sum_by (share pair i) (j ∷ missing))) meters
     (λ i. step (f i) (share pair i j) (sum_by (share pair i) missing) ∙ ap (λ n. word (f i + n)) (sym (sum_by-cons (share pair i) j missing)))
+
+-- ---- each word at its meter's place
+
+-- the members of a set are among 256 places
+within_256 : (xs : List ℕ) → All (λ i. i < 256) xs → IsTrue (list_all (λ j. nat_lt j 256) xs)
+within_256 [] h = refl
+within_256 (x ∷ xs) h = and_from (nat_lt x 256) (list_all (λ j. nat_lt j 256) xs) (lt-ltb x 256 (h 0 0 (omega arith))) (within_256 xs (λ k d l. h (suc k) d (omega (arith, l))))
+
+-- no word stands at its place
+pub spread_begins : (f : ℕ → ℕ) (meters left sums : List ℕ) → left ≡ meters → IsSet meters → map word sums ≡ map f meters
+    → Owns f meters (replicate 256 0) left (replicate 256 0) (map word sums)
+spread_begins f meters left sums e is_set are =
+    subst (λ (l : List ℕ). Owns f meters (replicate 256 0) l (replicate 256 0) (map word sums)) (sym e)
+    (record {
+      within = subst (λ (n : ℕ). IsTrue (list_all (λ j. nat_lt j n) meters)) (sym (length-replicate {A = ℕ} 256 0)) (within_256 meters is_set.small);
+      of_left = are;
+      put = refl;
+    })
+
+-- the next word is put
+pub spread_next : (f : ℕ → ℕ) (meters left rest sums now : List ℕ) (place i w : ℕ) → left ≡ i ∷ rest
+    → Owns f meters (replicate 256 0) left now (drop place (map word sums)) → w ≡ word (get_or sums place 0)
+    → Owns f meters (replicate 256 0) rest (set now i w) (drop (place + 1) (map word sums))
+spread_next f meters left rest sums now place i w e owns put =
+    subst (λ (n : ℕ). Owns f meters (replicate 256 0) rest (set now i n) (drop (place + 1) (map word sums)))
+    (get_or-map word sums place 0 ∙ sym put)
+    (owns_next f meters (replicate 256 0) left now (map word sums) place i rest owns e)
+
+-- each word stands at its place
+pub spread_ends : (f : ℕ → ℕ) (meters left now words : List ℕ) → left ≡ [] → IsSet meters → Owns f meters (replicate 256 0) left now words
+    → (i : ℕ) → is_member i meters ≡ true → get_or now i 0 ≡ f i
+unfolding with_owns
+spread_ends f meters left now words e is_set owns i member =
+    let all : now ≡ with_owns f meters (replicate 256 0) = sym (ap (λ l. with_owns f l now) e) ∙ owns.put in
+    let inside : i < 256 = ltb-true i 256 (test-member (λ j. nat_lt j 256) i meters (within_256 meters is_set.small) member) in
+    ap (λ l. get_or l i 0) all ∙ with_owns-member f meters (replicate 256 0) i (omega (arith, inside, length-replicate {A = ℕ} 256 0)) member

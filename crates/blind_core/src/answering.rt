@@ -1,5 +1,5 @@
 //! The words that the meters of a round answer to one missing set.
-ghost use Rattle.std.specs.Prelude.{◌≡◌, ℕ, true, false, IsTrue, length, map};
+ghost use Rattle.std.specs.Prelude.{◌≡◌, ℕ, true, false, IsTrue, length, map, slice_index};
 ghost use Rattle.std.specs.List.{list_all};
 ghost use Rattle.group_plan.specs.Plans.{is_place};
 ghost use Rattle.missing_round.specs.Sets.{is_member};
@@ -67,24 +67,26 @@ fn word_of(number: u64) -> u64
     number
 }
 
-/// The values of the words that these meters answer to a missing set, in the order of the meters, of which none is missing:
-/// each its own word, and its shares of the pair words with the missing meters. Each mask word is asked once.
+/// The values of the words that these meters answer to a missing set, of which none is missing itself, each at its meter's
+/// place: its own word, and its shares of the pair words with the missing meters. Each mask word is asked once.
 pub fn answers<M: Masks>(
     masks: &M,
     group: u16,
     round: u32,
     meters: &MeterSet,
     missing: &MeterSet,
-) -> Row
+) -> [u64; 256]
     requires meters { IsTrue (are_places (M.plan masks.now) group round meters.now) }
     requires missing { IsTrue (are_places (M.plan masks.now) group round missing.now) }
     requires apart { (i : ℕ) → is_member i meters.now ≡ true → is_member i missing.now ≡ false }
-    ensures { result.items ≡ map (λ i. answer_word ((M.table masks.now).own group round) ((M.table masks.now).pair group round) i missing.now) meters.now }
+    ensures { (i : ℕ) → is_member i meters.now ≡ true → slice_index result i ≡ answer_word ((M.table masks.now).own group round) ((M.table masks.now).pair group round) i missing.now }
 {
     let sums = answer_sums(masks, group, round, meters, missing);
-    let mut words = Row::new();
-    for place in 0..sums.len() {
-        words.push(word_of(sums[place]));
+    let mut words = [0u64; 256];
+    let mut place = 0;
+    for meter in meters.members() {
+        words[meter as usize] = word_of(sums[place]);
+        place += 1;
     }
     words
 }

@@ -1,6 +1,9 @@
-use Rattle.std.proofs.Common.{◌≡◌, ◌≤◌, length, map, take}
-use Rattle.missing_round.specs.Words.{word}
+use Rattle.std.proofs.Common.{drop, map, replicate}
+use Rattle.missing_round.specs.Words.{word, answer_word}
+use Rattle.blind_core.proofs.WordLoops.{Owns}
 use Rattle.blind_core.proofs.answering.answers.Given as goal
 
-abbrev pub invariant-loop-place : goal.invariant-loop-place
-invariant-loop-place g l = (length l.sums.items ≤ 256) × (l.words.items ≡ map word (take l.place l.sums.items))
+abbrev pub invariant-loop-meter : goal.invariant-loop-meter
+invariant-loop-meter g l =
+    Owns (λ i. answer_word ((g.M.Masks.table l.masks).own l.group l.round) ((g.M.Masks.table l.masks).pair l.group l.round) i l.missing)
+    l.meters (replicate 256 0) l.meter-iterator l.words (drop l.place (map word l.sums.items))
