@@ -1,11 +1,9 @@
 -- Copies on their way, in order.
-use Rattle.std.proofs.Common.{◌≡◌, ◌∙◌, sym, ap, refl, ℕ, ◌+◌, ◌<◌, ◌≤◌, ◌==◌, nat_le, Bool, true, false, cond, not, List, [], ◌∷◌, ◌++◌, map, length, append_assoc, arith}
+use Rattle.std.proofs.Common.{◌≡◌, ◌∙◌, ap, refl, ℕ, ◌+◌, ◌<◌, ◌≤◌, ◌==◌, nat_le, Bool, true, false, cond, not, List, [], ◌∷◌, ◌++◌, map, length, arith}
 use Rattle.std.specs.List.{filter}
-use Rattle.std.proofs.lemmas.Bool.{false≢true}
 use Rattle.std.proofs.lemmas.List.{map-append, length-map}
 use Rattle.std.proofs.lemmas.List.Filters.{length-filter_both}
 use Rattle.std.proofs.lemmas.Bool.Decides.{nat_tests}
-use Rattle.group_plan.specs.declared.tag.Tag.{Tag}
 use Rattle.lossy_link.specs.Arrivals.{Arrival, arrival, placed, posted, due_at, due_elsewhere}
 
 -- every copy is due after the tick; none is
@@ -21,13 +19,13 @@ pub after-append : (tick : ℕ) (xs ys : List Arrival) → AllAfter tick xs → 
 after-append tick [] ys h k = k
 after-append tick (a ∷ xs) ys h k = (h.0, after-append tick xs ys h.1 k)
 
-pub after-arrivals : (tick due : ℕ) (tags : List Tag) → tick < due → AllAfter tick (map (arrival due) tags)
+pub after-arrivals : (tick due : ℕ) (several : List (List ℕ)) → tick < due → AllAfter tick (map (arrival due) several)
 after-arrivals tick due [] lt = tt
-after-arrivals tick due (tag ∷ tags) lt = (lt, after-arrivals tick due tags lt)
+after-arrivals tick due (bytes ∷ several) lt = (lt, after-arrivals tick due several lt)
 
-pub until-arrivals : (tick due : ℕ) (tags : List Tag) → due ≤ tick → AllUntil tick (map (arrival due) tags)
+pub until-arrivals : (tick due : ℕ) (several : List (List ℕ)) → due ≤ tick → AllUntil tick (map (arrival due) several)
 until-arrivals tick due [] le = tt
-until-arrivals tick due (tag ∷ tags) le = (le, until-arrivals tick due tags le)
+until-arrivals tick due (bytes ∷ several) le = (le, until-arrivals tick due several le)
 
 -- ---- placing a copy
 
@@ -52,10 +50,10 @@ length-placed a (b ∷ copies) =
     [ true ↦ omega (arith, length-placed a copies) | false ↦ omega arith ]
 
 -- one copy more for each delay
-pub length-posted : (tick : ℕ) (tag : Tag) (delays : List ℕ) (copies : List Arrival) → length (posted tick tag delays copies) ≡ length copies + length delays
-length-posted tick tag [] copies = omega arith
-length-posted tick tag (d ∷ delays) copies =
-    omega (arith, length-posted tick tag delays (placed (arrival (tick + d) tag) copies), length-placed (arrival (tick + d) tag) copies)
+pub length-posted : (tick : ℕ) (bytes : List ℕ) (delays : List ℕ) (copies : List Arrival) → length (posted tick bytes delays copies) ≡ length copies + length delays
+length-posted tick bytes [] copies = omega arith
+length-posted tick bytes (d ∷ delays) copies =
+    omega (arith, length-posted tick bytes delays (placed (arrival (tick + d) bytes) copies), length-placed (arrival (tick + d) bytes) copies)
 
 -- the first copy is due as early as the one that was placed
 placed-first : (a : Arrival) (copies : List Arrival) (y : Arrival) (ys : List Arrival) → placed a copies ≡ y ∷ ys → y.tick ≤ a.tick
@@ -99,55 +97,55 @@ filter-append p (a ∷ xs) ys =
     elim (p a) as (λ b. cond b (a ∷ filter p (xs ++ ys)) (filter p (xs ++ ys)) ≡ cond b (a ∷ filter p xs) (filter p xs) ++ filter p ys)
     [ true ↦ ap (λ l. a ∷ l) rest | false ↦ rest ]
 
-all_due : (tick : ℕ) (tags : List Tag) → filter (is_due tick) (map (arrival tick) tags) ≡ map (arrival tick) tags
+all_due : (tick : ℕ) (several : List (List ℕ)) → filter (is_due tick) (map (arrival tick) several) ≡ map (arrival tick) several
 all_due tick [] = refl
-all_due tick (tag ∷ tags) =
+all_due tick (bytes ∷ several) =
     let here : (tick == tick) ≡ true = grind (arith, nat_tests) in
-    ap (λ b. cond b (arrival tick tag ∷ filter (is_due tick) (map (arrival tick) tags)) (filter (is_due tick) (map (arrival tick) tags))) here
-    ∙ ap (λ l. arrival tick tag ∷ l) (all_due tick tags)
+    ap (λ b. cond b (arrival tick bytes ∷ filter (is_due tick) (map (arrival tick) several)) (filter (is_due tick) (map (arrival tick) several))) here
+    ∙ ap (λ l. arrival tick bytes ∷ l) (all_due tick several)
 
-none_due : (tick due : ℕ) (tags : List Tag) → ¬ (due ≡ tick) → filter (is_due tick) (map (arrival due) tags) ≡ []
+none_due : (tick due : ℕ) (several : List (List ℕ)) → ¬ (due ≡ tick) → filter (is_due tick) (map (arrival due) several) ≡ []
 none_due tick due [] ne = refl
-none_due tick due (tag ∷ tags) ne =
+none_due tick due (bytes ∷ several) ne =
     let other : (due == tick) ≡ false = grind (arith, nat_tests) in
-    ap (λ b. cond b (arrival due tag ∷ filter (is_due tick) (map (arrival due) tags)) (filter (is_due tick) (map (arrival due) tags))) other
-    ∙ none_due tick due tags ne
+    ap (λ b. cond b (arrival due bytes ∷ filter (is_due tick) (map (arrival due) several)) (filter (is_due tick) (map (arrival due) several))) other
+    ∙ none_due tick due several ne
 
-none_else : (tick : ℕ) (tags : List Tag) → due_elsewhere tick (map (arrival tick) tags) ≡ []
+none_else : (tick : ℕ) (several : List (List ℕ)) → due_elsewhere tick (map (arrival tick) several) ≡ []
 none_else tick [] = refl
-none_else tick (tag ∷ tags) =
+none_else tick (bytes ∷ several) =
     let here : (tick == tick) ≡ true = grind (arith, nat_tests) in
-    ap (λ b. cond (not b) (arrival tick tag ∷ due_elsewhere tick (map (arrival tick) tags)) (due_elsewhere tick (map (arrival tick) tags))) here
-    ∙ none_else tick tags
+    ap (λ b. cond (not b) (arrival tick bytes ∷ due_elsewhere tick (map (arrival tick) several)) (due_elsewhere tick (map (arrival tick) several))) here
+    ∙ none_else tick several
 
-all_else : (tick due : ℕ) (tags : List Tag) → ¬ (due ≡ tick) → due_elsewhere tick (map (arrival due) tags) ≡ map (arrival due) tags
+all_else : (tick due : ℕ) (several : List (List ℕ)) → ¬ (due ≡ tick) → due_elsewhere tick (map (arrival due) several) ≡ map (arrival due) several
 all_else tick due [] ne = refl
-all_else tick due (tag ∷ tags) ne =
+all_else tick due (bytes ∷ several) ne =
     let other : (due == tick) ≡ false = grind (arith, nat_tests) in
-    ap (λ b. cond (not b) (arrival due tag ∷ due_elsewhere tick (map (arrival due) tags)) (due_elsewhere tick (map (arrival due) tags))) other
-    ∙ ap (λ l. arrival due tag ∷ l) (all_else tick due tags ne)
+    ap (λ b. cond (not b) (arrival due bytes ∷ due_elsewhere tick (map (arrival due) several)) (due_elsewhere tick (map (arrival due) several))) other
+    ∙ ap (λ l. arrival due bytes ∷ l) (all_else tick due several ne)
 
-tags_again : (tick : ℕ) (tags : List Tag) → map (λ a. a.tag) (map (arrival tick) tags) ≡ tags
-tags_again tick [] = refl
-tags_again tick (tag ∷ tags) = ap (λ l. tag ∷ l) (tags_again tick tags)
+bytes_again : (tick : ℕ) (several : List (List ℕ)) → map (λ a. a.bytes) (map (arrival tick) several) ≡ several
+bytes_again tick [] = refl
+bytes_again tick (bytes ∷ several) = ap (λ l. bytes ∷ l) (bytes_again tick several)
 
 pub due_at-append : (tick : ℕ) (xs ys : List Arrival) → due_at tick (xs ++ ys) ≡ due_at tick xs ++ due_at tick ys
 due_at-append tick xs ys =
-    ap (map (λ a. a.tag)) (filter-append (is_due tick) xs ys) ∙ map-append (λ (a : Arrival). a.tag) (filter (is_due tick) xs) (filter (is_due tick) ys)
+    ap (map (λ a. a.bytes)) (filter-append (is_due tick) xs ys) ∙ map-append (λ (a : Arrival). a.bytes) (filter (is_due tick) xs) (filter (is_due tick) ys)
 
 pub due_elsewhere-append : (tick : ℕ) (xs ys : List Arrival) → due_elsewhere tick (xs ++ ys) ≡ due_elsewhere tick xs ++ due_elsewhere tick ys
 due_elsewhere-append tick xs ys = filter-append (λ a. not (a.tick == tick)) xs ys
 
-pub due_at-here : (tick : ℕ) (tags : List Tag) → due_at tick (map (arrival tick) tags) ≡ tags
-due_at-here tick tags = ap (map (λ a. a.tag)) (all_due tick tags) ∙ tags_again tick tags
+pub due_at-here : (tick : ℕ) (several : List (List ℕ)) → due_at tick (map (arrival tick) several) ≡ several
+due_at-here tick several = ap (map (λ a. a.bytes)) (all_due tick several) ∙ bytes_again tick several
 
-pub due_at-other : (tick due : ℕ) (tags : List Tag) → ¬ (due ≡ tick) → due_at tick (map (arrival due) tags) ≡ []
-due_at-other tick due tags ne = ap (map (λ a. a.tag)) (none_due tick due tags ne)
+pub due_at-other : (tick due : ℕ) (several : List (List ℕ)) → ¬ (due ≡ tick) → due_at tick (map (arrival due) several) ≡ []
+due_at-other tick due several ne = ap (map (λ a. a.bytes)) (none_due tick due several ne)
 
-pub due_elsewhere-here : (tick : ℕ) (tags : List Tag) → due_elsewhere tick (map (arrival tick) tags) ≡ []
+pub due_elsewhere-here : (tick : ℕ) (several : List (List ℕ)) → due_elsewhere tick (map (arrival tick) several) ≡ []
 due_elsewhere-here = none_else
 
-pub due_elsewhere-other : (tick due : ℕ) (tags : List Tag) → ¬ (due ≡ tick) → due_elsewhere tick (map (arrival due) tags) ≡ map (arrival due) tags
+pub due_elsewhere-other : (tick due : ℕ) (several : List (List ℕ)) → ¬ (due ≡ tick) → due_elsewhere tick (map (arrival due) several) ≡ map (arrival due) several
 due_elsewhere-other = all_else
 
 -- nothing that is due later
@@ -155,7 +153,7 @@ pub due_at-after : (tick : ℕ) (copies : List Arrival) → AllAfter tick copies
 due_at-after tick [] h = refl
 due_at-after tick (a ∷ copies) h =
     let other : (a.tick == tick) ≡ false = (let lt : tick < a.tick = h.0 in grind (arith, nat_tests)) in
-    ap (λ b. map (λ (a : Arrival). a.tag) (cond b (a ∷ filter (is_due tick) copies) (filter (is_due tick) copies))) other ∙ due_at-after tick copies h.1
+    ap (λ b. map (λ (a : Arrival). a.bytes) (cond b (a ∷ filter (is_due tick) copies) (filter (is_due tick) copies))) other ∙ due_at-after tick copies h.1
 
 pub due_elsewhere-after : (tick : ℕ) (copies : List Arrival) → AllAfter tick copies → due_elsewhere tick copies ≡ copies
 due_elsewhere-after tick [] h = refl
@@ -167,18 +165,18 @@ due_elsewhere-after tick (a ∷ copies) h =
 pub length-due : (tick : ℕ) (copies : List Arrival) → length (due_at tick copies) + length (due_elsewhere tick copies) ≡ length copies
 length-due tick copies =
     let both : length (filter (is_due tick) copies) + length (due_elsewhere tick copies) ≡ length copies = length-filter_both (is_due tick) (λ a. not (a.tick == tick)) (λ a. refl) copies in
-    omega (arith, both, length-map (filter (is_due tick) copies) (λ (a : Arrival). a.tag))
+    omega (arith, both, length-map (filter (is_due tick) copies) (λ (a : Arrival). a.bytes))
 
 -- a copy that was placed is due at its tick
 pub length-due_at-placed : (a : Arrival) (copies : List Arrival) → length (due_at a.tick (placed a copies)) ≡ length (due_at a.tick copies) + 1
 length-due_at-placed a [] =
     let here : (a.tick == a.tick) ≡ true = grind (arith, nat_tests) in
-    ap (λ b. length (map (λ (a : Arrival). a.tag) (cond b (a ∷ []) []))) here
+    ap (λ b. length (map (λ (a : Arrival). a.bytes) (cond b (a ∷ []) []))) here
 length-due_at-placed a (b ∷ copies) = by_case (nat_le b.tick a.tick) (length-due_at-placed a copies)
   where
     due_at-cons : (x : Arrival) (xs : List Arrival) → length (due_at a.tick (x ∷ xs)) ≡ length (due_at a.tick xs) + (cond {A = ℕ} (x.tick == a.tick) 1 0)
     due_at-cons x xs =
-        elim (x.tick == a.tick) as (λ d. length (map (λ (z : Arrival). z.tag) (cond d (x ∷ filter (is_due a.tick) xs) (filter (is_due a.tick) xs))) ≡ length (due_at a.tick xs) + (cond {A = ℕ} d 1 0))
+        elim (x.tick == a.tick) as (λ d. length (map (λ (z : Arrival). z.bytes) (cond d (x ∷ filter (is_due a.tick) xs) (filter (is_due a.tick) xs))) ≡ length (due_at a.tick xs) + (cond {A = ℕ} d 1 0))
         [ true ↦ omega arith | false ↦ omega arith ]
 
     here : (cond {A = ℕ} (a.tick == a.tick) 1 0) ≡ 1

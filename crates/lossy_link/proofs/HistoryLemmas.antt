@@ -2,7 +2,6 @@
 use Rattle.std.proofs.Common.{◌≡◌, ◌∙◌, sym, ap, subst, refl, ℕ, ◌+◌, ◌<◌, ◌≤◌, ◌==◌, nat_le, Bool, true, false, cond, not, List, [], ◌∷◌, ◌++◌, map, length, length-append, append_assoc, append-nil, arith}
 use Rattle.std.specs.List.{filter}
 use Rattle.std.proofs.lemmas.Bool.Decides.{nat_tests}
-use Rattle.group_plan.specs.declared.tag.Tag.{Tag}
 use Rattle.lossy_link.specs.Arrivals.{Arrival, arrival, placed, posted, due_at, due_elsewhere}
 use Rattle.lossy_link.specs.Histories.{Step, Posted, Taken, copies_after, left_after, KeepsEachCopy}
 use Rattle.lossy_link.proofs.ArrivalLemmas.{AllAfter, is_due, due_at-append, due_at-after, length-placed, length-due}
@@ -71,7 +70,7 @@ due_at-placed tick a (b ∷ copies) h = by_case (nat_le b.tick a.tick) refl (due
         let none : due_at tick (b ∷ copies) ≡ [] = due_at-after tick (b ∷ copies) (omega arith, after-none_before tick b.tick copies (omega arith) h.0) in
         ap (λ l. due_at tick (a ∷ []) ++ l) none ∙ append-nil (due_at tick (a ∷ [])) ∙ ap (λ l. l ++ due_at tick (a ∷ [])) (sym none)
     ahead lt false is =
-        let none : due_at tick (a ∷ []) ≡ [] = ap (λ c. map (λ (z : Arrival). z.tag) (cond c (a ∷ []) [])) is in
+        let none : due_at tick (a ∷ []) ≡ [] = ap (λ c. map (λ (z : Arrival). z.bytes) (cond c (a ∷ []) [])) is in
         ap (λ l. l ++ due_at tick (b ∷ copies)) none ∙ sym (append-nil (due_at tick (b ∷ copies))) ∙ ap (λ l. due_at tick (b ∷ copies) ++ l) (sym none)
 
     by_case : (c : Bool) → nat_le b.tick a.tick ≡ c → due_at tick (placed a copies) ≡ due_at tick copies ++ due_at tick (a ∷ []) → due_at tick (cond c (b ∷ placed a copies) (a ∷ b ∷ copies)) ≡ due_at tick (b ∷ copies) ++ due_at tick (a ∷ [])
@@ -91,7 +90,7 @@ gone tick (a ∷ copies) = by_case (a.tick == tick) refl (gone tick copies)
     by_case true is rest = ap (λ c. due_at tick (cond (not c) (a ∷ due_elsewhere tick copies) (due_elsewhere tick copies))) is ∙ rest
     by_case false is rest =
         ap (λ c. due_at tick (cond (not c) (a ∷ due_elsewhere tick copies) (due_elsewhere tick copies))) is
-        ∙ ap (λ c. map (λ (z : Arrival). z.tag) (cond c (a ∷ filter (is_due tick) (due_elsewhere tick copies)) (filter (is_due tick) (due_elsewhere tick copies)))) is ∙ rest
+        ∙ ap (λ c. map (λ (z : Arrival). z.bytes) (cond c (a ∷ filter (is_due tick) (due_elsewhere tick copies)) (filter (is_due tick) (due_elsewhere tick copies)))) is ∙ rest
 
 kept : (tick other : ℕ) (copies : List Arrival) → (tick == other) ≡ false → due_at tick (due_elsewhere other copies) ≡ due_at tick copies
 kept tick other [] ne = refl
@@ -101,7 +100,7 @@ kept tick other (a ∷ copies) ne = by_case (a.tick == other) refl (kept tick ot
     by_case true is rest =
         let apart : (a.tick == tick) ≡ false = grind (arith, nat_tests) in
         ap (λ c. due_at tick (cond (not c) (a ∷ due_elsewhere other copies) (due_elsewhere other copies))) is ∙ rest
-        ∙ sym (ap (λ c. map (λ (z : Arrival). z.tag) (cond c (a ∷ filter (is_due tick) copies) (filter (is_due tick) copies))) apart)
+        ∙ sym (ap (λ c. map (λ (z : Arrival). z.bytes) (cond c (a ∷ filter (is_due tick) copies) (filter (is_due tick) copies))) apart)
     by_case false is rest =
         ap (λ c. due_at tick (cond (not c) (a ∷ due_elsewhere other copies) (due_elsewhere other copies))) is
         ∙ due_at-append tick (a ∷ []) (due_elsewhere other copies) ∙ ap (λ l. due_at tick (a ∷ []) ++ l) rest ∙ sym (due_at-append tick (a ∷ []) copies)
@@ -120,11 +119,11 @@ alike-placed a copies left h = record {
   many = omega (arith, length-placed a copies, h.many, length-append left (a ∷ []));
 }
 
-alike-posted : (tick : ℕ) (tag : Tag) (fate : List ℕ) (copies left : List Arrival) → Alike copies left → Alike (posted tick tag fate copies) (left ++ map (λ delay. arrival (tick + delay) tag) fate)
-alike-posted tick tag [] copies left h = subst (λ l. Alike copies l) (sym (append-nil left)) h
-alike-posted tick tag (d ∷ fate) copies left h =
-    subst (λ l. Alike (posted tick tag (d ∷ fate) copies) l) (append_assoc left (arrival (tick + d) tag ∷ []) (map (λ delay. arrival (tick + delay) tag) fate))
-    (alike-posted tick tag fate (placed (arrival (tick + d) tag) copies) (left ++ arrival (tick + d) tag ∷ []) (alike-placed (arrival (tick + d) tag) copies left h))
+alike-posted : (tick : ℕ) (bytes : List ℕ) (fate : List ℕ) (copies left : List Arrival) → Alike copies left → Alike (posted tick bytes fate copies) (left ++ map (λ delay. arrival (tick + delay) bytes) fate)
+alike-posted tick bytes [] copies left h = subst (λ l. Alike copies l) (sym (append-nil left)) h
+alike-posted tick bytes (d ∷ fate) copies left h =
+    subst (λ l. Alike (posted tick bytes (d ∷ fate) copies) l) (append_assoc left (arrival (tick + d) bytes ∷ []) (map (λ delay. arrival (tick + delay) bytes) fate))
+    (alike-posted tick bytes fate (placed (arrival (tick + d) bytes) copies) (left ++ arrival (tick + d) bytes ∷ []) (alike-placed (arrival (tick + d) bytes) copies left h))
 
 alike-taken : (tick : ℕ) (copies left : List Arrival) → Alike copies left → Alike (due_elsewhere tick copies) (due_elsewhere tick left)
 alike-taken tick copies left h = record {
@@ -141,8 +140,8 @@ alike-taken tick copies left h = record {
 
 alike-after : (steps : List Step) (copies left : List Arrival) → Alike copies left → Alike (copies_after copies steps) (left_after left steps)
 alike-after [] copies left h = h
-alike-after (Posted tick tag fate ∷ steps) copies left h =
-    alike-after steps (posted tick tag fate copies) (left ++ map (λ delay. arrival (tick + delay) tag) fate) (alike-posted tick tag fate copies left h)
+alike-after (Posted tick bytes fate ∷ steps) copies left h =
+    alike-after steps (posted tick bytes fate copies) (left ++ map (λ delay. arrival (tick + delay) bytes) fate) (alike-posted tick bytes fate copies left h)
 alike-after (Taken tick ∷ steps) copies left h = alike-after steps (due_elsewhere tick copies) (due_elsewhere tick left) (alike-taken tick copies left h)
 
 pub each_copy_once : (steps : List Step) → KeepsEachCopy steps

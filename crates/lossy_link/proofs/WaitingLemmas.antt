@@ -1,25 +1,23 @@
--- The copies that a map from ticks to tags keeps.
-use Rattle.std.proofs.Common.{◌≡◌, ◌∙◌, sym, ap, refl, ℕ, ◌+◌, ◌<◌, ◌≤◌, ◌==◌, nat_le, nat_lt, Bool, true, false, cond, not, List, [], ◌∷◌, ◌++◌, map, length, append_assoc, append-nil, arith, Vec, vec_len, Option, Some, None, MatchOption}
+-- The copies that a map from ticks to bytes keeps.
+use Rattle.std.proofs.Common.{◌≡◌, ◌∙◌, sym, ap, refl, ℕ, ◌+◌, ◌<◌, ◌≤◌, ◌==◌, nat_lt, Bool, true, false, cond, List, [], ◌∷◌, ◌++◌, map, length, append_assoc, append-nil, arith, Vec, vec_len, Option, Some, None, MatchOption}
 use Rattle.std.specs.Option.{option_to_list}
 use Rattle.std.proofs.lemmas.Map.Steps.{set_value_same}
 use Rattle.std.specs.declared.alloc.Global.{Global}
 use Rattle.std.specs.declared.cmp.Ordering.{Ordering}
 use Rattle.std.specs.declared.cmp.Ordering.TheVariants.{Less, Equal, Greater}
 use Rattle.std.specs.BTreeMap.{insert_entry, is_at}
-use Rattle.std.specs.List.{filter, AllByRecursion}
+use Rattle.std.specs.List.{AllByRecursion}
 use Rattle.std.specs.List.Sorted.{IsStrictlySortedBy}
 use Rattle.std.specs.Map.{keys_of, lookup, set_value, remove_entry}
 use Rattle.std.specs.Ordering.{nat_cmp, is_eq, match_ordering}
-use Rattle.std.proofs.lemmas.Bool.{false≢true}
 use Rattle.std.proofs.lemmas.Bool.Decides.{nat_tests}
 use Rattle.std.proofs.lemmas.List.{map-append}
-use Rattle.group_plan.specs.declared.tag.Tag.{Tag}
 use Rattle.lossy_link.specs.Arrivals.{Arrival, arrival, placed, due_at, due_elsewhere}
 use Rattle.lossy_link.specs.Waiting.{copies_of}
 use Rattle.lossy_link.proofs.ArrivalLemmas.{AllAfter, placed_same, length-due_at-placed, due_at-append, due_at-here, due_at-other, due_at-after, due_elsewhere-append, due_elsewhere-here, due_elsewhere-other, due_elsewhere-after, after-append, after-arrivals, until-arrivals, placed-front, placed-behind}
 
 abbrev pub Entries : Type 0
-Entries = List (ℕ × Vec Tag Global)
+Entries = List (ℕ × Vec (List ℕ) Global)
 
 -- ---- how a tick compares
 
@@ -73,17 +71,17 @@ copies-above k (e ∷ es) h = after-append k (map (arrival e.0) e.1.items) (copi
 
 -- ---- the bucket of a tick
 
-abbrev pub tags_of : Option (Vec Tag Global) → List Tag
-tags_of None = []
-tags_of (Some tags) = tags.items
+abbrev pub copies_at : Option (Vec (List ℕ) Global) → List (List ℕ)
+copies_at None = []
+copies_at (Some several) = several.items
 
-lookup-before : (k : ℕ) (e : ℕ × Vec Tag Global) (es : Entries) → nat_cmp k e.0 ≡ Less → lookup (is_at (nat_cmp k)) (e ∷ es) ≡ lookup (is_at (nat_cmp k)) es
+lookup-before : (k : ℕ) (e : ℕ × Vec (List ℕ) Global) (es : Entries) → nat_cmp k e.0 ≡ Less → lookup (is_at (nat_cmp k)) (e ∷ es) ≡ lookup (is_at (nat_cmp k)) es
 lookup-before k e es is = ap (λ o. cond (is_eq o) (Some e.1) (lookup (is_at (nat_cmp k)) es)) is
 
-lookup-same : (k : ℕ) (e : ℕ × Vec Tag Global) (es : Entries) → nat_cmp k e.0 ≡ Equal → lookup (is_at (nat_cmp k)) (e ∷ es) ≡ Some e.1
+lookup-same : (k : ℕ) (e : ℕ × Vec (List ℕ) Global) (es : Entries) → nat_cmp k e.0 ≡ Equal → lookup (is_at (nat_cmp k)) (e ∷ es) ≡ Some e.1
 lookup-same k e es is = ap (λ o. cond (is_eq o) (Some e.1) (lookup (is_at (nat_cmp k)) es)) is
 
-lookup-after : (k : ℕ) (e : ℕ × Vec Tag Global) (es : Entries) → nat_cmp k e.0 ≡ Greater → lookup (is_at (nat_cmp k)) (e ∷ es) ≡ lookup (is_at (nat_cmp k)) es
+lookup-after : (k : ℕ) (e : ℕ × Vec (List ℕ) Global) (es : Entries) → nat_cmp k e.0 ≡ Greater → lookup (is_at (nat_cmp k)) (e ∷ es) ≡ lookup (is_at (nat_cmp k)) es
 lookup-after k e es is = ap (λ o. cond (is_eq o) (Some e.1) (lookup (is_at (nat_cmp k)) es)) is
 
 lookup-none : (k : ℕ) (es : Entries) → Above k es → lookup (is_at (nat_cmp k)) es ≡ None
@@ -95,25 +93,25 @@ lookup-none k (e ∷ es) h = by_case (compared k e.0) (lookup-none k es h.1)
     by_case (same e' is) rest = absurd (let lt : k < e.0 = h.0 in omega arith)
     by_case (after gt is) rest = absurd (let lt : k < e.0 = h.0 in omega arith)
 
--- the tags of a tick are those of its copies
-pub due_at-copies : (k : ℕ) (es : Entries) → Ascends es → tags_of (lookup (is_at (nat_cmp k)) es) ≡ due_at k (copies_of es)
+-- what stands behind a tick are its copies
+pub due_at-copies : (k : ℕ) (es : Entries) → Ascends es → copies_at (lookup (is_at (nat_cmp k)) es) ≡ due_at k (copies_of es)
 due_at-copies k [] h = refl
 due_at-copies k (e ∷ es) h = by_case (compared k e.0) (due_at-copies k es h.1)
   where
-    by_case : Compared k e.0 → tags_of (lookup (is_at (nat_cmp k)) es) ≡ due_at k (copies_of es) → tags_of (lookup (is_at (nat_cmp k)) (e ∷ es)) ≡ due_at k (map (arrival e.0) e.1.items ++ copies_of es)
+    by_case : Compared k e.0 → copies_at (lookup (is_at (nat_cmp k)) es) ≡ due_at k (copies_of es) → copies_at (lookup (is_at (nat_cmp k)) (e ∷ es)) ≡ due_at k (map (arrival e.0) e.1.items ++ copies_of es)
     by_case (before lt is) rest =
-        ap tags_of (lookup-before k e es is) ∙ rest
+        ap copies_at (lookup-before k e es is) ∙ rest
         ∙ sym (due_at-append k (map (arrival e.0) e.1.items) (copies_of es) ∙ ap (λ l. l ++ due_at k (copies_of es)) (due_at-other k e.0 e.1.items (λ e'. omega arith)))
     by_case (same e' is) rest =
         let none : due_at k (copies_of es) ≡ [] = due_at-after k (copies_of es) (copies-above k es (above-less k e.0 es (omega arith) h.0)) in
-        ap tags_of (lookup-same k e es is)
+        ap copies_at (lookup-same k e es is)
         ∙ sym (due_at-append k (map (arrival e.0) e.1.items) (copies_of es) ∙ ap (λ l. due_at k (map (arrival e.0) e.1.items) ++ l) none
         ∙ append-nil (due_at k (map (arrival e.0) e.1.items)) ∙ ap (λ t. due_at k (map (arrival t) e.1.items)) (sym e') ∙ due_at-here k e.1.items)
     by_case (after lt is) rest =
-        ap tags_of (lookup-after k e es is) ∙ rest
+        ap copies_at (lookup-after k e es is) ∙ rest
         ∙ sym (due_at-append k (map (arrival e.0) e.1.items) (copies_of es) ∙ ap (λ l. l ++ due_at k (copies_of es)) (due_at-other k e.0 e.1.items (λ e'. omega arith)))
 
--- without a tick's tags, the copies due elsewhere are left
+-- without a tick's copies, those due elsewhere are left
 pub due_elsewhere-copies : (k : ℕ) (es : Entries) → Ascends es → copies_of (remove_entry (is_at (nat_cmp k)) es) ≡ due_elsewhere k (copies_of es)
 due_elsewhere-copies k [] h = refl
 due_elsewhere-copies k (e ∷ es) h = by_case (compared k e.0) (due_elsewhere-copies k es h.1)
@@ -134,11 +132,11 @@ due_elsewhere-copies k (e ∷ es) h = by_case (compared k e.0) (due_elsewhere-co
 
 -- ---- one copy more, and one less
 
-arrivals-push : (t : ℕ) (tags : List Tag) (tag : Tag) → map (arrival t) (tags ++ tag ∷ []) ≡ map (arrival t) tags ++ arrival t tag ∷ []
-arrivals-push t tags tag = map-append (arrival t) tags (tag ∷ [])
+arrivals-push : (t : ℕ) (several : List (List ℕ)) (bytes : List ℕ) → map (arrival t) (several ++ bytes ∷ []) ≡ map (arrival t) several ++ arrival t bytes ∷ []
+arrivals-push t several bytes = map-append (arrival t) several (bytes ∷ [])
 
--- the same tags behind a tick change nothing
-pub set-same : (k : ℕ) (es : Entries) (v w : Vec Tag Global) → lookup (is_at (nat_cmp k)) es ≡ Some v → w.items ≡ v.items → copies_of (set_value (is_at (nat_cmp k)) es w) ≡ copies_of es
+-- the same copies behind a tick change nothing
+pub set-same : (k : ℕ) (es : Entries) (v w : Vec (List ℕ) Global) → lookup (is_at (nat_cmp k)) es ≡ Some v → w.items ≡ v.items → copies_of (set_value (is_at (nat_cmp k)) es w) ≡ copies_of es
 set-same k [] v w found alike = refl
 set-same k (e ∷ es) v w found alike = by_case (is_at (nat_cmp k) e.0) refl found (λ f. set-same k es v w f alike)
   where
@@ -151,75 +149,75 @@ set-same k (e ∷ es) v w found alike = by_case (is_at (nat_cmp k) e.0) refl fou
     by_case false is f rest =
         ap (λ b. copies_of (cond b ((e.0, w) ∷ es) (e ∷ set_value (is_at (nat_cmp k)) es w))) is ∙ ap (λ l. map (arrival e.0) e.1.items ++ l) (rest f)
 
--- of two lists of tags behind a tick, one with a tag more
-pub set-more : (k : ℕ) (es : Entries) (v u w : Vec Tag Global) (tag : Tag) → Ascends es → lookup (is_at (nat_cmp k)) es ≡ Some v → w.items ≡ u.items ++ tag ∷ []
-    → copies_of (set_value (is_at (nat_cmp k)) es w) ≡ placed (arrival k tag) (copies_of (set_value (is_at (nat_cmp k)) es u))
-set-more k [] v u w tag h found more = absurd cc
-set-more k (e ∷ es) v u w tag h found more = by_case (compared k e.0) (set-more k es v u w tag h.1)
+-- of two lists behind a tick, one with a copy more
+pub set-more : (k : ℕ) (es : Entries) (v u w : Vec (List ℕ) Global) (bytes : List ℕ) → Ascends es → lookup (is_at (nat_cmp k)) es ≡ Some v → w.items ≡ u.items ++ bytes ∷ []
+    → copies_of (set_value (is_at (nat_cmp k)) es w) ≡ placed (arrival k bytes) (copies_of (set_value (is_at (nat_cmp k)) es u))
+set-more k [] v u w bytes h found more = absurd cc
+set-more k (e ∷ es) v u w bytes h found more = by_case (compared k e.0) (set-more k es v u w bytes h.1)
   where
-    set_at : (x : Vec Tag Global) (b : Bool) → is_at (nat_cmp k) e.0 ≡ b → copies_of (set_value (is_at (nat_cmp k)) (e ∷ es) x) ≡ copies_of (cond b ((e.0, x) ∷ es) (e ∷ set_value (is_at (nat_cmp k)) es x))
+    set_at : (x : Vec (List ℕ) Global) (b : Bool) → is_at (nat_cmp k) e.0 ≡ b → copies_of (set_value (is_at (nat_cmp k)) (e ∷ es) x) ≡ copies_of (cond b ((e.0, x) ∷ es) (e ∷ set_value (is_at (nat_cmp k)) es x))
     set_at x b is = ap (λ b. copies_of (cond b ((e.0, x) ∷ es) (e ∷ set_value (is_at (nat_cmp k)) es x))) is
 
     by_case : Compared k e.0
-        → (lookup (is_at (nat_cmp k)) es ≡ Some v → w.items ≡ u.items ++ tag ∷ [] → copies_of (set_value (is_at (nat_cmp k)) es w) ≡ placed (arrival k tag) (copies_of (set_value (is_at (nat_cmp k)) es u)))
-        → copies_of (set_value (is_at (nat_cmp k)) (e ∷ es) w) ≡ placed (arrival k tag) (copies_of (set_value (is_at (nat_cmp k)) (e ∷ es) u))
+        → (lookup (is_at (nat_cmp k)) es ≡ Some v → w.items ≡ u.items ++ bytes ∷ [] → copies_of (set_value (is_at (nat_cmp k)) es w) ≡ placed (arrival k bytes) (copies_of (set_value (is_at (nat_cmp k)) es u)))
+        → copies_of (set_value (is_at (nat_cmp k)) (e ∷ es) w) ≡ placed (arrival k bytes) (copies_of (set_value (is_at (nat_cmp k)) (e ∷ es) u))
     by_case (before lt is) rest =
         absurd (let none = lookup-none k es (above-less k e.0 es (omega arith) h.0) in let f = lookup-before k e es is in cc)
     by_case (same e' is) rest =
         let later : AllAfter k (copies_of es) = copies-above k es (above-less k e.0 es (omega arith) h.0) in
         set_at w true (ap is_eq is)
         ∙ ap (λ l. map (arrival e.0) l ++ copies_of es) more
-        ∙ ap (λ l. l ++ copies_of es) (arrivals-push e.0 u.items tag)
-        ∙ append_assoc (map (arrival e.0) u.items) (arrival e.0 tag ∷ []) (copies_of es)
-        ∙ ap (λ t. map (arrival e.0) u.items ++ arrival t tag ∷ copies_of es) (sym e')
-        ∙ ap (λ l. map (arrival e.0) u.items ++ l) (sym (placed-front (arrival k tag) (copies_of es) later))
-        ∙ sym (placed-behind (arrival k tag) (map (arrival e.0) u.items) (copies_of es) (until-arrivals k e.0 u.items (omega arith)))
-        ∙ sym (ap (placed (arrival k tag)) (set_at u true (ap is_eq is)))
+        ∙ ap (λ l. l ++ copies_of es) (arrivals-push e.0 u.items bytes)
+        ∙ append_assoc (map (arrival e.0) u.items) (arrival e.0 bytes ∷ []) (copies_of es)
+        ∙ ap (λ t. map (arrival e.0) u.items ++ arrival t bytes ∷ copies_of es) (sym e')
+        ∙ ap (λ l. map (arrival e.0) u.items ++ l) (sym (placed-front (arrival k bytes) (copies_of es) later))
+        ∙ sym (placed-behind (arrival k bytes) (map (arrival e.0) u.items) (copies_of es) (until-arrivals k e.0 u.items (omega arith)))
+        ∙ sym (ap (placed (arrival k bytes)) (set_at u true (ap is_eq is)))
     by_case (after lt is) rest =
         set_at w false (ap is_eq is)
         ∙ ap (λ l. map (arrival e.0) e.1.items ++ l) (rest (sym (lookup-after k e es is) ∙ found) more)
-        ∙ sym (placed-behind (arrival k tag) (map (arrival e.0) e.1.items) (copies_of (set_value (is_at (nat_cmp k)) es u)) (until-arrivals k e.0 e.1.items (omega arith)))
-        ∙ sym (ap (placed (arrival k tag)) (set_at u false (ap is_eq is)))
+        ∙ sym (placed-behind (arrival k bytes) (map (arrival e.0) e.1.items) (copies_of (set_value (is_at (nat_cmp k)) es u)) (until-arrivals k e.0 e.1.items (omega arith)))
+        ∙ sym (ap (placed (arrival k bytes)) (set_at u false (ap is_eq is)))
 
--- the tag that stands last behind a tick is taken back
-pub taken_back : (k : ℕ) (es : Entries) (v w : Vec Tag Global) (o : Option Tag) → Ascends es → Some v ≡ lookup (is_at (nat_cmp k)) es → v.items ≡ w.items ++ option_to_list o
+-- the copy that stands last behind a tick is taken back
+pub taken_back : (k : ℕ) (es : Entries) (v w : Vec (List ℕ) Global) (o : Option (List ℕ)) → Ascends es → Some v ≡ lookup (is_at (nat_cmp k)) es → v.items ≡ w.items ++ option_to_list o
     → MatchOption o ((vec_len v ≡ 0) × (vec_len w ≡ 0)) (λ x. vec_len w + 1 ≡ vec_len v)
     → (a : Arrival) (earlier : List Arrival) → a.tick ≡ k → copies_of es ≡ placed a earlier → copies_of (set_value (is_at (nat_cmp k)) es w) ≡ earlier
 taken_back k es v w None h found items none a earlier tick e =
-    let here : due_at k (copies_of es) ≡ v.items = sym (due_at-copies k es h) ∙ sym (ap tags_of found) in
+    let here : due_at k (copies_of es) ≡ v.items = sym (due_at-copies k es h) ∙ sym (ap copies_at found) in
     let one : length (due_at a.tick (placed a earlier)) ≡ length (due_at a.tick earlier) + 1 = length-due_at-placed a earlier in
     let same : length (due_at a.tick (placed a earlier)) ≡ length v.items = ap (λ l. length (due_at a.tick l)) (sym e) ∙ ap (λ t. length (due_at t (copies_of es))) tick ∙ ap length here in
     absurd (omega (arith, v.ok.0, none.0))
-taken_back k es v w (Some tag) h found items some a earlier tick e =
+taken_back k es v w (Some bytes) h found items some a earlier tick e =
     let kept : set_value (is_at (nat_cmp k)) es v ≡ es = set_value_same (is_at (nat_cmp k)) es v (sym found) in
-    let more : copies_of es ≡ placed (arrival k tag) (copies_of (set_value (is_at (nat_cmp k)) es w)) = ap copies_of (sym kept) ∙ set-more k es v w v tag h (sym found) items in
-    sym (placed_same a (arrival k tag) earlier (copies_of (set_value (is_at (nat_cmp k)) es w)) tick (sym e ∙ more))
+    let more : copies_of es ≡ placed (arrival k bytes) (copies_of (set_value (is_at (nat_cmp k)) es w)) = ap copies_of (sym kept) ∙ set-more k es v w v bytes h (sym found) items in
+    sym (placed_same a (arrival k bytes) earlier (copies_of (set_value (is_at (nat_cmp k)) es w)) tick (sym e ∙ more))
 
--- with no tags behind a tick no copy was placed there
+-- with none behind a tick no copy was placed there
 pub none_placed : (k : ℕ) (es : Entries) → Ascends es → None ≡ lookup (is_at (nat_cmp k)) es → (a : Arrival) (earlier : List Arrival) → a.tick ≡ k → copies_of es ≡ placed a earlier → ⊥
 none_placed k es h none a earlier tick e =
-    let here : due_at k (copies_of es) ≡ [] = sym (due_at-copies k es h) ∙ sym (ap tags_of none) in
+    let here : due_at k (copies_of es) ≡ [] = sym (due_at-copies k es h) ∙ sym (ap copies_at none) in
     let one : length (due_at a.tick (placed a earlier)) ≡ length (due_at a.tick earlier) + 1 = length-due_at-placed a earlier in
     let same : length (due_at a.tick (placed a earlier)) ≡ 0 = ap (λ l. length (due_at a.tick l)) (sym e) ∙ ap (λ t. length (due_at t (copies_of es))) tick ∙ ap length here in
     omega arith
 
--- a first tag behind a tick
-pub insert-first : (k : ℕ) (es : Entries) (w : Vec Tag Global) (tag : Tag) → Ascends es → lookup (is_at (nat_cmp k)) es ≡ None → w.items ≡ tag ∷ []
-    → copies_of (insert_entry nat_cmp es k w) ≡ placed (arrival k tag) (copies_of es)
-insert-first k [] w tag h found one = ap (λ l. map (arrival k) l ++ []) one
-insert-first k (e ∷ es) w tag h found one = by_case (compared k e.0) (insert-first k es w tag h.1)
+-- a first copy behind a tick
+pub insert-first : (k : ℕ) (es : Entries) (w : Vec (List ℕ) Global) (bytes : List ℕ) → Ascends es → lookup (is_at (nat_cmp k)) es ≡ None → w.items ≡ bytes ∷ []
+    → copies_of (insert_entry nat_cmp es k w) ≡ placed (arrival k bytes) (copies_of es)
+insert-first k [] w bytes h found one = ap (λ l. map (arrival k) l ++ []) one
+insert-first k (e ∷ es) w bytes h found one = by_case (compared k e.0) (insert-first k es w bytes h.1)
   where
     insert_at : (o : Ordering) → nat_cmp k e.0 ≡ o → copies_of (insert_entry nat_cmp (e ∷ es) k w) ≡ copies_of (match_ordering o ((k, w) ∷ e ∷ es) ((e.0, w) ∷ es) (e ∷ insert_entry nat_cmp es k w))
     insert_at o is = ap (λ o. copies_of (match_ordering o ((k, w) ∷ e ∷ es) ((e.0, w) ∷ es) (e ∷ insert_entry nat_cmp es k w))) is
 
     by_case : Compared k e.0
-        → (lookup (is_at (nat_cmp k)) es ≡ None → w.items ≡ tag ∷ [] → copies_of (insert_entry nat_cmp es k w) ≡ placed (arrival k tag) (copies_of es))
-        → copies_of (insert_entry nat_cmp (e ∷ es) k w) ≡ placed (arrival k tag) (copies_of (e ∷ es))
+        → (lookup (is_at (nat_cmp k)) es ≡ None → w.items ≡ bytes ∷ [] → copies_of (insert_entry nat_cmp es k w) ≡ placed (arrival k bytes) (copies_of es))
+        → copies_of (insert_entry nat_cmp (e ∷ es) k w) ≡ placed (arrival k bytes) (copies_of (e ∷ es))
     by_case (before lt is) rest =
         insert_at Less is ∙ ap (λ l. map (arrival k) l ++ copies_of (e ∷ es)) one
-        ∙ sym (placed-front (arrival k tag) (copies_of (e ∷ es)) (after-append k (map (arrival e.0) e.1.items) (copies_of es) (after-arrivals k e.0 e.1.items lt) (copies-above k es (above-less k e.0 es (omega arith) h.0))))
+        ∙ sym (placed-front (arrival k bytes) (copies_of (e ∷ es)) (after-append k (map (arrival e.0) e.1.items) (copies_of es) (after-arrivals k e.0 e.1.items lt) (copies-above k es (above-less k e.0 es (omega arith) h.0))))
     by_case (same e' is) rest = absurd (let f = lookup-same k e es is in cc)
     by_case (after lt is) rest =
         insert_at Greater is
         ∙ ap (λ l. map (arrival e.0) e.1.items ++ l) (rest (sym (lookup-after k e es is) ∙ found) one)
-        ∙ sym (placed-behind (arrival k tag) (map (arrival e.0) e.1.items) (copies_of es) (until-arrivals k e.0 e.1.items (omega arith)))
+        ∙ sym (placed-behind (arrival k bytes) (map (arrival e.0) e.1.items) (copies_of es) (until-arrivals k e.0 e.1.items (omega arith)))

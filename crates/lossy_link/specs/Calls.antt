@@ -2,17 +2,16 @@
 use Rattle.std.specs.Prelude.{◌≡◌, ℕ, List, Vec, Result, Ok, Err}
 use Rattle.std.specs.declared.alloc.Global.{Global}
 use Rattle.std.specs.declared.alloc.AllocError.{AllocError}
-use Rattle.group_plan.specs.declared.tag.Tag.{Tag}
 use Rattle.lossy_link.specs.Arrivals.{Arrival, placed, posted, due_at, due_elsewhere}
 
 -- the copies of a post are on their way, or all is as before
-abbrev pub PostEnds : ℕ → Tag → List ℕ → List Arrival → List Arrival → Result (Unit {0}) AllocError → Type 0
-PostEnds tick tag fate before after (Ok done) = after ≡ posted tick tag fate before
-PostEnds tick tag fate before after (Err lack) = after ≡ before
+abbrev pub PostEnds : ℕ → List ℕ → List ℕ → List Arrival → List Arrival → Result (Unit {0}) AllocError → Type 0
+PostEnds tick bytes fate before after (Ok done) = after ≡ posted tick bytes fate before
+PostEnds tick bytes fate before after (Err lack) = after ≡ before
 
--- the copies due at the tick are handed out, or all is as before
-abbrev pub DueEnds : ℕ → List Arrival → List Arrival → Result (Vec Tag Global) AllocError → Type 0
-DueEnds tick before after (Ok tags) = (tags.items ≡ due_at tick before) × (after ≡ due_elsewhere tick before)
+-- the copies due at the tick are handed out, each with the bytes of its post, or all is as before
+abbrev pub DueEnds : ℕ → List Arrival → List Arrival → Result (Vec (List ℕ) Global) AllocError → Type 0
+DueEnds tick before after (Ok several) = (several.items ≡ due_at tick before) × (after ≡ due_elsewhere tick before)
 DueEnds tick before after (Err lack) = after ≡ before
 
 -- one copy is on its way, or all is as before

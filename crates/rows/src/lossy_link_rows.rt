@@ -1,8 +1,9 @@
-//! Copies by tick.
+//! Copies by tick, each with the bytes of its post.
 
-use crate::fixtures::reading_tag;
+use crate::fixtures::reading_frame;
 use link_lanes::Fate;
 use lossy_link::Link;
+use meter_frames::encode;
 use std::process::Abort;
 use std::test::Fail;
 
@@ -10,16 +11,18 @@ fn send(link: &mut Link, tick: u32, meter: u8, delays: &[u8]) -> Result<(), Fail
     if tick >= 100 {
         return Err(Fail::new("a late tick"));
     }
-    link.post(tick, reading_tag(0, 0, meter), Fate::new(delays)?)?;
+    let bytes = encode(&reading_frame(meter, 100 + u64::from(meter)));
+    link.post(tick, bytes, Fate::new(delays)?)?;
     Ok(())
 }
 
-// The meters whose readings come out at the tick, in order.
+// The meters whose readings come out at the tick, in order, each with the bytes of its frame.
 fn check_due(rt: &impl Abort, link: &mut Link, tick: u32, meters: &[u8]) -> Result<(), Fail> {
-    let tags = link.due(tick)?;
-    assert_eq!(rt; tags.len(), meters.len(), "at {tick}");
-    for (tag, meter) in tags.iter().zip(meters) {
-        assert!(rt; *tag == reading_tag(0, 0, *meter), "at {tick}");
+    let copies = link.due(tick)?;
+    assert_eq!(rt; copies.len(), meters.len(), "at {tick}");
+    for (bytes, meter) in copies.iter().zip(meters) {
+        let frame = reading_frame(*meter, 100 + u64::from(*meter));
+        assert!(rt; *bytes == encode(&frame), "at {tick}");
     }
     Ok(())
 }

@@ -14,33 +14,41 @@ use Rattle.transcript_log.specs.Events.{event_of}
 use Rattle.run_rows.specs.Ticks.{Clock, clock_of, phase, posts_of}
 use Rattle.transcript_text.specs.Transcripts.{TranscriptView, last_tick_from}
 use Rattle.group_book.specs.Books.{BookView}
-use Rattle.tick_run.specs.Running.{Stage, emptied, taken, closed, run_shape, IsRunning, AreCopiesDue, KeepCopies, HaveEvents, quiet, calls_due}
+use Rattle.tick_run.specs.Running.{Stage, emptied, taken, closed, run_shape, IsRunning, HaveCome, KeepCopies, HaveEvents, quiet, calls_due}
+use Rattle.tick_run.specs.OnTheWay.{frames_in, tags_of, IsOfSend}
 use Rattle.tick_run.specs.Batches.{Batched}
 use Rattle.tick_run.specs.Sending.{KeepsFates}
+use Rattle.std.proofs.lemmas.List.Elements.{All-weaker}
+use Rattle.tick_run.proofs.SpellingLemmas.{of_send-append}
 use Rattle.tick_run.proofs.BatchLemmas.{posts-append, posts-silent, silent-batch}
 use Rattle.tick_run.proofs.StateLemmas.{takes, takes-keep, closes, closes-keep, phases_added, batch_of, all_takes, all_calls}
 use Rattle.tick_run.proofs.TakeLemmas.{last-before}
 
-still-due : (t : ℕ) (xs ys : List Entry) (tags : List Tag) → AreCopiesDue t xs tags → KeepCopies t xs ys → AreCopiesDue t ys tags
-still-due t xs ys tags due keep z = due z ∙ sym (keep z)
+still-come : (t : ℕ) (xs ys zs : List Entry) (copies : List (List ℕ)) → ys ≡ xs ++ zs → HaveCome t xs copies → KeepCopies t xs ys → HaveCome t ys copies
+still-come t xs ys zs copies longer came keep = record {
+  due = λ z. came.due z ∙ sym (keep z);
+  spelled = subst (λ (es : List Entry). All (IsOfSend es) copies) (sym longer) (All-weaker (IsOfSend xs) (IsOfSend (xs ++ zs)) (λ bytes of. of_send-append xs zs bytes of) copies came.spelled);
+}
 
 -- the copies of the tick are taken
-pub takes-batched : (readings : ReadingsView) (m : Masks) (t : ℕ) (book after : BookView) (script done : TranscriptView) (waiting left : List Arrival) (tags : List Tag)
-    → IsRunning readings m (emptied t) book script waiting → AreCopiesDue t script.entries tags → Batched t (map Take tags) book after script done waiting left → IsRunning readings m (taken t) after done left × AreCopiesDue t done.entries tags
-takes-batched readings m t book after script done waiting left tags is due batch = (
-  subst (IsRunning readings m (taken t) after done) (sym batch.link) (takes readings m t book after script done waiting tags batch.added is due batch.events_are batch.presence batch.journal batch.script_is),
-  still-due t script.entries done.entries tags due (takes-keep t script done tags batch.added batch.events_are batch.script_is),
-)
+pub takes-batched : (readings : ReadingsView) (m : Masks) (t : ℕ) (book after : BookView) (script done : TranscriptView) (waiting left : List Arrival) (copies : List (List ℕ))
+    → IsRunning readings m (emptied t) book script waiting → HaveCome t script.entries copies → Batched t (map Take (tags_of (frames_in copies))) book after script done waiting left
+    → IsRunning readings m (taken t) after done left × HaveCome t done.entries copies
+takes-batched readings m t book after script done waiting left copies is came batch =
+    let tags : List Tag = tags_of (frames_in copies) in (
+      subst (IsRunning readings m (taken t) after done) (sym batch.link) (takes readings m t book after script done waiting tags batch.added is came.due batch.events_are batch.presence batch.journal batch.script_is),
+      still-come t script.entries done.entries (map (quiet t) batch.added) copies (ap (λ (d : TranscriptView). d.entries) batch.script_is) came (takes-keep t script done tags batch.added batch.events_are batch.script_is),
+    )
 
 -- its rounds are closed and ended
-pub closes-batched : (readings : ReadingsView) (m : Masks) (t : ℕ) (book after : BookView) (script done : TranscriptView) (waiting left : List Arrival) (tags : List Tag)
-    → IsRunning readings m (taken t) book script waiting → AreCopiesDue t script.entries tags → Batched t (calls_due (clock_of book.presence.plan) (length book.presence.plan.groups) t) book after script done waiting left
-    → IsRunning readings m (closed t) after done left × AreCopiesDue t done.entries tags
-closes-batched readings m t book after script done waiting left tags is due batch =
+pub closes-batched : (readings : ReadingsView) (m : Masks) (t : ℕ) (book after : BookView) (script done : TranscriptView) (waiting left : List Arrival) (copies : List (List ℕ))
+    → IsRunning readings m (taken t) book script waiting → HaveCome t script.entries copies → Batched t (calls_due (clock_of book.presence.plan) (length book.presence.plan.groups) t) book after script done waiting left
+    → IsRunning readings m (closed t) after done left × HaveCome t done.entries copies
+closes-batched readings m t book after script done waiting left copies is came batch =
     let events : HaveEvents (calls_due (clock_of readings.plan) (length readings.plan.groups) t) batch.added
     = subst (λ (p : PresenceView). HaveEvents (calls_due (clock_of p.plan) (length p.plan.groups) t) batch.added) is.presence batch.events_are in (
       subst (IsRunning readings m (closed t) after done) (sym batch.link) (closes readings m t book after script done waiting batch.added is events batch.presence batch.journal batch.script_is),
-      still-due t script.entries done.entries tags due (closes-keep readings t script done batch.added events batch.script_is),
+      still-come t script.entries done.entries (map (quiet t) batch.added) copies (ap (λ (d : TranscriptView). d.entries) batch.script_is) came (closes-keep readings t script done batch.added events batch.script_is),
     )
 
 -- ---- no batch makes a post

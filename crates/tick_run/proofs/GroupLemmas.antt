@@ -1,9 +1,9 @@
 -- What a group sends at a tick, round by round.
-use Rattle.std.proofs.Common.{◌≡◌, ℕ, zero, suc, ◌+◌, ◌-◌, ◌<◌, ◌≤◌, Bool, true, false, cond, not, ◌&&◌, ◌||◌, List, [], ◌∷◌, ◌++◌, map, refl, sym, ap, ◌∙◌, append-nil, append_assoc, zero-add, arith, min, ◌⊎◌, ⊎_elim, inl, inr}
+use Rattle.std.proofs.Common.{◌≡◌, ℕ, zero, suc, ◌+◌, ◌-◌, ◌<◌, ◌≤◌, Bool, true, false, cond, not, ◌&&◌, ◌||◌, List, [], ◌∷◌, ◌++◌, map, refl, sym, ap, ◌∙◌, append-nil, append_assoc, zero-add, arith, ◌⊎◌, ⊎_elim, inl, inr}
 use Rattle.std.specs.Prelude.{◌==◌, nat_lt, if◌then◌else◌, is_some}
 use mathlib.Core.Path.{fun_ext}
 use Rattle.std.specs.List.{filter, flat_map, range_with_len, list_any, list_all}
-use Rattle.std.proofs.lemmas.Bool.{false≢true, ne_eqb, lt-ltb, cases_eq, and_parts, and_from, false_from_ne_true}
+use Rattle.std.proofs.lemmas.Bool.{ne_eqb, lt-ltb, cases_eq, and_parts, and_from}
 use Rattle.std.proofs.lemmas.Bool.Decides.{nat_tests}
 use Rattle.missing_round.specs.Masks.{Masks}
 use Rattle.missing_round.specs.Sets.{is_member as is_in, joined, less}
@@ -15,14 +15,14 @@ use Rattle.group_plan.specs.declared.Tag.{Tag}
 use Rattle.transcript_log.specs.declared.Event.{Event}
 use Rattle.transcript_log.specs.Events.{is_send, same_kind}
 use Rattle.transcript_log.specs.Schedule.{Shape, shape_of_presence, members_of, is_announced, is_reading_taken, survivors, missing, may_announce, is_announcement_taken}
-use Rattle.transcript_log.proofs.ScheduleLemmas.{once-gives, once-more, is_announcement_sent-from_taken, is_announced-from_sent, present-from_taken}
+use Rattle.transcript_log.proofs.ScheduleLemmas.{once-gives, once-more, is_announcement_sent-from_taken, present-from_taken}
 use Rattle.transcript_log.proofs.MemberLemmas.{is_member-below}
 use Rattle.blind_core.specs.Blind.{are_places}
 use Rattle.tick_run.proofs.RowLemmas.{members-are_places}
-use Rattle.run_rows.specs.Ticks.{Clock, tag_of}
+use Rattle.run_rows.specs.Ticks.{tag_of}
 use Rattle.tick_run.specs.OnTheWay.{same_tag}
 use Rattle.tick_run.specs.Running.{run_shape}
-use Rattle.tick_run.specs.TickFrames.{was_taken, reading_frame, announcement_frame, answer_frame, announcements_at, answers_in, AreHeard, IsHeardIn, is_announcement_in, is_announcement_to}
+use Rattle.tick_run.specs.TickFrames.{was_taken, reading_frame, announcement_frame, announcements_at, IsHeardIn, is_announcement_in}
 use Rattle.tick_run.proofs.ShapeLemmas.{present_is}
 
 -- ---- one round of a range
@@ -143,23 +143,6 @@ heard-same g r heard tag other tags is i =
     last true = refl
     last false = refl
 
--- the announcements to a group are those of its rounds
-pub taken-to : (tags : List Tag) (g r i : ℕ) → was_taken (filter (is_announcement_to g) tags) (tag_of Announcement g r i) ≡ was_taken tags (tag_of Announcement g r i)
-taken-to [] g r i = refl
-taken-to (tag ∷ tags) g r i = step (tag.group == g) (same_kind tag.kind Announcement) refl refl (taken-to tags g r i)
-  where
-    step : (a d : Bool) → (tag.group == g) ≡ a → same_kind tag.kind Announcement ≡ d → was_taken (filter (is_announcement_to g) tags) (tag_of Announcement g r i) ≡ was_taken tags (tag_of Announcement g r i)
-        → list_any (same_tag (tag_of Announcement g r i)) (cond (a && d) (tag ∷ filter (is_announcement_to g) tags) (filter (is_announcement_to g) tags)) ≡ was_taken (tag ∷ tags) (tag_of Announcement g r i)
-    step true true group kind later = ap (λ b. same_tag (tag_of Announcement g r i) tag || b) later
-    step true false group kind later =
-        later ∙ sym (ap (λ b. ((tag.group == g) && (tag.round == r) && (tag.meter == i) && b) || was_taken tags (tag_of Announcement g r i)) kind ∙ ap (λ b. b || was_taken tags (tag_of Announcement g r i)) (last ((tag.group == g) && (tag.round == r) && (tag.meter == i))))
-      where
-        last : (q : Bool) → (q && false) ≡ false
-        last true = refl
-        last false = refl
-    step false d group kind later =
-        later ∙ sym (ap (λ b. (b && (tag.round == r) && (tag.meter == i) && same_kind tag.kind Announcement) || was_taken tags (tag_of Announcement g r i)) group)
-
 -- ---- answers
 
 -- who was told of the missing set is a survivor
@@ -200,26 +183,6 @@ missing-places p g r past in_plan =
         step true here later = and_from (is_place p.plan g r x) (list_all (is_place p.plan g r) (filter q xs)) here later
         step false here later = later
 
--- where the round is not announced, no one was told
-pub answers-none : (s : Shape) (m : Masks) (past : List Event) (tags : List Tag) (g r : ℕ) → ((i : ℕ) → was_taken tags (tag_of Announcement g r i) ≡ true → is_announcement_taken s g r i past ≡ true)
-    → is_announced s g r past ≡ false → answers_in s m past tags g r ≡ []
-answers-none s m past tags g r told thin =
-    ap (λ f. map (answer_frame m g r (missing s g r past)) (filter f (members_of s g r))) (fun_ext (λ i. false_from_ne_true (was_taken tags (tag_of Announcement g r i)) (λ h.
-    false≢true (sym thin ∙ is_announced-from_sent s g r i past (is_announcement_sent-from_taken s g r i past (told i h))))))
-    ∙ ap (map (answer_frame m g r (missing s g r past))) (off (members_of s g r))
-  where
-    off : (xs : List ℕ) → filter (λ x. false) xs ≡ []
-    off [] = refl
-    off (x ∷ xs) = off xs
-
--- the answers of those that heard
-pub answers-heard : (s : Shape) (m : Masks) (past : List Event) (tags : List Tag) (g r : ℕ) (heard set ms : List ℕ) → IsHeardIn tags g r heard → set ≡ missing s g r past → ms ≡ members_of s g r
-    → map (answer_frame m g r set) (filter (λ i. is_in i heard) ms) ≡ answers_in s m past tags g r
-answers-heard s m past tags g r heard set ms is at are =
-    ap (λ l. map (answer_frame m g r l) (filter (λ i. is_in i heard) ms)) at
-    ∙ ap (λ l. map (answer_frame m g r (missing s g r past)) (filter (λ i. is_in i heard) l)) are
-    ∙ ap (λ f. map (answer_frame m g r (missing s g r past)) (filter f (members_of s g r))) (fun_ext is)
-
 -- ---- the rounds that may answer
 
 flat_split : {X : Type 0} (F : ℕ → List X) (a m k : ℕ) → flat_map F (range_with_len a (m + k)) ≡ flat_map F (range_with_len a m) ++ flat_map F (range_with_len (a + m) k)
@@ -256,30 +219,6 @@ flat_window F a b n le within none =
     ∙ append-nil (flat_map F (range_with_len (0 + a) (b - a)))
     ∙ ap (λ k. flat_map F (range_with_len k (b - a))) (zero-add a))
 
--- no one heard in these rounds
-pub answers-silent : (s : Shape) (m : Masks) (past : List Event) (tags : List Tag) (g r : ℕ) → ((i : ℕ) → was_taken tags (tag_of Announcement g r i) ≡ true → ⊥) → answers_in s m past tags g r ≡ []
-answers-silent s m past tags g r none =
-    ap (λ f. map (answer_frame m g r (missing s g r past)) (filter f (members_of s g r))) (fun_ext (λ i. false_from_ne_true (was_taken tags (tag_of Announcement g r i)) (none i)))
-    ∙ ap (map (answer_frame m g r (missing s g r past))) (off (members_of s g r))
-  where
-    off : (xs : List ℕ) → filter (λ x. false) xs ≡ []
-    off [] = refl
-    off (x ∷ xs) = off xs
-
-pub answers-to : (s : Shape) (m : Masks) (past : List Event) (tags : List Tag) (g r : ℕ) → answers_in s m past (filter (is_announcement_to g) tags) g r ≡ answers_in s m past tags g r
-answers-to s m past tags g r = ap (λ f. map (answer_frame m g r (missing s g r past)) (filter f (members_of s g r))) (fun_ext (λ i. taken-to tags g r i))
-
--- the window of the rounds that may answer
-pub answers-window : (s : Shape) (c : Clock) (m : Masks) (past : List Event) (tags : List Tag) (t g first until : ℕ) → AreHeard s c past t tags
-    → until ≡ min (t - c.w1) c.rounds → first ≡ min (t - c.w1 - 16) until
-    → flat_map (answers_in s m past (filter (is_announcement_to g) tags) g) (range_with_len first (until - first)) ≡ flat_map (answers_in s m past tags g) (range_with_len 0 c.rounds)
-answers-window s c m past tags t g first until heard ends starts =
-    ap (λ f. flat_map f (range_with_len first (until - first))) (fun_ext (λ r. answers-to s m past tags g r))
-    ∙ flat_window (answers_in s m past tags g) first until c.rounds (omega arith) (omega arith)
-    (λ r r_in outside. answers-silent s m past tags g r (λ i told.
-    let early : r + c.w1 < t = heard.early g r i told in
-    let late : t ≤ r + c.w1 + 16 = heard.late g r i told in
-    ⊎_elim (λ above. omega arith) (λ below. omega arith) outside))
-
+-- one round more, from the first
 pub flat_next : {X : Type 0} (F : ℕ → List X) (n : ℕ) → flat_map F (range_with_len 0 (n + 1)) ≡ flat_map F (range_with_len 0 n) ++ F n
 flat_next F n = flat_split F 0 n 1 ∙ ap (λ k. flat_map F (range_with_len 0 n) ++ flat_map F (range_with_len k 1)) (zero-add n) ∙ ap (λ l. flat_map F (range_with_len 0 n) ++ l) (append-nil (F n))

@@ -5,6 +5,7 @@ pub mod StepLemmas
 pub mod SendLemmas
 pub mod EndLemmas
 pub mod LinkLemmas
+pub mod SpellingLemmas
 pub mod LaneLemmas
 pub mod FrameSteps
 pub mod RowLemmas
@@ -14,6 +15,7 @@ pub mod StateLemmas
 pub mod ShapeLemmas
 pub mod PostedLemmas
 pub mod GroupLemmas
+pub mod CameLemmas
 pub mod SendingLemmas
 pub mod SendingLoop
 pub mod ParcelLemmas

@@ -7,7 +7,7 @@ use Rattle.std.proofs.lemmas.List.Elements.{All-head, All-tail, All-nil, All-con
 use Rattle.std.proofs.lemmas.List.Sums.{sum_by-cons}
 use Rattle.group_plan.specs.declared.Tag.{Tag}
 use Rattle.lossy_link.specs.Arrivals.{Arrival, arrival, placed, posted, due_at, due_elsewhere}
-use Rattle.tick_run.specs.OnTheWay.{same_tag, is_copy}
+use Rattle.tick_run.specs.OnTheWay.{same_tag, is_copy, tag_in, frames_in, tags_of}
 
 count-cons : {X : Type 0} (p : X → Bool) (x : X) (xs : List X) → count_by p (x ∷ xs) ≡ cond (p x) 1 0 + count_by p xs
 count-cons {X} p x xs = sum_by-cons (λ (y : X). cond {A = ℕ} (p y) 1 0) x xs
@@ -22,17 +22,17 @@ count_placed p a (b ∷ xs) = step (nat_le b.tick a.tick) (count_placed p a xs)
     step true later = omega (arith, count-cons p b (placed a xs), count-cons p b xs, later)
     step false later = count-cons p a (b ∷ xs)
 
-pub count-posted : (z : Tag) (u t : ℕ) (tag : Tag) (fate : List ℕ) (xs : List Arrival)
-    → count_by (is_copy z u) (posted t tag fate xs) ≡ count_by (is_copy z u) xs + (if same_tag z tag then count_by (λ d. t + d == u) fate else 0)
-count-posted z u t tag [] xs = none (same_tag z tag)
+pub count-posted : (z : Tag) (u t : ℕ) (bytes : List ℕ) (fate : List ℕ) (xs : List Arrival)
+    → count_by (is_copy z u) (posted t bytes fate xs) ≡ count_by (is_copy z u) xs + (if same_tag z (tag_in bytes) then count_by (λ d. t + d == u) fate else 0)
+count-posted z u t bytes [] xs = none (same_tag z (tag_in bytes))
   where
     none : (b : Bool) → count_by (is_copy z u) xs ≡ count_by (is_copy z u) xs + cond b 0 0
     none true = omega arith
     none false = omega arith
-count-posted z u t tag (d ∷ fate) xs =
-    count-posted z u t tag fate (placed (arrival (t + d) tag) xs)
-    ∙ ap (λ n. n + cond (same_tag z tag) (count_by (λ e. t + e == u) fate) 0) (count_placed (is_copy z u) (arrival (t + d) tag) xs)
-    ∙ step (t + d == u) (same_tag z tag) (count-cons (λ e. t + e == u) d fate)
+count-posted z u t bytes (d ∷ fate) xs =
+    count-posted z u t bytes fate (placed (arrival (t + d) bytes) xs)
+    ∙ ap (λ n. n + cond (same_tag z (tag_in bytes)) (count_by (λ e. t + e == u) fate) 0) (count_placed (is_copy z u) (arrival (t + d) bytes) xs)
+    ∙ step (t + d == u) (same_tag z (tag_in bytes)) (count-cons (λ e. t + e == u) d fate)
   where
     step : (b q : Bool) → count_by (λ e. t + e == u) (d ∷ fate) ≡ cond b 1 0 + count_by (λ e. t + e == u) fate
         → (cond (b && q) 1 0 + count_by (is_copy z u) xs) + cond q (count_by (λ e. t + e == u) fate) 0 ≡ count_by (is_copy z u) xs + cond q (count_by (λ e. t + e == u) (d ∷ fate)) 0
@@ -41,53 +41,53 @@ count-posted z u t tag (d ∷ fate) xs =
     step false true e = omega arith
     step false false e = omega arith
 
-all_placed : (P : Tag → Type 0) (a : Arrival) (xs : List Arrival) → P a.tag → All (λ b. P b.tag) xs → All (λ b. P b.tag) (placed a xs)
-all_placed P a [] here all = All-cons (λ b. P b.tag) a [] here (All-nil (λ b. P b.tag))
-all_placed P a (b ∷ xs) here all = step (nat_le b.tick a.tick) (all_placed P a xs here (All-tail (λ b. P b.tag) b xs all))
+all_placed : (P : List ℕ → Type 0) (a : Arrival) (xs : List Arrival) → P a.bytes → All (λ b. P b.bytes) xs → All (λ b. P b.bytes) (placed a xs)
+all_placed P a [] here all = All-cons (λ b. P b.bytes) a [] here (All-nil (λ b. P b.bytes))
+all_placed P a (b ∷ xs) here all = step (nat_le b.tick a.tick) (all_placed P a xs here (All-tail (λ b. P b.bytes) b xs all))
   where
-    step : (q : Bool) → All (λ b. P b.tag) (placed a xs) → All (λ b. P b.tag) (cond q (b ∷ placed a xs) (a ∷ b ∷ xs))
-    step true later = All-cons (λ b. P b.tag) b (placed a xs) (All-head (λ b. P b.tag) b xs all) later
-    step false later = All-cons (λ b. P b.tag) a (b ∷ xs) here all
+    step : (q : Bool) → All (λ b. P b.bytes) (placed a xs) → All (λ b. P b.bytes) (cond q (b ∷ placed a xs) (a ∷ b ∷ xs))
+    step true later = All-cons (λ b. P b.bytes) b (placed a xs) (All-head (λ b. P b.bytes) b xs all) later
+    step false later = All-cons (λ b. P b.bytes) a (b ∷ xs) here all
 
--- what holds of the tags on their way and of one more tag
-pub all-posted : (P : Tag → Type 0) (t : ℕ) (tag : Tag) (fate : List ℕ) (xs : List Arrival) → P tag → All (λ b. P b.tag) xs → All (λ b. P b.tag) (posted t tag fate xs)
-all-posted P t tag [] xs here all = all
-all-posted P t tag (d ∷ fate) xs here all = all-posted P t tag fate (placed (arrival (t + d) tag) xs) here (all_placed P (arrival (t + d) tag) xs here all)
+-- what holds of the bytes on their way and of those of one more post
+pub all-posted : (P : List ℕ → Type 0) (t : ℕ) (bytes : List ℕ) (fate : List ℕ) (xs : List Arrival) → P bytes → All (λ b. P b.bytes) xs → All (λ b. P b.bytes) (posted t bytes fate xs)
+all-posted P t bytes [] xs here all = all
+all-posted P t bytes (d ∷ fate) xs here all = all-posted P t bytes fate (placed (arrival (t + d) bytes) xs) here (all_placed P (arrival (t + d) bytes) xs here all)
 
 -- ---- taken out
 
-pub count-due : (z : Tag) (t : ℕ) (xs : List Arrival) → count_by (same_tag z) (due_at t xs) ≡ count_by (is_copy z t) xs
+pub count-due : (z : Tag) (t : ℕ) (xs : List Arrival) → count_by (same_tag z) (tags_of (frames_in (due_at t xs))) ≡ count_by (is_copy z t) xs
 count-due z t [] = refl
 count-due z t (a ∷ xs) = step (a.tick == t) (count-cons (is_copy z t) a xs) (count-due z t xs)
   where
-    step : (b : Bool) → count_by (is_copy z t) (a ∷ xs) ≡ cond (b && same_tag z a.tag) 1 0 + count_by (is_copy z t) xs → count_by (same_tag z) (due_at t xs) ≡ count_by (is_copy z t) xs
-        → count_by (same_tag z) (map (λ x. x.tag) (cond b (a ∷ filter (λ x. x.tick == t) xs) (filter (λ x. x.tick == t) xs))) ≡ count_by (is_copy z t) (a ∷ xs)
-    step true e later = count-cons (same_tag z) a.tag (due_at t xs) ∙ ap (λ n. cond (same_tag z a.tag) 1 0 + n) later ∙ sym e
+    step : (b : Bool) → count_by (is_copy z t) (a ∷ xs) ≡ cond (b && same_tag z (tag_in a.bytes)) 1 0 + count_by (is_copy z t) xs → count_by (same_tag z) (tags_of (frames_in (due_at t xs))) ≡ count_by (is_copy z t) xs
+        → count_by (same_tag z) (tags_of (frames_in (map (λ x. x.bytes) (cond b (a ∷ filter (λ x. x.tick == t) xs) (filter (λ x. x.tick == t) xs))))) ≡ count_by (is_copy z t) (a ∷ xs)
+    step true e later = count-cons (same_tag z) (tag_in a.bytes) (tags_of (frames_in (due_at t xs))) ∙ ap (λ n. cond (same_tag z (tag_in a.bytes)) 1 0 + n) later ∙ sym e
     step false e later = later ∙ sym (e ∙ zero-add (count_by (is_copy z t) xs))
 
 pub count-elsewhere : (z : Tag) (t u : ℕ) (xs : List Arrival) → (u ≡ t → ⊥) → count_by (is_copy z u) (due_elsewhere t xs) ≡ count_by (is_copy z u) xs
 count-elsewhere z t u [] ne = refl
 count-elsewhere z t u (a ∷ xs) ne = step (a.tick == t) refl (count-cons (is_copy z u) a xs) (count-elsewhere z t u xs ne)
   where
-    step : (b : Bool) → (a.tick == t) ≡ b → count_by (is_copy z u) (a ∷ xs) ≡ cond ((a.tick == u) && same_tag z a.tag) 1 0 + count_by (is_copy z u) xs → count_by (is_copy z u) (due_elsewhere t xs) ≡ count_by (is_copy z u) xs
+    step : (b : Bool) → (a.tick == t) ≡ b → count_by (is_copy z u) (a ∷ xs) ≡ cond ((a.tick == u) && same_tag z (tag_in a.bytes)) 1 0 + count_by (is_copy z u) xs → count_by (is_copy z u) (due_elsewhere t xs) ≡ count_by (is_copy z u) xs
         → count_by (is_copy z u) (cond (not b) (a ∷ due_elsewhere t xs) (due_elsewhere t xs)) ≡ count_by (is_copy z u) (a ∷ xs)
     step true is e later =
         let same : a.tick ≡ t = eqb-true a.tick t is in
-        later ∙ sym (e ∙ ap (λ b. cond {A = ℕ} (b && same_tag z a.tag) 1 0 + count_by (is_copy z u) xs) (ne_eqb a.tick u (λ at. ne (sym at ∙ same))) ∙ zero-add (count_by (is_copy z u) xs))
-    step false is e later = count-cons (is_copy z u) a (due_elsewhere t xs) ∙ ap (λ n. cond ((a.tick == u) && same_tag z a.tag) 1 0 + n) later ∙ sym e
+        later ∙ sym (e ∙ ap (λ b. cond {A = ℕ} (b && same_tag z (tag_in a.bytes)) 1 0 + count_by (is_copy z u) xs) (ne_eqb a.tick u (λ at. ne (sym at ∙ same))) ∙ zero-add (count_by (is_copy z u) xs))
+    step false is e later = count-cons (is_copy z u) a (due_elsewhere t xs) ∙ ap (λ n. cond ((a.tick == u) && same_tag z (tag_in a.bytes)) 1 0 + n) later ∙ sym e
 
-pub all-due : (P : Tag → Type 0) (t : ℕ) (xs : List Arrival) → All (λ b. P b.tag) xs → All P (due_at t xs)
+pub all-due : (P : List ℕ → Type 0) (t : ℕ) (xs : List Arrival) → All (λ b. P b.bytes) xs → All P (due_at t xs)
 all-due P t [] all = All-nil P
-all-due P t (a ∷ xs) all = step (a.tick == t) (all-due P t xs (All-tail (λ b. P b.tag) a xs all))
+all-due P t (a ∷ xs) all = step (a.tick == t) (all-due P t xs (All-tail (λ b. P b.bytes) a xs all))
   where
-    step : (b : Bool) → All P (due_at t xs) → All P (map (λ x. x.tag) (cond b (a ∷ filter (λ x. x.tick == t) xs) (filter (λ x. x.tick == t) xs)))
-    step true later = All-cons P a.tag (due_at t xs) (All-head (λ b. P b.tag) a xs all) later
+    step : (b : Bool) → All P (due_at t xs) → All P (map (λ x. x.bytes) (cond b (a ∷ filter (λ x. x.tick == t) xs) (filter (λ x. x.tick == t) xs)))
+    step true later = All-cons P a.bytes (due_at t xs) (All-head (λ b. P b.bytes) a xs all) later
     step false later = later
 
-pub all-elsewhere : (P : Tag → Type 0) (t : ℕ) (xs : List Arrival) → All (λ b. P b.tag) xs → All (λ b. P b.tag) (due_elsewhere t xs)
-all-elsewhere P t [] all = All-nil (λ b. P b.tag)
-all-elsewhere P t (a ∷ xs) all = step (not (a.tick == t)) (all-elsewhere P t xs (All-tail (λ b. P b.tag) a xs all))
+pub all-elsewhere : (P : List ℕ → Type 0) (t : ℕ) (xs : List Arrival) → All (λ b. P b.bytes) xs → All (λ b. P b.bytes) (due_elsewhere t xs)
+all-elsewhere P t [] all = All-nil (λ b. P b.bytes)
+all-elsewhere P t (a ∷ xs) all = step (not (a.tick == t)) (all-elsewhere P t xs (All-tail (λ b. P b.bytes) a xs all))
   where
-    step : (b : Bool) → All (λ b. P b.tag) (due_elsewhere t xs) → All (λ b. P b.tag) (cond b (a ∷ due_elsewhere t xs) (due_elsewhere t xs))
-    step true later = All-cons (λ b. P b.tag) a (due_elsewhere t xs) (All-head (λ b. P b.tag) a xs all) later
+    step : (b : Bool) → All (λ b. P b.bytes) (due_elsewhere t xs) → All (λ b. P b.bytes) (cond b (a ∷ due_elsewhere t xs) (due_elsewhere t xs))
+    step true later = All-cons (λ b. P b.bytes) a (due_elsewhere t xs) (All-head (λ b. P b.bytes) a xs all) later
     step false later = later

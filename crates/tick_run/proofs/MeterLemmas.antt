@@ -234,15 +234,15 @@ kept-now m after r set AnswerAgain h is = ap (λ x. kept_set x r) h.2 ∙ h.1
 kept-now m after r set (Refused why) h is = absurd (false≢true is)
 
 -- and a set that was kept stays
-pub kept-still : (m after : MeterView) (r q : ℕ) (set old : List ℕ) (said : Heard) → Hears m r set said after → (q ≡ r → old ≡ set) → kept_set m q ≡ Some old → kept_set after q ≡ Some old
-kept-still m after r q set old said hears same kept = by said hears
+pub kept-still : (m after : MeterView) (r q : ℕ) (set old : List ℕ) (said : Heard) → Hears m r set said after → kept_set m q ≡ Some old → kept_set after q ≡ Some old
+kept-still m after r q set old said hears kept = by said hears
   where
     stays : after ≡ m → kept_set after q ≡ Some old
     stays e = ap (λ x. kept_set x q) e ∙ kept
 
     by : (said : Heard) → Hears m r set said after → kept_set after q ≡ Some old
     by Answer h = ap (λ x. kept_set x q) h.2 ∙ ⊎_elim
-        (λ here. ap (kept_set (keeping m r set)) here ∙ kept_set-keeping_same m r set (within-rounds m r set h.0) ∙ ap Some (sym (same here)))
+        (λ here. absurd (false≢true (ap is_some (sym h.1 ∙ ap (kept_set m) (sym here) ∙ kept))))
         (λ other. ap (λ (note : Note). note.kept) (note_at-keeping_other m r q set other) ∙ kept)
         (cases_eq q r)
     by AnswerAgain h = stays h.2

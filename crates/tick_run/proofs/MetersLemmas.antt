@@ -1,12 +1,11 @@
 -- The meters of a run, through a tick.
-use Rattle.std.proofs.Common.{◌≡◌, ℕ, ◌+◌, ◌<◌, ◌≤◌, Bool, true, false, ◌&&◌, ◌||◌, List, [], ◌∷◌, ◌++◌, zero, suc, length, map, get_or, refl, sym, ap, ◌∙◌, subst, arith, zero-add, ⊎_elim, Some}
-use Rattle.std.specs.Prelude.{◌==◌, nat_lt, if◌then◌else◌, slice_set, Vec}
+use Rattle.std.proofs.Common.{◌≡◌, ℕ, ◌+◌, ◌<◌, ◌≤◌, Bool, true, false, ◌&&◌, List, [], ◌∷◌, zero, suc, length, get_or, refl, sym, ap, ◌∙◌, subst, arith, zero-add, ⊎_elim, Some}
+use Rattle.std.specs.Prelude.{◌==◌, nat_lt, slice_set, Vec}
 use Rattle.std.specs.Vec.{with_item}
 use Rattle.std.specs.declared.alloc.Global.{Global}
-use mathlib.Core.Path.{fun_ext}
-use Rattle.std.specs.List.{AllZip, range_with_len, filter, flat_map, list_any}
+use Rattle.std.specs.List.{AllZip, range_with_len, list_any, All}
 use Rattle.std.proofs.lemmas.Bool.{false≢true, and_from, and_parts, ltb-true, cases_eq, eq-eqb, or_left, or_right}
-use Rattle.std.proofs.lemmas.List.{get_or-set_same, get_or-set_other}
+use Rattle.std.proofs.lemmas.List.{get_or-set_same, get_or-set_other, get_or-map, length-map}
 use Rattle.missing_round.specs.Masks.{Masks}
 use Rattle.missing_round.specs.Sets.{is_member as is_in}
 use Rattle.missing_round.proofs.SetLemmas.{is_member-picked}
@@ -19,8 +18,7 @@ use Rattle.meter_core.specs.Meters.{MeterView, marked, kept_set, Hears}
 use Rattle.meter_core.specs.declared.Heard.{Heard}
 use Rattle.transcript_log.specs.declared.Event.{Event}
 use Rattle.transcript_log.specs.Events.{same_kind}
-use Rattle.transcript_log.specs.Tables.{Readings}
-use Rattle.run_rows.specs.Ticks.{Clock, clock_of, tag_of}
+use Rattle.run_rows.specs.Ticks.{clock_of, tag_of}
 use Rattle.transcript_log.specs.Schedule.{Shape, shape_of_presence, members_of, missing, is_announcement_taken}
 use Rattle.transcript_log.specs.Journal.{past_of}
 use Rattle.group_book.specs.Books.{BookView, shape_of, past}
@@ -32,9 +30,10 @@ use Rattle.tick_run.specs.Running.{Stage, run_shape, IsRunning}
 use Rattle.tick_run.specs.Batches.{Batched}
 use Rattle.tick_run.proofs.PastLemmas.{sets-lines}
 use Rattle.tick_run.proofs.FrameSteps.{past_of-lines}
-use Rattle.tick_run.specs.OnTheWay.{same_tag}
-use Rattle.tick_run.specs.TickFrames.{was_taken, reading_frame, answer_frame, announcements_at, frames_due, AreHeard}
-use Rattle.tick_run.specs.Meters.{IsMeter, IsMeterOf, AreOfGroup, IsGroup, AreMeters, is_answer, is_announcement, IsTold, CanHearAll, HasKept}
+use Rattle.meter_frames.specs.declared.Frame.{Frame}
+use Rattle.tick_run.specs.OnTheWay.{same_tag, tags_of}
+use Rattle.tick_run.specs.TickFrames.{was_taken, AreHeard}
+use Rattle.tick_run.specs.Meters.{IsMeter, IsMeterOf, AreOfGroup, IsGroup, AreMeters, is_answer, is_announcement, HasSet, IsTold, AreTold, HasKept}
 use Rattle.tick_run.proofs.RangeLemmas.{range_long, range_item, range_weaker, range_set, Upto, upto-at, upto-more, upto-pass}
 use Rattle.tick_run.proofs.MeterLemmas.{read-marked, read-none, stays, heard-is, kept-now, kept-still}
 use Rattle.tick_run.proofs.GroupLemmas.{told-place}
@@ -101,39 +100,7 @@ meters-running readings w from to book after script done waiting left t m was is
     (subst (λ q. KeepSets (run_shape readings) q (past after)) (sym before) (subst (KeepSets (run_shape readings) (past_of_entries script.entries)) (sym now) sets)))
     are
 
--- ---- the announcements that are answered
-
--- among the announcements are those of each round
-taken-kept : (tags : List Tag) (g r i : ℕ) → was_taken (filter is_announcement tags) (tag_of Announcement g r i) ≡ was_taken tags (tag_of Announcement g r i)
-taken-kept [] g r i = refl
-taken-kept (tag ∷ tags) g r i = step (same_kind tag.kind Announcement) refl (taken-kept tags g r i)
-  where
-    last : (q : Bool) → (q && false) ≡ false
-    last true = refl
-    last false = refl
-
-    step : (d : Bool) → same_kind tag.kind Announcement ≡ d → was_taken (filter is_announcement tags) (tag_of Announcement g r i) ≡ was_taken tags (tag_of Announcement g r i)
-        → list_any (same_tag (tag_of Announcement g r i)) (if d then tag ∷ filter is_announcement tags else filter is_announcement tags) ≡ was_taken (tag ∷ tags) (tag_of Announcement g r i)
-    step true kind later = ap (λ b. same_tag (tag_of Announcement g r i) tag || b) later
-    step false kind later =
-        later ∙ sym (ap (λ b. ((tag.group == g) && (tag.round == r) && (tag.meter == i) && b) || was_taken tags (tag_of Announcement g r i)) kind
-        ∙ ap (λ b. b || was_taken tags (tag_of Announcement g r i)) (last ((tag.group == g) && (tag.round == r) && (tag.meter == i))))
-
--- so they are heard, and give the same frames
-pub heard-kept : (s : Shape) (c : Clock) (past : List Event) (t : ℕ) (tags : List Tag) → AreHeard s c past t tags → AreHeard s c past t (filter is_announcement tags)
-heard-kept s c past t tags heard = record {
-  effect = λ g r i told. heard.effect g r i (sym (taken-kept tags g r i) ∙ told);
-  round = λ g r i told. heard.round g r i (sym (taken-kept tags g r i) ∙ told);
-  early = λ g r i told. heard.early g r i (sym (taken-kept tags g r i) ∙ told);
-  late = λ g r i told. heard.late g r i (sym (taken-kept tags g r i) ∙ told);
-}
-
-pub frames-kept : (s : Shape) (c : Clock) (x : Readings) (m : Masks) (past : List Event) (tags : List Tag) (t g : ℕ) → frames_due s c x m past (filter is_announcement tags) t g ≡ frames_due s c x m past tags t g
-frames-kept s c x m past tags t g =
-    let first = map (reading_frame s.groups x m g t) (if nat_lt t c.rounds then filter (λ i. s.present g t i) (members_of s g t) else [])
-    ++ flat_map (λ r. if r + c.w1 == t then announcements_at s past g r else []) (range_with_len 0 c.rounds) in
-    ap (λ f. first ++ flat_map f (range_with_len 0 c.rounds))
-    (fun_ext (λ r. ap (λ f. map (answer_frame m g r (missing s g r past)) (filter f (members_of s g r))) (fun_ext (λ i. taken-kept tags g r i))))
+-- ---- the announcements that came
 
 any_at : {X : Type 0} (p : X → Bool) (xs : List X) (k : ℕ) (d : X) → k < length xs → p (get_or xs k d) ≡ true → list_any p xs ≡ true
 any_at p [] k d lt passes = absurd (omega arith)
@@ -147,30 +114,32 @@ same_own tag is =
     (and_from ((tag.group == tag.group) && (tag.round == tag.round)) (tag.meter == tag.meter)
     (and_from (tag.group == tag.group) (tag.round == tag.round) (eq-eqb tag.group tag.group refl) (eq-eqb tag.round tag.round refl)) (eq-eqb tag.meter tag.meter refl)) is
 
-pub can-hear_all : (b : BookView) (t : ℕ) (m : Meters) (tags : List Tag) → AreHeard (shape_of b) (clock_of b.presence.plan) (past b) t tags → AreMeters b (t + 1) m → CanHearAll b m tags
-can-hear_all b t m tags heard are = record {
-  until = t + 1;
-  meters = are;
-  told = λ k d lt is.
-      let tag : Tag = get_or tags k d in
-      let taken : was_taken tags (tag_of Announcement tag.group tag.round tag.meter) ≡ true = any_at (same_tag (tag_of Announcement tag.group tag.round tag.meter)) tags k d lt (same_own tag is) in
-      record {
-        taken = heard.effect tag.group tag.round tag.meter taken;
-        round = heard.round tag.group tag.round tag.meter taken;
-        early = let early = heard.early tag.group tag.round tag.meter taken in omega arith;
-      };
-}
+-- each was told, where its tag is heard and its set is the missing one
+pub are-told : (b : BookView) (t : ℕ) (came : List Frame) → AreHeard (shape_of b) (clock_of b.presence.plan) (past b) t (tags_of came) → All (HasSet (shape_of b) (past b)) came → AreTold b (t + 1) came
+are-told b t came heard sets k d lt is =
+    let f : Frame = get_or came k d in
+    let tag : Tag = f.tag in
+    let taken : was_taken (tags_of came) (tag_of Announcement tag.group tag.round tag.meter) ≡ true
+    = any_at (same_tag (tag_of Announcement tag.group tag.round tag.meter)) (tags_of came) k tag (omega (arith, lt, length-map came (λ (x : Frame). x.tag)))
+    (ap (same_tag (tag_of Announcement tag.group tag.round tag.meter)) (get_or-map (λ (x : Frame). x.tag) came k d tag lt) ∙ same_own tag is) in
+    record {
+      taken = heard.effect tag.group tag.round tag.meter taken;
+      round = heard.round tag.group tag.round tag.meter taken;
+      early = let early = heard.early tag.group tag.round tag.meter taken in omega arith;
+      set = sets k d lt is;
+    }
 
 -- ---- hearing
 
--- the meter of a tag that was told has a place
-told-meter : (b : BookView) (t : ℕ) (m : Meters) (tag : Tag) → AreMeters b t m → IsTold b t tag → tag.meter < size b.presence.plan.groups tag.group
-told-meter b t m tag are told =
+-- the meter of an announcement that was told has a place
+pub told-meter : (b : BookView) (t : ℕ) (m : Meters) (f : Frame) → AreMeters b t m → IsTold b t f → f.tag.meter < size b.presence.plan.groups f.tag.group
+told-meter b t m f are told =
     let plan : PlanView = b.presence.plan in
+    let tag : Tag = f.tag in
     ltb-true tag.meter (size plan.groups tag.group) (and_parts (nat_lt tag.round plan.rounds) (nat_lt tag.meter (size plan.groups tag.group)) (told-place b.presence tag.group tag.round tag.meter (past b) are.table told.round told.taken)).1
 
-pub told-group : (b : BookView) (t : ℕ) (m : Meters) (tag : Tag) → AreMeters b t m → IsTold b t tag → tag.group < length b.presence.plan.groups
-told-group b t m tag are told = group-lt b.presence.plan.groups tag.group tag.meter (told-meter b t m tag are told)
+told-group : (b : BookView) (t : ℕ) (m : Meters) (f : Frame) → AreMeters b t m → IsTold b t f → f.tag.group < length b.presence.plan.groups
+told-group b t m f are told = group-lt b.presence.plan.groups f.tag.group f.tag.meter (told-meter b t m f are told)
 
 pub groups-long : (b : BookView) (t : ℕ) (m : Meters) → AreMeters b t m → length m.groups.items ≡ length b.presence.plan.groups
 groups-long b t m are = range_long (IsGroup b t) 0 (length b.presence.plan.groups) m.groups.items are.groups
@@ -182,11 +151,11 @@ group-long : (b : BookView) (t : ℕ) (m : Meters) (g : ℕ) (v : Vec MeterView 
 group-long b t m g v are lt is = range_long (IsMeterOf b t g) 0 (size b.presence.plan.groups g) v.items (group-at b t m g v are lt is)
 
 -- it stands among the meters
-pub told-within : (b : BookView) (t : ℕ) (m : Meters) (tag : Tag) → AreMeters b t m → IsTold b t tag → tag.group < length m.groups.items
-told-within b t m tag are told = omega (arith, told-group b t m tag are told, groups-long b t m are)
+pub told-within : (b : BookView) (t : ℕ) (m : Meters) (f : Frame) → AreMeters b t m → IsTold b t f → f.tag.group < length m.groups.items
+told-within b t m f are told = omega (arith, told-group b t m f are told, groups-long b t m are)
 
-pub told-below : (b : BookView) (t : ℕ) (m : Meters) (tag : Tag) (v : Vec MeterView Global) → AreMeters b t m → IsTold b t tag → v ≡ get_or m.groups.items tag.group v → tag.meter < length v.items
-told-below b t m tag v are told is = omega (arith, told-meter b t m tag are told, group-long b t m tag.group v are (told-within b t m tag are told) is)
+pub told-below : (b : BookView) (t : ℕ) (m : Meters) (f : Frame) (v : Vec MeterView Global) → AreMeters b t m → IsTold b t f → v ≡ get_or m.groups.items f.tag.group v → f.tag.meter < length v.items
+told-below b t m f v are told is = omega (arith, told-meter b t m f are told, group-long b t m f.tag.group v are (told-within b t m f are told) is)
 
 pub meter-at : (b : BookView) (t : ℕ) (m : Meters) (g i : ℕ) (v : Vec MeterView Global) (meter : MeterView) → AreMeters b t m → g < length m.groups.items → v ≡ get_or m.groups.items g v → i < length v.items → meter ≡ get_or v.items i meter
     → IsMeterOf b t g i meter
@@ -207,33 +176,32 @@ heard-meters b t m g i r v meter after said are lt is below here told hears =
     }
 
 -- its meter keeps that set
-pub heard-kept_now : (b : BookView) (m : Meters) (tag : Tag) (v : Vec MeterView Global) (meter after : MeterView) (said : Heard) → tag.group < length m.groups.items → tag.meter < length v.items
-    → Hears meter tag.round (missing (shape_of b) tag.group tag.round (past b)) said after → is_answer said ≡ true → HasKept b (record { groups = with_item m.groups tag.group (with_item v tag.meter after) }) tag
-heard-kept_now b m tag v meter after said lt below hears answers group d =
-    ap (λ (w : Vec MeterView Global). kept_set (get_or w.items tag.meter d) tag.round) (get_or-set_same m.groups.items tag.group (with_item v tag.meter after) group lt)
-    ∙ ap (λ x. kept_set x tag.round) (get_or-set_same v.items tag.meter after d below)
-    ∙ kept-now meter after tag.round (missing (shape_of b) tag.group tag.round (past b)) said hears answers
+pub heard-kept_now : (m : Meters) (f : Frame) (v : Vec MeterView Global) (meter after : MeterView) (said : Heard) → f.tag.group < length m.groups.items → f.tag.meter < length v.items
+    → Hears meter f.tag.round f.missing said after → is_answer said ≡ true → HasKept (record { groups = with_item m.groups f.tag.group (with_item v f.tag.meter after) }) f
+heard-kept_now m f v meter after said lt below hears answers group d =
+    ap (λ (w : Vec MeterView Global). kept_set (get_or w.items f.tag.meter d) f.tag.round) (get_or-set_same m.groups.items f.tag.group (with_item v f.tag.meter after) group lt)
+    ∙ ap (λ x. kept_set x f.tag.round) (get_or-set_same v.items f.tag.meter after d below)
+    ∙ kept-now meter after f.tag.round f.missing said hears answers
 
--- and the meters of other tags keep theirs
-pub heard-kept_still : (b : BookView) (m : Meters) (tag z : Tag) (v : Vec MeterView Global) (meter after : MeterView) (said : Heard) → tag.group < length m.groups.items → v ≡ get_or m.groups.items tag.group v
-    → tag.meter < length v.items → meter ≡ get_or v.items tag.meter meter → Hears meter tag.round (missing (shape_of b) tag.group tag.round (past b)) said after
-    → HasKept b m z → HasKept b (record { groups = with_item m.groups tag.group (with_item v tag.meter after) }) z
-heard-kept_still b m tag z v meter after said lt is below here hears kept group d = ⊎_elim in_group elsewhere (cases_eq z.group tag.group)
+-- and the meters of other frames keep theirs
+pub heard-kept_still : (m : Meters) (f o : Frame) (v : Vec MeterView Global) (meter after : MeterView) (said : Heard) → f.tag.group < length m.groups.items → v ≡ get_or m.groups.items f.tag.group v
+    → f.tag.meter < length v.items → meter ≡ get_or v.items f.tag.meter meter → Hears meter f.tag.round f.missing said after
+    → HasKept m o → HasKept (record { groups = with_item m.groups f.tag.group (with_item v f.tag.meter after) }) o
+heard-kept_still m f o v meter after said lt is below here hears kept group d = ⊎_elim in_group elsewhere (cases_eq o.tag.group f.tag.group)
   where
-    elsewhere : (z.group ≡ tag.group → ⊥) → kept_set (get_or (get_or (slice_set m.groups.items tag.group (with_item v tag.meter after)) z.group group).items z.meter d) z.round ≡ Some (missing (shape_of b) z.group z.round (past b))
-    elsewhere ne = ap (λ (w : Vec MeterView Global). kept_set (get_or w.items z.meter d) z.round) (get_or-set_other m.groups.items tag.group z.group (with_item v tag.meter after) group ne) ∙ kept group d
+    elsewhere : (o.tag.group ≡ f.tag.group → ⊥) → kept_set (get_or (get_or (slice_set m.groups.items f.tag.group (with_item v f.tag.meter after)) o.tag.group group).items o.tag.meter d) o.tag.round ≡ Some o.missing
+    elsewhere ne = ap (λ (w : Vec MeterView Global). kept_set (get_or w.items o.tag.meter d) o.tag.round) (get_or-set_other m.groups.items f.tag.group o.tag.group (with_item v f.tag.meter after) group ne) ∙ kept group d
 
-    in_group : z.group ≡ tag.group → kept_set (get_or (get_or (slice_set m.groups.items tag.group (with_item v tag.meter after)) z.group group).items z.meter d) z.round ≡ Some (missing (shape_of b) z.group z.round (past b))
+    in_group : o.tag.group ≡ f.tag.group → kept_set (get_or (get_or (slice_set m.groups.items f.tag.group (with_item v f.tag.meter after)) o.tag.group group).items o.tag.meter d) o.tag.round ≡ Some o.missing
     in_group same =
-        let new : get_or (slice_set m.groups.items tag.group (with_item v tag.meter after)) z.group group ≡ with_item v tag.meter after
-        = ap (λ g. get_or (slice_set m.groups.items tag.group (with_item v tag.meter after)) g group) same ∙ get_or-set_same m.groups.items tag.group (with_item v tag.meter after) group lt in
-        let old : (e : MeterView) → kept_set (get_or v.items z.meter e) z.round ≡ Some (missing (shape_of b) z.group z.round (past b))
-        = λ e. ap (λ (w : Vec MeterView Global). kept_set (get_or w.items z.meter e) z.round) (is ∙ ap (λ g. get_or m.groups.items g v) (sym same)) ∙ kept v e in
-        ap (λ (w : Vec MeterView Global). kept_set (get_or w.items z.meter d) z.round) new ∙ ⊎_elim
+        let new : get_or (slice_set m.groups.items f.tag.group (with_item v f.tag.meter after)) o.tag.group group ≡ with_item v f.tag.meter after
+        = ap (λ g. get_or (slice_set m.groups.items f.tag.group (with_item v f.tag.meter after)) g group) same ∙ get_or-set_same m.groups.items f.tag.group (with_item v f.tag.meter after) group lt in
+        let old : (e : MeterView) → kept_set (get_or v.items o.tag.meter e) o.tag.round ≡ Some o.missing
+        = λ e. ap (λ (w : Vec MeterView Global). kept_set (get_or w.items o.tag.meter e) o.tag.round) (is ∙ ap (λ g. get_or m.groups.items g v) (sym same)) ∙ kept v e in
+        ap (λ (w : Vec MeterView Global). kept_set (get_or w.items o.tag.meter d) o.tag.round) new ∙ ⊎_elim
         (λ own.
-        ap (λ x. kept_set x z.round) (ap (λ j. get_or (slice_set v.items tag.meter after) j d) own ∙ get_or-set_same v.items tag.meter after d below)
-        ∙ kept-still meter after tag.round z.round (missing (shape_of b) tag.group tag.round (past b)) (missing (shape_of b) z.group z.round (past b)) said hears
-        (λ round. ap (λ g. missing (shape_of b) g z.round (past b)) same ∙ ap (λ q. missing (shape_of b) tag.group q (past b)) round)
-        (ap (λ x. kept_set x z.round) (here ∙ ap (λ j. get_or v.items j meter) (sym own)) ∙ old meter))
-        (λ other. ap (λ x. kept_set x z.round) (get_or-set_other v.items tag.meter z.meter after d other) ∙ old d)
-        (cases_eq z.meter tag.meter)
+        ap (λ x. kept_set x o.tag.round) (ap (λ j. get_or (slice_set v.items f.tag.meter after) j d) own ∙ get_or-set_same v.items f.tag.meter after d below)
+        ∙ kept-still meter after f.tag.round o.tag.round f.missing o.missing said hears
+        (ap (λ x. kept_set x o.tag.round) (here ∙ ap (λ j. get_or v.items j meter) (sym own)) ∙ old meter))
+        (λ other. ap (λ x. kept_set x o.tag.round) (get_or-set_other v.items f.tag.meter o.tag.meter after d other) ∙ old d)
+        (cases_eq o.tag.meter f.tag.meter)

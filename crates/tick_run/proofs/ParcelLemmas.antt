@@ -1,23 +1,24 @@
 -- Parcels and the events that they are accepted as, and that added lines fit the plan.
-use Rattle.std.proofs.Common.{◌≡◌, ℕ, zero, suc, ◌+◌, ◌-◌, ◌<◌, ◌≤◌, Bool, true, false, cond, not, ◌&&◌, List, [], ◌∷◌, ◌++◌, length, refl, sym, ap, ◌∙◌, subst, arith}
+use Rattle.std.proofs.Common.{◌≡◌, ℕ, zero, suc, ◌+◌, ◌-◌, ◌<◌, ◌≤◌, Bool, true, false, cond, not, ◌&&◌, List, [], ◌∷◌, ◌++◌, map, length, refl, sym, ap, ◌∙◌, subst, arith}
 use Rattle.std.specs.Prelude.{◌==◌, nat_lt, nat_le, if◌then◌else◌, Option, Some, None, Result, Ok, Err, bytes_eq}
 use Rattle.std.specs.List.{count_by, filter, flat_map, range_with_len, All}
 use Rattle.std.proofs.lemmas.Bool.{false≢true, and_from, and_parts, lt-ltb, ltb-true, eq-eqb}
 use Rattle.std.proofs.lemmas.List.Sums.{sum_by-cons}
 use Rattle.std.proofs.lemmas.List.Elements.{All-head, All-tail, All-nil, All-cons}
 use Rattle.group_plan.specs.Plans.{PlanView, is_place, size}
-use Rattle.group_plan.specs.declared.Tag.{Tag}
 use Rattle.round_machine.specs.declared.Closing.TheVariants as closings
 use Rattle.round_machine.specs.declared.Ending.TheVariants as endings
 use Rattle.meter_frames.specs.declared.Frame.{Frame}
-use Rattle.meter_frames.specs.Frames.{spelling, IsFrame}
+use Rattle.meter_frames.specs.Frames.{spelling}
 use Rattle.transcript_log.specs.declared.Event.{Event}
 use Rattle.transcript_log.specs.declared.Event.TheVariants.{Send, Take, Close, End}
 use Rattle.transcript_log.specs.declared.Line.{Line}
 use Rattle.transcript_log.specs.declared.Line.TheVariants.{Send as SendLine, Take as TakeLine, Close as CloseLine, End as EndLine}
 use Rattle.transcript_log.specs.Events.{event_of, frame_of}
 use Rattle.transcript_log.proofs.EventLemmas.{is_send-itself}
-use Rattle.tick_run.specs.OnTheWay.{same_tag}
+use Rattle.tick_run.specs.OnTheWay.{same_tag, tag_in, frames_in, tags_of}
+use Rattle.tick_run.specs.Batches.{CanTake}
+use Rattle.tick_run.proofs.SpellingLemmas.{frame_in-is}
 use Rattle.transcript_log.specs.Schedule.{Shape, is_closed, is_ended, is_announced, reaches_floor, is_answer_taken, all_taken, survivors, missing, lacking, closing}
 use Rattle.transcript_log.specs.Transcript.{Contents, ending}
 use Rattle.transcript_log.specs.Frames.{contents_of_lines}
@@ -25,7 +26,7 @@ use Rattle.transcript_log.specs.Journal.{past_of, core_line, IsJournalAfter}
 use Rattle.run_rows.specs.Ticks.{Clock}
 use Rattle.transcript_text.specs.Transcripts.{HasRound, FitsClosing, FitsEnding, FitsLine}
 use Rattle.group_book.specs.declared.answers.TakeError.TheVariants.{Unknown, Forged}
-use Rattle.group_book.specs.Books.{BookView, shape_of, knows, posted_of}
+use Rattle.group_book.specs.Books.{BookView, shape_of, posted_of}
 use Rattle.group_book.specs.Places.{is_round}
 use Rattle.shared_book.specs.declared.parcel.Parcel.{Parcel}
 use Rattle.shared_book.specs.declared.parcel.Parcel.TheVariants.{Bytes, Close as CloseParcel, End as EndParcel}
@@ -53,13 +54,19 @@ same_itself f =
     (and_from (same_tag f.tag f.tag) (bytes_eq f.missing f.missing) (is_send-itself f.tag.group f.tag.round f.tag.meter f.tag.kind) (bytes_same f.missing))
     (eq-eqb f.word f.word refl)
 
-pub judged-take : (b : BookView) (z : Tag) (f : Frame) (bytes : List ℕ) → knows b z ≡ true → posted_of b z ≡ Some f → f.tag ≡ z → IsFrame f → bytes ≡ spelling f → judged b (Bytes bytes) ≡ Accepted (Take z)
-judged-take b z f bytes known posted same frame is =
-    subst (λ y. knows b y ≡ true → posted_of b y ≡ Some f → judged b (Bytes bytes) ≡ Accepted (Take y)) same
-    (λ k p. ap (λ r. judged_if_read b.presence.plan b.journal (taking r)) (ap decoded is ∙ sym (decoded_is (spelling f) (Ok f) (frame, refl)))
-    ∙ ap (λ q. if q then judged_beside (posted_of b f.tag) f else RefusedFrame Unknown) k
-    ∙ ap (λ o. judged_beside o f) p
-    ∙ ap (λ q. if q then Accepted (Take f.tag) else RefusedFrame (Forged f f)) (same_itself f)) known posted
+judged-take : (b : BookView) (bytes : List ℕ) → CanTake b bytes → judged b (Bytes bytes) ≡ Accepted (Take (tag_in bytes))
+judged-take b bytes can =
+    let f : Frame = can.frame in
+    ap (λ r. judged_if_read b.presence.plan b.journal (taking r)) (ap decoded can.spelled ∙ sym (decoded_is (spelling f) (Ok f) (can.is, refl)))
+    ∙ ap (λ q. if q then judged_beside (posted_of b f.tag) f else RefusedFrame Unknown) can.known
+    ∙ ap (λ o. judged_beside o f) can.posted
+    ∙ ap (λ q. if q then Accepted (Take f.tag) else RefusedFrame (Forged f f)) (same_itself f)
+    ∙ ap (λ (g : Frame). Accepted (Take g.tag)) (sym (frame_in-is bytes f can.is can.spelled))
+
+-- copies that can be taken ask for their Takes
+pub takes-asked : (b : BookView) (copies : List (List ℕ)) → All (CanTake b) copies → Ask b (map Take (tags_of (frames_in copies))) (map Bytes copies)
+takes-asked b [] all = tt
+takes-asked b (x ∷ copies) all = (judged-take b x (All-head (CanTake b) x copies all), takes-asked b copies (All-tail (CanTake b) x copies all))
 
 -- ---- asking
 

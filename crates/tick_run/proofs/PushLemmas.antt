@@ -1,23 +1,10 @@
--- One more parcel, and one more line.
-use Rattle.std.proofs.Common.{◌≡◌, ℕ, ◌+◌, ◌-◌, ◌<◌, ◌≤◌, List, [], ◌∷◌, ◌++◌, length, take, drop, map, get_or, refl, sym, ap, ◌∙◌, subst, append_assoc, arith}
+-- One more line.
+use Rattle.std.proofs.Common.{◌≡◌, ℕ, ◌+◌, ◌-◌, ◌<◌, ◌≤◌, List, [], ◌∷◌, ◌++◌, length, take, drop, map, get_or, refl, sym, ap, ◌∙◌, append_assoc, arith}
 use Rattle.std.proofs.lemmas.List.{map-append, take_more, take_all, length-append}
-use Rattle.rayon.proofs.ListFacts.{AllZip-append}
-use Rattle.group_plan.specs.declared.Tag.{Tag}
-use Rattle.transcript_log.specs.declared.Event.TheVariants.{Take}
 use Rattle.transcript_log.specs.declared.Line.{Line}
 use Rattle.transcript_text.specs.Transcripts.{TranscriptView, last_tick_from}
-use Rattle.group_book.specs.Books.{BookView}
-use Rattle.shared_book.specs.declared.parcel.Parcel.{Parcel}
-use Rattle.shared_book.specs.Parcels.{Accepted, judged}
-use Rattle.tick_run.specs.Running.{Ask, quiet}
+use Rattle.tick_run.specs.Running.{quiet}
 use Rattle.tick_run.proofs.SendingLoop.{last_push}
-
-pub ask-push : (b : BookView) (tags : List Tag) (n : ℕ) (d : Tag) (batch : List Parcel) (p : Parcel) → n < length tags → Ask b (map Take (take n tags)) batch → judged b p ≡ Accepted (Take (get_or tags n d))
-    → Ask b (map Take (take (n + 1) tags)) (batch ++ p ∷ [])
-ask-push b tags n d batch p lt ask one =
-    subst (λ es. Ask b es (batch ++ p ∷ []))
-    (sym (ap (map Take) (take_more tags n d lt) ∙ map-append Take (take n tags) (get_or tags n d ∷ [])))
-    (AllZip-append (λ e q. judged b q ≡ Accepted e) (map Take (take n tags)) (Take (get_or tags n d) ∷ []) batch (p ∷ []) ask (one, tt))
 
 -- the transcript with the first n lines
 pub record Pushed (t n : ℕ) (lines : List Line) (script done : TranscriptView) : Type 0 where

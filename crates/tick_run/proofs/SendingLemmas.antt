@@ -70,7 +70,7 @@ goes-one readings m t book after script done waiting left lanes hung posts all f
     let c : Clock = clock_of readings.plan in
     let w : Contents = run_contents readings m in
     record {
-      running = sends readings m t book after script done waiting left f one.fate is due one.delays adds.0 adds.1 one.script_is one.link;
+      running = sends readings m t book after script done waiting left f one.fate is due one.framed one.delays adds.0 adds.1 one.script_is one.link;
       on = subst (λ d. SendsOn readings m t (f.tag ∷ []) script.entries d.entries) (sym one.script_is) (record {
         sent = sent_step s c t script.entries f.tag (Some f) one.fate is.run;
         due = due_step s c t script.entries f.tag (Some f) one.fate is.run;

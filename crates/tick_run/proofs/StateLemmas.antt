@@ -13,6 +13,7 @@ use Rattle.group_plan.specs.declared.Kind.TheVariants.{Announcement}
 use Rattle.group_plan.specs.declared.Tag.{Tag}
 use Rattle.lossy_link.specs.Arrivals.{Arrival, posted, due_at, due_elsewhere}
 use Rattle.meter_frames.specs.declared.Frame.{Frame}
+use Rattle.meter_frames.specs.Frames.{spelling, IsFrame}
 use Rattle.transcript_log.specs.declared.Event.{Event}
 use Rattle.transcript_log.specs.declared.Event.TheVariants.{Take, Close, End}
 use Rattle.transcript_log.specs.declared.Line.{Line}
@@ -26,11 +27,13 @@ use Rattle.transcript_log.proofs.ListLemmas.{sum_by-map}
 use Rattle.run_rows.specs.Ticks.{Clock, clock_of, phase, tag_of, takes_at, copies, sent_at, due_of}
 use Rattle.transcript_text.specs.Transcripts.{TranscriptView, no_entries}
 use Rattle.group_book.specs.Books.{BookView}
-use Rattle.tick_run.specs.OnTheWay.{same_tag, is_copy}
+use Rattle.tick_run.specs.OnTheWay.{same_tag, is_copy, tag_in, frames_in, tags_of, IsOfSend}
 use Rattle.tick_run.specs.Progress.{IsDelay, RunsTo, IsBatch, past_of_entries, sending}
 use Rattle.tick_run.specs.TickFrames.{was_taken, due_after, AreHeard, IsDue}
-use Rattle.tick_run.specs.Running.{Stage, starting, emptied, taken, closed, sending_at, run_shape, run_contents, IsRunning, quiet, AreCopiesDue, KeepCopies, HaveEvents, is_due, calls_of, calls_due}
-use Rattle.tick_run.proofs.LinkLemmas.{count-posted, count-due, count-elsewhere}
+use Rattle.tick_run.specs.Running.{Stage, starting, emptied, taken, closed, sending_at, run_shape, run_contents, IsRunning, quiet, AreCopiesDue, HaveCome, KeepCopies, HaveEvents, is_due, calls_of, calls_due}
+use Rattle.tick_run.proofs.LinkLemmas.{count-posted, count-due, count-elsewhere, all-posted, all-due, all-elsewhere}
+use Rattle.tick_run.proofs.SpellingLemmas.{frame_in-spelling, of_send-append, of_send-push}
+use Rattle.tick_run.proofs.PostedLemmas.{free-now}
 use Rattle.tick_run.proofs.BatchLemmas.{silent-batch, copies-silent}
 use Rattle.tick_run.proofs.StepLemmas.{takes_step, closes_step}
 use Rattle.tick_run.proofs.SendLemmas.{at_start, run_later, send_step, tick_over}
@@ -50,12 +53,12 @@ starts readings m book presence journal = record {
   plan = refl;
   journal = journal;
   frames = tt;
-  link = λ z u from. refl;
+  link = record { counts = λ z u from. refl; spelled = All-nil (λ a. IsOfSend [] a.bytes) };
 }
 
 -- ---- the copies of a tick
 
-pub empties : (readings : ReadingsView) (m : Masks) (t : ℕ) (book : BookView) (script : TranscriptView) (waiting : List Arrival)
+empties : (readings : ReadingsView) (m : Masks) (t : ℕ) (book : BookView) (script : TranscriptView) (waiting : List Arrival)
     → IsRunning readings m (starting t) book script waiting → IsRunning readings m (emptied t) book script (due_elsewhere t waiting)
 empties readings m t book script waiting is = record {
   run = is.run;
@@ -63,12 +66,26 @@ empties readings m t book script waiting is = record {
   plan = is.plan;
   journal = is.journal;
   frames = is.frames;
-  link = λ z u from. count-elsewhere z t u waiting (λ e. omega arith) ∙ is.link z u (omega arith);
+  link = record {
+    counts = λ z u from. count-elsewhere z t u waiting (λ e. omega arith) ∙ is.link.counts z u (omega arith);
+    spelled = all-elsewhere (IsOfSend script.entries) t waiting is.link.spelled;
+  };
 }
 
-pub copies-due : (readings : ReadingsView) (m : Masks) (t : ℕ) (book : BookView) (script : TranscriptView) (waiting : List Arrival)
-    → IsRunning readings m (starting t) book script waiting → AreCopiesDue t script.entries (due_at t waiting)
-copies-due readings m t book script waiting is z = count-due z t waiting ∙ is.link z t (omega arith)
+copies-due : (readings : ReadingsView) (m : Masks) (t : ℕ) (book : BookView) (script : TranscriptView) (waiting : List Arrival)
+    → IsRunning readings m (starting t) book script waiting → AreCopiesDue t script.entries (tags_of (frames_in (due_at t waiting)))
+copies-due readings m t book script waiting is z = count-due z t waiting ∙ is.link.counts z t (omega arith)
+
+-- with the copies off the link, the run goes on, and these are the copies that came in
+pub emptied-of : (readings : ReadingsView) (m : Masks) (t : ℕ) (book : BookView) (script : TranscriptView) (waiting left : List Arrival) (came : List (List ℕ))
+    → IsRunning readings m (starting t) book script waiting → left ≡ due_elsewhere t waiting → came ≡ due_at t waiting → IsRunning readings m (emptied t) book script left × HaveCome t script.entries came
+emptied-of readings m t book script waiting left came is off due = (
+  subst (λ (l : List Arrival). IsRunning readings m (emptied t) book script l) (sym off) (empties readings m t book script waiting is),
+  subst (λ (l : List (List ℕ)). HaveCome t script.entries l) (sym due) (record {
+    due = copies-due readings m t book script waiting is;
+    spelled = all-due (IsOfSend script.entries) t waiting is.link.spelled;
+  }),
+)
 
 -- ---- a batch
 
@@ -143,8 +160,12 @@ batch_adds readings m from to t k book after script done waiting added small is 
       frames = subst (HasFramesOf (run_shape readings) (run_contents readings m) []) (sym (lines_append script.entries t added))
           (has_frames-append (run_shape readings) (run_contents readings m) [] (lines_of script.entries) added is.frames
           (has_frames-silent (run_shape readings) (run_contents readings m) (lines_of script.entries) added (All-weaker (λ l. phase (event_of l) ≡ k) (λ l. phase (event_of l) < 2) (λ l h. omega arith) added phases)));
-      link = λ z u le. is.link z u (omega arith)
-          ∙ omega (arith, sum_by-append (copies z u) script.entries (map (quiet t) added), copies-silent (map (quiet t) added) z u (silent-batch t k (map (quiet t) added) small (batch_of t k added phases)));
+      link = record {
+        counts = λ z u le. is.link.counts z u (omega arith)
+            ∙ omega (arith, sum_by-append (copies z u) script.entries (map (quiet t) added), copies-silent (map (quiet t) added) z u (silent-batch t k (map (quiet t) added) small (batch_of t k added phases)));
+        spelled = All-weaker (λ a. IsOfSend script.entries a.bytes) (λ a. IsOfSend (script.entries ++ map (quiet t) added) a.bytes)
+            (λ a of. of_send-append script.entries (map (quiet t) added) a.bytes of) waiting is.link.spelled;
+      };
     })
 
 -- ---- the Takes
@@ -264,15 +285,17 @@ sends-begin readings m t book script waiting is = record {
 -- one more frame is sent
 pub sends : (readings : ReadingsView) (m : Masks) (t : ℕ) (book after : BookView) (script done : TranscriptView) (waiting left : List Arrival) (f : Frame) (fate : List ℕ)
     → IsRunning readings m (sending_at t) book script waiting → IsDue (run_shape readings) (clock_of readings.plan) (run_contents readings m) (past_of_entries script.entries) t f
-    → All IsDelay fate → after.presence ≡ book.presence → after.journal ≡ book.journal ++ SendLine f.tag (Some f) ∷ []
-    → done ≡ record script { entries = script.entries ++ sending t f.tag (Some f) fate ∷ [] } → left ≡ posted t f.tag fate waiting
+    → IsFrame f → All IsDelay fate → after.presence ≡ book.presence → after.journal ≡ book.journal ++ SendLine f.tag (Some f) ∷ []
+    → done ≡ record script { entries = script.entries ++ sending t f.tag (Some f) fate ∷ [] } → left ≡ posted t (spelling f) fate waiting
     → IsRunning readings m (sending_at t) after done left
-sends readings m t book after script done waiting left f fate is due delays presence journal pushed post =
+sends readings m t book after script done waiting left f fate is due framed delays presence journal pushed post =
     let s : Shape = run_shape readings in
     let c : Clock = clock_of readings.plan in
     let w : Contents = run_contents readings m in
     let x : Entry = sending t f.tag (Some f) fate in
     let lines : lines_of (script.entries ++ x ∷ []) ≡ lines_of script.entries ++ SendLine f.tag (Some f) ∷ [] = map-append (λ e. e.line) script.entries (x ∷ []) in
+    let tag : tag_in (spelling f) ≡ f.tag = ap (λ (z : Frame). z.tag) (frame_in-spelling f framed) in
+    let free = free-now s w f.tag f (lines_of script.entries) is.frames (ap (frame s w f.tag) (past_of-lines script.entries) ∙ due.is) in
     subst (λ d. IsRunning readings m (sending_at t) after d left) (sym pushed) (record {
       run = send_step s c t script.entries f.tag (Some f) fate is.run delays due.in_time (may_of_frame s w f.tag f (past_of_entries script.entries) due.is);
       presence = presence ∙ is.presence;
@@ -280,8 +303,14 @@ sends readings m t book after script done waiting left f fate is due delays pres
       journal = journal ∙ ap (λ j. j ++ SendLine f.tag (Some f) ∷ []) is.journal ∙ sym lines;
       frames = subst (HasFramesOf s w []) (sym lines)
           (has_frames-append s w [] (lines_of script.entries) (SendLine f.tag (Some f) ∷ []) is.frames (sym (ap (frame s w f.tag) (past_of-lines script.entries) ∙ due.is), tt));
-      link = λ z u from. ap (count_by (is_copy z u)) post ∙ count-posted z u t f.tag fate waiting
-          ∙ ap (λ n. n + (if same_tag z f.tag then count_by (λ d. t + d == u) fate else 0)) (is.link z u from) ∙ sym (sum_by_push (copies z u) script.entries x);
+      link = record {
+        counts = λ z u from. ap (count_by (is_copy z u)) post ∙ count-posted z u t (spelling f) fate waiting
+            ∙ ap (λ (y : Tag). count_by (is_copy z u) waiting + (if same_tag z y then count_by (λ d. t + d == u) fate else 0)) tag
+            ∙ ap (λ n. n + (if same_tag z f.tag then count_by (λ d. t + d == u) fate else 0)) (is.link.counts z u from) ∙ sym (sum_by_push (copies z u) script.entries x);
+        spelled = subst (All (λ (a : Arrival). IsOfSend (script.entries ++ x ∷ []) a.bytes)) (sym post)
+            (all-posted (IsOfSend (script.entries ++ x ∷ [])) t (spelling f) fate waiting (of_send-push script.entries x f refl framed free)
+            (All-weaker (λ a. IsOfSend script.entries a.bytes) (λ a. IsOfSend (script.entries ++ x ∷ []) a.bytes) (λ a of. of_send-append script.entries (x ∷ []) a.bytes of) waiting is.link.spelled));
+      };
     })
 
 -- the tick is over

@@ -1,17 +1,50 @@
--- What is known where the frames of a group are computed.
-use Rattle.std.specs.Prelude.{◌≡◌, ℕ, ◌<◌, List, length}
+-- What the meters of a group send at a tick, and what the head end adds.
+use Rattle.std.specs.Prelude.{◌≡◌, ℕ, ◌+◌, ◌<◌, ◌==◌, nat_lt, List, [], ◌++◌, map, filter, length, IfOk, Result, Vec, if◌then◌else◌}
+use Rattle.std.specs.declared.alloc.Global.{Global}
+use Rattle.std.specs.declared.alloc.AllocError.{AllocError}
+use Rattle.std.specs.List.{flat_map, range_with_len}
+use Rattle.missing_round.specs.Masks.{Masks}
 use Rattle.group_plan.specs.Plans.{PlanView}
-use Rattle.group_plan.specs.Tables.{ReadingsView, presence_of}
-use Rattle.group_plan.specs.declared.Tag.{Tag}
-use Rattle.run_rows.specs.Ticks.{clock_of}
-use Rattle.group_book.specs.Books.{BookView, past}
+use Rattle.group_plan.specs.Tables.{ReadingsView, reading}
+use Rattle.meter_frames.specs.declared.Frame.{Frame}
+use Rattle.transcript_log.specs.Schedule.{members_of}
+use Rattle.group_book.specs.Books.{BookView, shape_of, past}
+use Rattle.tick_run.specs.declared.group.GroupFrames.{GroupFrames}
 use Rattle.tick_run.specs.Running.{run_shape}
-use Rattle.tick_run.specs.TickFrames.{AreHeard}
+use Rattle.tick_run.specs.TickFrames.{reading_frame, announcements_at, answers_to, AreAnswerable}
 
--- the book and the masks are of these readings, the group is one of the plan's, and the announcements taken in the tick are heard
-pub record CanSend (readings : ReadingsView) (book : BookView) (plan : PlanView) (tags : List Tag) (t g : ℕ) : Type 0 where
-  pub presence : book.presence ≡ presence_of readings
+-- the masks are of these readings, the group is one of the plan's, and what came can be answered
+pub record CanSend (readings : ReadingsView) (plan : PlanView) (came : List Frame) (t g : ℕ) : Type 0 where
   pub masks : plan ≡ readings.plan
   pub group : g < length readings.plan.groups
   pub few : g < 256
-  pub heard : AreHeard (run_shape readings) (clock_of readings.plan) (past book) t tags
+  pub can : AreAnswerable readings.plan t came
+
+-- the readings of group g at tick t
+abbrev pub readings_at : ReadingsView → Masks → ℕ → ℕ → List Frame
+readings_at readings m t g =
+    map (reading_frame readings.plan.groups (reading readings.table) m g t)
+    (if nat_lt t readings.plan.rounds then filter (λ i. (run_shape readings).present g t i) (members_of (run_shape readings) g t) else [])
+
+-- the answers of group g to the announcements that came
+abbrev pub answers_at : PlanView → Masks → List Frame → ℕ → List Frame
+answers_at plan m came g = flat_map (answers_to plan.groups m came g) (range_with_len 0 plan.rounds)
+
+-- the meters of group g send their readings, and answer the announcements that came, each for its set
+pub record AreGroupFrames (readings : ReadingsView) (m : Masks) (came : List Frame) (t g : ℕ) (sent : GroupFrames) : Type 0 where
+  pub readings_are : sent.readings.items ≡ readings_at readings m t g
+  pub answers_are : sent.answers.items ≡ answers_at readings.plan m came g
+
+-- ---- the head end
+
+-- the announcements of group g at tick t
+abbrev pub announcements_due : BookView → ℕ → ℕ → List Frame
+announcements_due b t g = flat_map (λ r. if r + b.presence.plan.w1 == t then announcements_at (shape_of b) (past b) g r else []) (range_with_len 0 b.presence.plan.rounds)
+
+-- a group's readings and answers are these, where there was memory for them
+abbrev pub HasFrames : (ℕ → List Frame) → (ℕ → List Frame) → ℕ → Result GroupFrames AllocError → Type 0
+HasFrames F H g sent = IfOk sent (λ s. (s.readings.items ≡ F g) × (s.answers.items ≡ H g))
+
+-- its announcements stand between them
+abbrev pub AreMerged : BookView → ℕ → (ℕ → List Frame) → (ℕ → List Frame) → ℕ → Result (Vec Frame Global) AllocError → Type 0
+AreMerged b t F H g frames = IfOk frames (λ f. f.items ≡ F g ++ announcements_due b t g ++ H g)

@@ -1,5 +1,6 @@
 -- The meters of a run: what each has read, and what it answers.
-use Rattle.std.specs.Prelude.{◌≡◌, ℕ, ◌<◌, nat_lt, ◌&&◌, Bool, true, false, List, length, All, Option, Some, None, is_some, slice_index_or, Vec}
+use Rattle.meter_frames.specs.declared.Frame.{Frame}
+use Rattle.std.specs.Prelude.{◌≡◌, ℕ, ◌<◌, nat_lt, ◌&&◌, Bool, true, false, List, length, All, filter, Option, Some, None, is_some, slice_index_or, Vec}
 use Rattle.std.specs.declared.alloc.Global.{Global}
 use Rattle.std.specs.List.{AllZip, range_with_len}
 use Rattle.group_plan.specs.Plans.{size}
@@ -61,29 +62,44 @@ is_answer (Refused why) = false
 abbrev pub is_announcement : Tag → Bool
 is_announcement tag = same_kind tag.kind Announcement
 
--- an announcement was taken with effect, of a round of the plan below t
-pub record IsTold (b : BookView) (t : ℕ) (tag : Tag) : Type 0 where
-  pub taken : is_announcement_taken (shape_of b) tag.group tag.round tag.meter (past b) ≡ true
-  pub round : tag.round < b.presence.plan.rounds
-  pub early : tag.round < t
+-- the announcements among the frames that came
+abbrev pub announcements : List Frame → List Frame
+announcements came = filter (λ f. is_announcement f.tag) came
 
--- the meters have read the rounds below some t, and the announcement is of one of them
-pub record CanHear (b : BookView) (m : Meters) (tag : Tag) : Type 0 where
+-- a frame, if it is an announcement, has the missing set
+abbrev pub HasSet : Shape → List Event → Frame → Type 0
+HasSet s past f = is_announcement f.tag ≡ true → f.missing ≡ missing s f.tag.group f.tag.round past
+
+-- an announcement was taken with effect, of a round of the plan below t, and has the missing set
+pub record IsTold (b : BookView) (t : ℕ) (f : Frame) : Type 0 where
+  pub taken : is_announcement_taken (shape_of b) f.tag.group f.tag.round f.tag.meter (past b) ≡ true
+  pub round : f.tag.round < b.presence.plan.rounds
+  pub early : f.tag.round < t
+  pub set : f.missing ≡ missing (shape_of b) f.tag.group f.tag.round (past b)
+
+-- so is each announcement among these frames
+abbrev pub AreTold : BookView → ℕ → List Frame → Type 0
+AreTold b t came = All (λ f. is_announcement f.tag ≡ true → IsTold b t f) came
+
+-- by some book the meters have read the rounds below some t, and the announcement is of one of them
+pub record CanHear (m : Meters) (f : Frame) : Type 0 where
+  pub book : BookView
   pub until : ℕ
-  pub meters : AreMeters b until m
-  pub told : is_announcement tag ≡ true → IsTold b until tag
+  pub meters : AreMeters book until m
+  pub told : is_announcement f.tag ≡ true → IsTold book until f
 
--- the same of each of these tags
-pub record CanHearAll (b : BookView) (m : Meters) (tags : List Tag) : Type 0 where
+-- the same of each of these frames
+pub record CanHearAll (m : Meters) (came : List Frame) : Type 0 where
+  pub book : BookView
   pub until : ℕ
-  pub meters : AreMeters b until m
-  pub told : All (λ tag. is_announcement tag ≡ true → IsTold b until tag) tags
+  pub meters : AreMeters book until m
+  pub told : AreTold book until came
 
--- the meter of the tag keeps the missing set of its round
-abbrev pub HasKept : BookView → Meters → Tag → Type 0
-HasKept b m tag = (group : Vec MeterView Global) (meter : MeterView)
-    → kept_set (slice_index_or (slice_index_or m.groups.items tag.group group).items tag.meter meter) tag.round ≡ Some (missing (shape_of b) tag.group tag.round (past b))
+-- the meter to which the announcement came keeps its set
+abbrev pub HasKept : Meters → Frame → Type 0
+HasKept m f = (group : Vec MeterView Global) (meter : MeterView)
+    → kept_set (slice_index_or (slice_index_or m.groups.items f.tag.group group).items f.tag.meter meter) f.tag.round ≡ Some f.missing
 
--- so do the meters of the announcements among these tags
-abbrev pub HaveHeard : BookView → Meters → List Tag → Type 0
-HaveHeard b m tags = All (λ tag. is_announcement tag ≡ true → HasKept b m tag) tags
+-- so do the meters of the announcements among these frames
+abbrev pub HaveHeard : Meters → List Frame → Type 0
+HaveHeard m came = All (λ f. is_announcement f.tag ≡ true → HasKept m f) came

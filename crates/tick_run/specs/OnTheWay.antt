@@ -1,23 +1,65 @@
 -- Copies on their way, and the lanes that hang, against the entries of a run.
-use Rattle.std.specs.Prelude.{◌≡◌, ℕ, ◌≤◌, ◌==◌, Bool, ◌&&◌, List, map, filter, sum_by, count_by}
+use Rattle.std.specs.Prelude.{◌≡◌, ℕ, ◌≤◌, ◌==◌, Bool, ◌&&◌, List, map, filter, sum_by, count_by, All, slice_index, Option, Some, None}
+use Rattle.group_plan.specs.declared.Kind.{Kind}
+use Rattle.group_plan.specs.declared.Kind.TheVariants.{Reading}
 use Rattle.group_plan.specs.declared.Tag.{Tag}
 use Rattle.link_lanes.specs.Lanes.{Slot, after_posts, lasts}
 use Rattle.link_lanes.specs.declared.Post.{Post}
 use Rattle.lossy_link.specs.Arrivals.{Arrival}
+use Rattle.meter_frames.specs.declared.Frame.{Frame}
+use Rattle.meter_frames.specs.Frames.{spelling, IsFrame, kind_of, frame_at}
 use Rattle.transcript_log.specs.declared.Entry.{Entry}
-use Rattle.transcript_log.specs.Events.{is_tag}
+use Rattle.transcript_log.specs.Events.{is_tag, lines_of}
 use Rattle.run_rows.specs.Ticks.{copies}
+use Rattle.group_book.specs.Books.{posted_in}
 
 abbrev pub same_tag : Tag → Tag → Bool
 same_tag z tag = is_tag z.group z.round z.meter z.kind tag
 
+-- ---- bytes
+
+-- the frame that bytes of this kind carry
+abbrev pub carried : List ℕ → Option Kind → Frame
+carried bytes (Some kind) = frame_at kind bytes
+carried bytes None = frame_at Reading bytes
+
+-- the frame that bytes carry which are the spelling of one
+unfoldable pub frame_in : List ℕ → Frame
+frame_in bytes = carried bytes (kind_of (slice_index bytes 2))
+
+abbrev pub tag_in : List ℕ → Tag
+tag_in bytes = (frame_in bytes).tag
+
+-- the frames of these copies, and their tags
+abbrev pub frames_in : List (List ℕ) → List Frame
+frames_in copies = map frame_in copies
+
+abbrev pub tags_of : List Frame → List Tag
+tags_of frames = map (λ f. f.tag) frames
+
+-- bytes are the spelling of the frame that the entries posted under its tag
+pub record IsOfSend (entries : List Entry) (bytes : List ℕ) : Type 0 where
+  pub frame : Frame
+  pub is : IsFrame frame
+  pub spelled : bytes ≡ spelling frame
+  pub posted : posted_in frame.tag (lines_of entries) ≡ Some frame
+
+-- bytes are the spelling of a frame
+pub record IsSpelling (bytes : List ℕ) : Type 0 where
+  pub frame : Frame
+  pub is : IsFrame frame
+  pub spelled : bytes ≡ spelling frame
+
+-- ---- copies
+
 -- a copy of the tag that is due at tick u
 abbrev pub is_copy : Tag → ℕ → Arrival → Bool
-is_copy z u a = (a.tick == u) && same_tag z a.tag
+is_copy z u a = (a.tick == u) && same_tag z (tag_in a.bytes)
 
--- the copies due at tick t and later are those that the entries sent
-abbrev pub AreOnTheWay : ℕ → List Entry → List Arrival → Type 0
-AreOnTheWay t entries waiting = (z : Tag) (u : ℕ) → t ≤ u → count_by (is_copy z u) waiting ≡ sum_by (copies z u) entries
+-- the copies due at tick t and later are those that the entries sent, each with the bytes of its frame
+pub record AreOnTheWay (t : ℕ) (entries : List Entry) (waiting : List Arrival) : Type 0 where
+  pub counts : (z : Tag) (u : ℕ) → t ≤ u → count_by (is_copy z u) waiting ≡ sum_by (copies z u) entries
+  pub spelled : All (λ a. IsOfSend entries a.bytes) waiting
 
 -- the lanes that hang are those that hung at first less some whose span ended before tick t, and each has counted the posts of its span
 pub record AreLanesAt (slots : List Slot) (posts : List Post) (t : ℕ) (lanes : List Slot) : Type 0 where

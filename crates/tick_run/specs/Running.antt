@@ -1,5 +1,5 @@
 -- A run that goes on: its book, its transcript and its link, stage by stage of a tick.
-use Rattle.std.specs.Prelude.{◌≡◌, ℕ, ◌+◌, ◌-◌, ◌*◌, nat_le, nat_lt, Bool, ◌&&◌, List, [], ◌∷◌, ◌++◌, count_by, sum_by, if◌then◌else◌}
+use Rattle.std.specs.Prelude.{◌≡◌, ℕ, ◌+◌, ◌-◌, ◌*◌, nat_le, nat_lt, Bool, ◌&&◌, List, [], ◌∷◌, ◌++◌, All, count_by, sum_by, if◌then◌else◌}
 use Rattle.std.specs.List.{AllZip, flat_map, range_with_len}
 use Rattle.missing_round.specs.Masks.{Masks}
 use Rattle.group_plan.specs.Tables.{ReadingsView, reading, presence_of}
@@ -19,7 +19,7 @@ use Rattle.group_book.specs.Books.{BookView}
 use Rattle.shared_book.specs.declared.parcel.Parcel.{Parcel}
 use Rattle.shared_book.specs.declared.parcel.Parcel.TheVariants.{Close as CloseParcel, End as EndParcel}
 use Rattle.shared_book.specs.Parcels.{Accepted, judged}
-use Rattle.tick_run.specs.OnTheWay.{same_tag, AreOnTheWay}
+use Rattle.tick_run.specs.OnTheWay.{same_tag, frames_in, tags_of, IsOfSend, AreOnTheWay}
 use Rattle.tick_run.specs.Progress.{RunsTo}
 
 -- all entries stand before this moment; the ticks below `takes`, `closes` and `sends` have theirs; from tick `onward` on copies are on their way
@@ -72,9 +72,14 @@ pub record IsRunning (readings : ReadingsView) (m : Masks) (at : Stage) (book : 
 abbrev pub quiet : ℕ → Line → Entry
 quiet t line = record { tick = t; fate = []; line = line }
 
--- these are the copies that are due at tick t
+-- these are the tags of the copies that are due at tick t
 abbrev pub AreCopiesDue : ℕ → List Entry → List Tag → Type 0
 AreCopiesDue t entries tags = (z : Tag) → count_by (same_tag z) tags ≡ sum_by (copies z t) entries
+
+-- these copies came in at tick t, each with the bytes of its frame
+pub record HaveCome (t : ℕ) (entries : List Entry) (came : List (List ℕ)) : Type 0 where
+  pub due : AreCopiesDue t entries (tags_of (frames_in came))
+  pub spelled : All (IsOfSend entries) came
 
 -- no copies were sent for tick t since
 abbrev pub KeepCopies : ℕ → List Entry → List Entry → Type 0

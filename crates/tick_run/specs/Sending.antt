@@ -9,7 +9,7 @@ use Rattle.link_lanes.specs.declared.Post.{Post}
 use Rattle.link_lanes.specs.Lanes.{Slot, after_post, after_posts, lasts, fate_through, fates_after}
 use Rattle.lossy_link.specs.Arrivals.{Arrival, posted}
 use Rattle.meter_frames.specs.declared.Frame.{Frame}
-use Rattle.meter_frames.specs.Frames.{FitsKind}
+use Rattle.meter_frames.specs.Frames.{spelling, IsFrame, FitsKind}
 use Rattle.transcript_log.specs.declared.Entry.{Entry}
 use Rattle.run_rows.specs.Ticks.{clock_of, sent_at, due_of, posts_of}
 use Rattle.transcript_text.specs.Transcripts.{TranscriptView}
@@ -26,15 +26,16 @@ pub record IsOfPlan (plan : PlanView) (f : Frame) : Type 0 where
   pub fits : FitsKind f.tag.kind f.missing f.word
   pub set : All (λ i. i < size plan.groups f.tag.group) f.missing
 
--- the frame was sent at tick t: by the book, through the lanes, onto the link, into the transcript
+-- the frame was sent at tick t: by the book, through the lanes, onto the link as its bytes, into the transcript
 pub record SendsOne (t : ℕ) (f : Frame) (book after : BookView) (script done : TranscriptView) (waiting left : List Arrival) (lanes hung : List Slot) (posts all : List Post) : Type 0 where
   pub fate : List ℕ
   pub delays : All IsDelay fate
   pub answer : SendAnswer
   pub sent : SendEnds book f answer after
   pub spare : book.spare ≤ after.spare + 1
+  pub framed : IsFrame f
   pub script_is : done ≡ record script { entries = script.entries ++ sending t f.tag (Some f) fate ∷ [] }
-  pub link : left ≡ posted t f.tag fate waiting
+  pub link : left ≡ posted t (spelling f) fate waiting
   pub through : fate ≡ fate_through t f.tag lanes (1 ∷ [])
   pub posts_are : all ≡ posts ++ record { tick = t; tag = f.tag; fate = fate } ∷ []
   pub lanes_are : hung ≡ map (after_post t) lanes

@@ -1,10 +1,11 @@
 -- The frames that a group sends at a tick.
-use Rattle.std.specs.Prelude.{◌≡◌, ℕ, ◌+◌, ◌<◌, ◌≤◌, ◌==◌, nat_lt, Bool, true, ◌&&◌, List, [], ◌++◌, All, map, filter, length, slice_index, slice_index_or, Option, Some, None, if◌then◌else◌}
+use Rattle.std.specs.Prelude.{◌≡◌, ℕ, ◌+◌, ◌<◌, ◌≤◌, ◌==◌, nat_lt, Bool, true, false, ◌&&◌, List, [], ◌∷◌, ◌++◌, All, map, filter, length, slice_index, slice_index_or, Option, Some, None, if◌then◌else◌}
 use Rattle.std.specs.List.{list_any, flat_map, range_with_len}
 use Rattle.missing_round.specs.Masks.{Masks}
 use Rattle.missing_round.specs.Sets.{is_member as is_in}
 use Rattle.missing_round.specs.Words.{reading_word, answer_word}
-use Rattle.group_plan.specs.Plans.{Group, members, size}
+use Rattle.blind_core.specs.Blind.{are_places}
+use Rattle.group_plan.specs.Plans.{PlanView, Group, members, size, is_place}
 use Rattle.group_plan.specs.Tables.{ReadingsView, reading}
 use Rattle.group_plan.specs.declared.Kind.TheVariants.{Reading, Announcement, Answer}
 use Rattle.group_plan.specs.declared.Tag.{Tag}
@@ -18,7 +19,7 @@ use Rattle.transcript_log.specs.Schedule.{Shape, members_of, is_announced, survi
 use Rattle.transcript_log.specs.Transcript.{Contents, frame}
 use Rattle.run_rows.specs.Ticks.{Clock, tag_of, tags}
 use Rattle.tick_run.specs.Progress.{IsInTime}
-use Rattle.tick_run.specs.OnTheWay.{same_tag}
+use Rattle.tick_run.specs.OnTheWay.{same_tag, tags_of}
 
 -- a copy of the tag is among these
 abbrev pub was_taken : List Tag → Tag → Bool
@@ -62,6 +63,34 @@ announcements_at s past g r = if is_announced s g r past then map (announcement_
 -- the answers of a round to the announcements that were taken
 abbrev pub answers_in : Shape → Masks → List Event → List Tag → ℕ → ℕ → List Frame
 answers_in s m past taken g r = map (answer_frame m g r (missing s g r past)) (filter (λ i. was_taken taken (tag_of Announcement g r i)) (members_of s g r))
+
+-- ---- what came to the meters
+
+-- the set of the first of these frames that is under the tag
+abbrev pub announced_set : List Frame → Tag → List ℕ
+announced_set [] z = []
+announced_set (f ∷ came) z = if same_tag z f.tag then f.missing else announced_set came z
+
+-- a meter's answer to the announcement that came to it, for its set
+abbrev pub answer_to : Masks → List Frame → ℕ → ℕ → ℕ → Frame
+answer_to m came g r i = answer_frame m g r (announced_set came (tag_of Announcement g r i)) i
+
+-- the answers of a round to the announcements that came
+abbrev pub answers_to : List Group → Masks → List Frame → ℕ → ℕ → List Frame
+answers_to groups m came g r = map (answer_to m came g r) (filter (λ i. was_taken (tags_of came) (tag_of Announcement g r i)) (members groups g r))
+
+-- a meter of the plan can answer the set: its meters have places, and the meter is none of them
+pub record CanAnswer (plan : PlanView) (g r i : ℕ) (set : List ℕ) : Type 0 where
+  pub place : is_place plan g r i ≡ true
+  pub places : are_places plan g r set ≡ true
+  pub other : is_in i set ≡ false
+
+-- each announcement that came can be answered, and is of a round that closed not more than the longest delay ago
+pub record AreAnswerable (plan : PlanView) (t : ℕ) (came : List Frame) : Type 0 where
+  pub can : (g r i : ℕ) → was_taken (tags_of came) (tag_of Announcement g r i) ≡ true → CanAnswer plan g r i (announced_set came (tag_of Announcement g r i))
+  pub round : (g r i : ℕ) → was_taken (tags_of came) (tag_of Announcement g r i) ≡ true → r < plan.rounds
+  pub early : (g r i : ℕ) → was_taken (tags_of came) (tag_of Announcement g r i) ≡ true → r + plan.w1 < t
+  pub late : (g r i : ℕ) → was_taken (tags_of came) (tag_of Announcement g r i) ≡ true → t ≤ r + plan.w1 + 16
 
 -- an announcement of this round
 abbrev pub is_announcement_in : ℕ → ℕ → Tag → Bool

@@ -1,22 +1,20 @@
-//! The two batches of a tick: its Takes, and its Closes and Ends.
+//! The head end's two batches of a tick: its Takes, and its Closes and Ends.
 
 ghost use Rattle.std.specs.Prelude.{◌≡◌, ◌++◌, ◌-◌, ◌≤◌, ◌<◌, List, [], ◌∷◌, length, map, All, Some, None, IfOk, OnOk, if◌then◌else◌};
 ghost use Rattle.transcript_log.specs.declared.Event.{Event};
 ghost use Rattle.transcript_log.specs.declared.Event.TheVariants.{Take};
 ghost use Rattle.transcript_text.specs.Transcripts.{last_tick_from, FitsLine};
-ghost use Rattle.shared_book.specs.Parcels.{Accepted, judged};
 ghost use Rattle.tick_run.specs.Batches.{CanTake, Batched};
+ghost use Rattle.tick_run.specs.OnTheWay.{frames_in, tags_of};
 ghost use Rattle.tick_run.specs.Running.{Ask, quiet, is_due, calls_due, parcels_of, parcels_due};
 ghost use Rattle.run_rows.specs.Ticks.{clock_of};
-ghost use Rattle.shared_book.specs.declared.parcel.Parcel.TheVariants.{Close as CloseParcel, End as EndParcel};
+ghost use Rattle.shared_book.specs.declared.parcel.Parcel.TheVariants.{Bytes, Close as CloseParcel, End as EndParcel};
 
 use crate::RunError;
 use crate::running::Running;
 use collector_workers::{Collected, Gate, collect};
-use group_book::Book;
-use group_plan::{Plan, Tag};
+use group_plan::Plan;
 use link_lanes::Fate;
-use meter_frames::encode;
 use shared_book::Parcel;
 use std::alloc::{AllocError, Global};
 use std::sync::Wait;
@@ -24,25 +22,13 @@ use std::thread::Threads;
 use transcript_log::{Entry, Line};
 use transcript_text::Transcript;
 
-/// The frame that is posted under the tag, as it comes from the link.
-fn parcel_of(book: &Book, tag: Tag) -> Parcel
-    requires { CanTake book.now tag }
-    ensures { judged book.now result ≡ Accepted (Take tag) }
-{
-    match book.posted(tag) {
-        Some(frame) => Parcel::Bytes(encode(&frame)),
-        None => unreachable!(),
-    }
-}
-
-/// The frames that are posted under the tags, in order.
-fn copies_of(alloc: Global, book: &Book, tags: &[Tag]) -> Result<Vec<Parcel>, AllocError>
-    requires { All (CanTake book.now) tags.now }
-    ensures { IfOk result (λ batch. Ask book.now (map Take tags.now) batch.items) }
+/// The copies as parcels, in order.
+fn parcels_in(alloc: Global, copies: &[[u8; 52]]) -> Result<Vec<Parcel>, AllocError>
+    ensures { IfOk result (λ batch. batch.items ≡ map Bytes copies.now) }
 {
     let mut batch = Vec::new(alloc);
-    for tag in tags {
-        batch.push(parcel_of(book, *tag))?;
+    for bytes in copies {
+        batch.push(Parcel::Bytes(*bytes))?;
     }
     Ok(batch)
 }
@@ -116,7 +102,7 @@ pub(crate) fn take_copies<R: Threads + Wait + Sync, G: Gate>(
     rt: &R,
     alloc: Global,
     run: Running,
-    tags: &[Tag],
+    copies: &[[u8; 52]],
     tick: u32,
     workers: u32,
     gate: &G,
@@ -124,10 +110,10 @@ pub(crate) fn take_copies<R: Threads + Wait + Sync, G: Gate>(
     requires workers { (1 ≤ workers) × (workers ≤ 16) }
     requires later { last_tick_from 0 run.transcript.entries ≤ tick }
     requires plan { run.transcript.plan ≡ run.book.presence.plan }
-    requires tags { All (CanTake run.book) tags.now }
-    ensures { IfOk result (λ after. Batched tick (map Take tags.now) run.book after.book run.transcript after.transcript run.link after.link) }
+    requires copies { All (CanTake run.book) copies.now }
+    ensures { IfOk result (λ after. Batched tick (map Take (tags_of (frames_in copies.now))) run.book after.book run.transcript after.transcript run.link after.link) }
 {
-    let batch = copies_of(alloc, &run.book, tags)?;
+    let batch = parcels_in(alloc, copies)?;
     commit_batch(rt, alloc, run, batch, tick, workers, gate)
 }
 

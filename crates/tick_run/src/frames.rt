@@ -1,13 +1,16 @@
-//! The frames that a group sends in a round.
+//! The frames that the meters of a group send in a round.
 
 ghost use Rattle.std.specs.Prelude.{◌≡◌, ◌++◌, ◌<◌, map, filter, false, true, is_some, OnOk, IfOk, IsTrue, length, nat_lt, None, slice_index_or};
 ghost use Rattle.std.specs.List.{list_all, range_with_len};
-ghost use Rattle.group_plan.specs.Plans.{members as members_of, size, is_place};
+ghost use Rattle.group_plan.specs.Plans.{members as members_of, size};
 ghost use Rattle.group_plan.specs.Tables.{reading};
-ghost use Rattle.missing_round.specs.Sets.{is_member, less};
-ghost use Rattle.blind_core.specs.Blind.{are_places, AreGroupWords};
+ghost use Rattle.missing_round.specs.Sets.{is_member};
+ghost use Rattle.group_plan.specs.declared.Kind.TheVariants.{Announcement};
+ghost use Rattle.run_rows.specs.Ticks.{tag_of};
+ghost use Rattle.tick_run.specs.OnTheWay.{same_tag};
+ghost use Rattle.blind_core.specs.Blind.{AreGroupWords};
 ghost use Rattle.mask_stream.specs.ChaMaskTables.{plan_of, words_of};
-ghost use Rattle.tick_run.specs.TickFrames.{reading_frame, announcement_frame, answer_frame, word_frame, IsRow};
+ghost use Rattle.tick_run.specs.TickFrames.{reading_frame, answer_to, announced_set, CanAnswer, word_frame, IsRow};
 
 use blind_core::{answer, masked_group};
 use group_plan::{Kind, Readings, Tag};
@@ -17,45 +20,39 @@ use missing_round::MeterSet;
 use mod_word::Word;
 use std::alloc::{AllocError, Global};
 
-/// Adds the announcement of a missing set to each other member.
-pub(crate) fn add_announcements(
-    group: u16,
-    round: u32,
-    members: &MeterSet,
-    missing: &MeterSet,
-    frames: &mut Vec<Frame>,
-) -> Result<(), AllocError>
-    ensures { OnOk result (frames.new.items ≡ frames.old.items ++ map (announcement_frame group round missing.now) (less members.now missing.now)) }
+/// Whether it is an announcement to this meter of the round.
+fn is_announcement_for(tag: Tag, group: u16, round: u32, meter: u8) -> bool
+    ensures { result ≡ same_tag (tag_of Announcement group round meter) tag }
 {
-    for meter in members.minus(*missing).members() {
-        let tag = Tag {
-            group,
-            round,
-            meter,
-            kind: Kind::Announcement,
-        };
-        frames.push(Frame {
-            tag,
-            missing: *missing,
-            word: Word(0),
-        })?;
-    }
-    Ok(())
+    tag.group == group && tag.round == round && tag.meter == meter && tag.kind == Kind::Announcement
 }
 
-/// Adds the answer to a missing set of each member that heard of it.
+/// The set of the first announcement to a meter among the frames that came.
+fn announced_to(came: &[Frame], group: u16, round: u32, meter: u8) -> MeterSet
+    ensures { result ≡ announced_set came.now (tag_of Announcement group round meter) }
+{
+    let [frame, later @ ..] = came else {
+        return MeterSet::empty();
+    };
+    if is_announcement_for(frame.tag, group, round, meter) {
+        frame.missing
+    } else {
+        announced_to(later, group, round, meter)
+    }
+}
+
+/// Adds the answer of each member that heard, to the announcement that came to it.
 pub(crate) fn add_answers(
     masks: &ChaMasks,
     group: u16,
     round: u32,
     members: &MeterSet,
     heard: &MeterSet,
-    missing: &MeterSet,
+    came: &[Frame],
     frames: &mut Vec<Frame>,
 ) -> Result<(), AllocError>
-    requires missing { IsTrue (are_places (plan_of masks.now) group round missing.now) }
-    requires heard { (i : _) → is_member i heard.now ≡ true → IsTrue (is_place (plan_of masks.now) group round i) × (is_member i missing.now ≡ false) }
-    ensures { OnOk result (frames.new.items ≡ frames.old.items ++ map (answer_frame (words_of masks.now) group round missing.now) (filter (λ i. is_member i heard.now) members.now)) }
+    requires heard { (i : _) → is_member i heard.now ≡ true → CanAnswer (plan_of masks.now) group round i (announced_set came.now (tag_of Announcement group round i)) }
+    ensures { OnOk result (frames.new.items ≡ frames.old.items ++ map (answer_to (words_of masks.now) came.now group round) (filter (λ i. is_member i heard.now) members.now)) }
 {
     for meter in members.members() {
         if heard.has(meter) {
@@ -65,10 +62,11 @@ pub(crate) fn add_answers(
                 meter,
                 kind: Kind::Answer,
             };
+            let missing = announced_to(came, group, round, meter);
             frames.push(Frame {
                 tag,
-                missing: *missing,
-                word: answer(masks, group, round, meter, missing),
+                missing,
+                word: answer(masks, group, round, meter, &missing),
             })?;
         }
     }

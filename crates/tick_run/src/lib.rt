@@ -1,6 +1,8 @@
 //! The run over ticks.
 #![tactic(auto)]
 
+mod all_groups;
+mod announcements;
 mod batches;
 mod frames;
 mod group;
@@ -9,7 +11,6 @@ mod run;
 mod running;
 mod sends;
 mod tick;
-mod words;
 
 pub use run::{Finished, run_plan};
 use std::alloc::AllocError;

@@ -1,14 +1,16 @@
 //! The meters of a run: each reads its rounds, and answers at most one missing set in each.
 
-ghost use Rattle.std.specs.Prelude.{◌≡◌, ◌+◌, ◌<◌, ◌≤◌, ℕ, true, IfOk, OnOk, length, filter};
+ghost use Rattle.std.specs.Prelude.{◌≡◌, ◌+◌, ◌<◌, ◌≤◌, ◌++◌, ◌∷◌, [], ℕ, true, All, IfOk, OnOk, length};
 ghost use Rattle.group_plan.specs.Plans.{floor_of};
-ghost use Rattle.group_plan.specs.declared.Tag.{Tag};
-ghost use Rattle.tick_run.specs.Meters.{AreOfGroup, AreMeters, is_answer, is_announcement, CanHear, CanHearAll, HasKept, HaveHeard};
+ghost use Rattle.group_book.specs.Books.{BookView};
+ghost use Rattle.meter_frames.specs.declared.Frame.{Frame};
+ghost use Rattle.tick_run.specs.OnTheWay.{frame_in, frames_in, IsSpelling};
+ghost use Rattle.tick_run.specs.Meters.{AreOfGroup, AreMeters, is_answer, is_announcement, announcements, IsTold, AreTold, CanHear, CanHearAll, HasKept, HaveHeard};
 
 use group_book::Book;
 use group_plan::{Kind, Plan, Tag};
 use meter_core::{Heard, Meter};
-use missing_round::MeterSet;
+use meter_frames::{Frame, decode};
 use std::alloc::{AllocError, Global};
 use transcript_text::members;
 
@@ -100,42 +102,61 @@ impl Meters {
         }
     }
 
-    /// Whether the tag is an announcement that its meter answers: the meter hears of the missing set of the round.
-    fn hear(&mut self, book: &Book, tag: Tag) -> bool
-        requires { CanHear book.now self.old tag }
-        ensures meters { (t : ℕ) → AreMeters book.now t self.old → AreMeters book.now t self.new }
-        ensures answered { result ≡ is_announcement tag }
-        ensures heard { is_announcement tag ≡ true → HasKept book.now self.new tag }
-        ensures kept { (other : Tag) → HasKept book.now self.old other → HasKept book.now self.new other }
+    /// Whether the frame is an announcement that its meter answers: the meter hears of the set that it carries.
+    fn hear(&mut self, frame: &Frame) -> bool
+        requires { CanHear self.old frame.now }
+        ensures meters { (b : BookView) (t : ℕ) → AreMeters b t self.old → (is_announcement frame.now.tag ≡ true → IsTold b t frame.now) → AreMeters b t self.new }
+        ensures answered { result ≡ is_announcement frame.now.tag }
+        ensures heard { is_announcement frame.now.tag ≡ true → HasKept self.new frame.now }
+        ensures kept { (other : Frame) → HasKept self.old other → HasKept self.new other }
     {
-        if !is_announcement(tag) {
+        if !is_announcement(frame.tag) {
             return false;
         }
-        let Some(missing) = book.announced(tag.group, tag.round) else {
-            return false;
-        };
-        let meter = &mut self.groups[tag.group as usize][tag.meter as usize];
-        is_answer(meter.hear(tag.round, &missing))
+        let meter = &mut self.groups[frame.tag.group as usize][frame.tag.meter as usize];
+        is_answer(meter.hear(frame.tag.round, &frame.missing))
     }
 
-    /// The announcements among the tags that their meters answer.
+    /// The announcements among the frames that came which their meters answer.
     pub(crate) fn answered(
         &mut self,
         alloc: Global,
-        book: &Book,
-        tags: &[Tag],
-    ) -> Result<Vec<Tag>, AllocError>
-        requires { CanHearAll book.now self.old tags.now }
-        ensures meters { (t : ℕ) → AreMeters book.now t self.old → OnOk result (AreMeters book.now t self.new) }
-        ensures answered { IfOk result (λ answered. answered.items ≡ filter is_announcement tags.now) }
-        ensures heard { OnOk result (HaveHeard book.now self.new tags.now) }
+        came: &[Frame],
+    ) -> Result<Vec<Frame>, AllocError>
+        requires { CanHearAll self.old came.now }
+        ensures meters { (b : BookView) (t : ℕ) → AreMeters b t self.old → AreTold b t came.now → OnOk result (AreMeters b t self.new) }
+        ensures answered { IfOk result (λ answered. answered.items ≡ announcements came.now) }
+        ensures heard { OnOk result (HaveHeard self.new came.now) }
     {
         let mut answered = Vec::new(alloc);
-        for tag in tags {
-            if self.hear(book, *tag) {
-                answered.push(*tag)?;
+        for frame in came {
+            if self.hear(frame) {
+                answered.push(*frame)?;
             }
         }
         Ok(answered)
     }
+}
+
+/// Adds the frame of bytes that came. What is no frame is passed over.
+fn add_came(bytes: &[u8], came: &mut Vec<Frame>) -> Result<(), AllocError>
+    requires { IsSpelling bytes.now }
+    ensures { OnOk result (came.new.items ≡ came.old.items ++ frame_in bytes.now ∷ []) }
+{
+    if let Ok(frame) = decode(bytes) {
+        came.push(frame)?;
+    }
+    Ok(())
+}
+
+/// The frames of the copies that came, in order.
+pub(crate) fn came_in(alloc: Global, copies: &[[u8; 52]]) -> Result<Vec<Frame>, AllocError>
+    requires { All IsSpelling copies.now }
+    ensures { IfOk result (λ came. came.items ≡ frames_in copies.now) }
+{
+    let mut came = Vec::new(alloc);
+    for bytes in copies {
+        add_came(bytes, &mut came)?;
+    }
+    Ok(came)
 }

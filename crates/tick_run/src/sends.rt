@@ -12,7 +12,7 @@ ghost use Rattle.tick_run.specs.Sending.{IsOfPlan, SendsOne, KeepsFates, GoesOn,
 
 use crate::running::Running;
 use link_lanes::{Fate, Lane, Rack};
-use meter_frames::Frame;
+use meter_frames::{Frame, encode};
 use std::alloc::AllocError;
 use transcript_log::{Entry, Line};
 
@@ -21,7 +21,8 @@ fn fate_is(_fate: Fate)
     ensures { All IsDelay _fate }
 {}
 
-/// Sends a frame at a tick: it is posted through the lanes, its copies are on their way, and its line is the transcript's last.
+/// Sends a frame at a tick: it is posted through the lanes, copies of its bytes are on their
+/// way, and its line is the transcript's last.
 fn send_one(tick: u32, frame: &Frame, run: &mut Running, rack: &mut Rack) -> Result<(), AllocError>
     requires tick { tick < 2 ^ 31 }
     requires later { last_tick_from 0 run.old.transcript.entries ≤ tick }
@@ -38,7 +39,7 @@ fn send_one(tick: u32, frame: &Frame, run: &mut Running, rack: &mut Rack) -> Res
     let _answer = run.book.send(*frame);
     let fate = rack.pass(tick, frame.tag);
     fate_is(fate);
-    run.link.post(tick, frame.tag, fate)?;
+    run.link.post(tick, encode(frame), fate)?;
     run.transcript.push(Entry {
         tick,
         fate,

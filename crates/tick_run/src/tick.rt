@@ -1,6 +1,6 @@
 //! One tick of a run.
 
-ghost use Rattle.std.specs.Prelude.{◌≡◌, ◌+◌, ◌<◌, ◌≤◌, ◌^◌, List, length, IfOk, OnOk};
+ghost use Rattle.std.specs.Prelude.{◌≡◌, ◌+◌, ◌<◌, ◌≤◌, ◌^◌, List, All, length, IfOk, OnOk};
 ghost use Rattle.std.specs.List.{AllZip, range_with_len};
 ghost use Rattle.group_plan.specs.Tables.{reading, presence_of};
 ghost use Rattle.group_book.specs.Books.{past};
@@ -8,20 +8,22 @@ ghost use Rattle.run_rows.specs.Ticks.{clock_of};
 ghost use Rattle.link_lanes.specs.Lanes.{Slot};
 ghost use Rattle.link_lanes.specs.Racks.{slots, posts_of, HasRoom};
 ghost use Rattle.mask_stream.specs.ChaMaskTables.{plan_of, words_of};
-ghost use Rattle.tick_run.specs.Running.{run_shape, IsRunning, AreCopiesDue, starting, closed};
+ghost use Rattle.tick_run.specs.OnTheWay.{frames_in, tags_of, IsSpelling};
+ghost use Rattle.tick_run.specs.Running.{run_shape, IsRunning, HaveCome, starting, closed};
 ghost use Rattle.tick_run.specs.Sending.{KeepsFates, KeptFates};
 ghost use Rattle.tick_run.specs.TickFrames.{frames_due, AreHeard};
-ghost use Rattle.tick_run.specs.Meters.{AreMeters, HaveHeard};
+ghost use Rattle.tick_run.specs.Meters.{AreMeters, HasSet, HaveHeard};
 
 use crate::RunError;
+use crate::all_groups::all_groups;
+use crate::announcements::with_announcements;
 use crate::batches::{close_rounds, take_copies};
-use crate::meters::Meters;
+use crate::meters::{Meters, came_in};
 use crate::running::Running;
 use crate::sends::send_all;
-use crate::words::tick_frames;
 use collector_workers::Gate;
 use group_book::Book;
-use group_plan::{Readings, Tag};
+use group_plan::Readings;
 use link_lanes::{Lane, Rack};
 use mask_stream::ChaMasks;
 use meter_frames::Frame;
@@ -29,7 +31,8 @@ use std::alloc::{AllocError, Global};
 use std::sync::Wait;
 use std::thread::Threads;
 
-/// The frames that each group sends at a tick: its meters read the round that starts, and answer the announcements that came in.
+/// The frames that each group sends at a tick: its meters read the round that starts, and answer the announcements that came in;
+/// the head end announces the rounds that it closed.
 fn frames_at(
     rt: &(impl Threads + Sync),
     alloc: Global,
@@ -37,21 +40,25 @@ fn frames_at(
     meters: &mut Meters,
     readings: &Readings,
     masks: &ChaMasks,
-    tags: &[Tag],
+    copies: &[[u8; 52]],
     tick: u32,
 ) -> Result<Vec<Result<Vec<Frame>, AllocError>>, AllocError>
     requires presence { book.now.presence ≡ presence_of readings.now }
     requires masks { plan_of masks.now ≡ readings.now.plan }
-    requires heard { AreHeard (run_shape readings.now) (clock_of readings.now.plan) (past book.now) tick tags.now }
+    requires spelled { All IsSpelling copies.now }
+    requires heard { AreHeard (run_shape readings.now) (clock_of readings.now.plan) (past book.now) tick (tags_of (frames_in copies.now)) }
+    requires sets { All (HasSet (run_shape readings.now) (past book.now)) (frames_in copies.now) }
     requires meters { AreMeters book.now tick meters.old }
     ensures meters { OnOk result (AreMeters book.now (tick + 1) meters.new) }
-    ensures heard { OnOk result (HaveHeard book.now meters.new tags.now) }
-    ensures frames { IfOk result (λ groups. AllZip (λ g frames. IfOk frames (λ f. f.items ≡ frames_due (run_shape readings.now) (clock_of readings.now.plan) (reading readings.now.table) (words_of masks.now) (past book.now) tags.now tick g))
+    ensures heard { OnOk result (HaveHeard meters.new (frames_in copies.now)) }
+    ensures frames { IfOk result (λ groups. AllZip (λ g frames. IfOk frames (λ f. f.items ≡ frames_due (run_shape readings.now) (clock_of readings.now.plan) (reading readings.now.table) (words_of masks.now) (past book.now) (tags_of (frames_in copies.now)) tick g))
         (range_with_len 0 (length readings.now.plan.groups)) groups.items) }
 {
     meters.read(book, tick);
-    let answered = meters.answered(alloc, book, tags)?;
-    tick_frames(rt, alloc, book, readings, masks, &answered, tick)
+    let came = came_in(alloc, copies)?;
+    let answered = meters.answered(alloc, &came)?;
+    let sent = all_groups(rt, alloc, readings, masks, &answered, tick)?;
+    with_announcements(alloc, book, &sent, tick)
 }
 
 /// Sends all that is due at a tick, once its copies are taken and its rounds are closed.
@@ -63,11 +70,11 @@ fn send_tick(
     rack: &mut Rack,
     readings: &Readings,
     masks: &ChaMasks,
-    tags: &[Tag],
+    copies: &[[u8; 52]],
     tick: u32,
 ) -> Result<(), AllocError>
     requires running { IsRunning readings.now (words_of masks.now) (closed tick) run.old.book run.old.transcript run.old.link }
-    requires tags { AreCopiesDue tick run.old.transcript.entries tags.now }
+    requires came { HaveCome tick run.old.transcript.entries copies.now }
     requires meters { AreMeters run.old.book tick meters.old }
     requires masks { plan_of masks.now ≡ readings.now.plan }
     requires tick { tick < 2 ^ 31 }
@@ -78,7 +85,7 @@ fn send_tick(
         OnOk result (KeepsFates hung tick run.new.transcript.entries (slots (λ b. meaning (b.vtable, b.value)) rack.new) (posts_of rack.new)) }
     ensures room { HasRoom (λ b. meaning (b.vtable, b.value)) rack.new }
 {
-    let groups = frames_at(rt, alloc, &run.book, meters, readings, masks, tags, tick)?;
+    let groups = frames_at(rt, alloc, &run.book, meters, readings, masks, copies, tick)?;
     for frames in &groups {
         match frames {
             Ok(frames) => send_all(tick, frames, run, rack)?,
@@ -116,11 +123,11 @@ pub(crate) fn run_tick<R: Threads + Wait + Sync, G: Gate>(
 {
     rack.retire(tick);
     let mut run = run;
-    let tags = run.link.due(tick)?;
-    let run = take_copies(rt, alloc, run, &tags, tick, workers, gate)?;
+    let copies = run.link.due(tick)?;
+    let run = take_copies(rt, alloc, run, &copies, tick, workers, gate)?;
     let mut run = close_rounds(rt, alloc, run, tick, workers, gate)?;
     send_tick(
-        rt, alloc, &mut run, meters, rack, readings, masks, &tags, tick,
+        rt, alloc, &mut run, meters, rack, readings, masks, &copies, tick,
     )?;
     Ok(run)
 }

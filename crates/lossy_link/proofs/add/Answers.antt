@@ -15,4 +15,4 @@ returns-in-Some-clause-ends c =
 
 pub returns-clause-ends : goal.returns-clause-ends
 returns-clause-ends c =
-    added_first c.args.tick c.args.waiting.now.entries c.get_mut.follows.lender-at-none.entries c.insert.new.self.entries c.push-2.new.self c.new-tags.result.items c.args.tag c.in_default.ensures.ordered c.in_default.ensures.value (ap (λ m. m.entries) c.get_mut.follows.holds-at-none) c.in_ok-insert.ensures.entries c.in_ok-push-2.ensures.items c.new-tags.ensures.items
+    added_first c.args.tick c.args.waiting.now.entries c.get_mut.follows.lender-at-none.entries c.insert.new.self.entries c.push-2.new.self c.new-copies.result.items c.args.bytes c.in_default.ensures.ordered c.in_default.ensures.value (ap (λ m. m.entries) c.get_mut.follows.holds-at-none) c.in_ok-insert.ensures.entries c.in_ok-push-2.ensures.items c.new-copies.ensures.items

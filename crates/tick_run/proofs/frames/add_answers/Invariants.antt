@@ -1,10 +1,10 @@
 use Rattle.std.proofs.Common.{◌≡◌, ◌++◌, map, filter}
 use Rattle.missing_round.specs.Sets.{is_member}
 use Rattle.mask_stream.specs.ChaMaskTables.{words_of}
-use Rattle.tick_run.specs.TickFrames.{answer_frame}
+use Rattle.tick_run.specs.TickFrames.{answer_to}
 use Rattle.tick_run.proofs.frames.add_answers.Given as goal
 
 abbrev pub invariant-loop-meter : goal.invariant-loop-meter
 invariant-loop-meter l =
-    l.frames.items ++ map (answer_frame (words_of l.masks) l.group l.round l.missing) (filter (λ i. is_member i l.heard) l.meter-iterator)
-    ≡ l.fn.frames.items ++ map (answer_frame (words_of l.masks) l.group l.round l.missing) (filter (λ i. is_member i l.heard) l.members)
+    l.frames.items ++ map (answer_to (words_of l.masks) l.came l.group l.round) (filter (λ i. is_member i l.heard) l.meter-iterator)
+    ≡ l.fn.frames.items ++ map (answer_to (words_of l.masks) l.came l.group l.round) (filter (λ i. is_member i l.heard) l.members)

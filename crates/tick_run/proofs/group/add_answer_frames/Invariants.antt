@@ -2,8 +2,7 @@ use Rattle.std.proofs.Common.{◌≡◌, ◌++◌, ◌-◌, ◌≤◌, ℕ, List
 use Rattle.std.specs.List.{flat_map, range_with_len}
 use Rattle.meter_frames.specs.declared.Frame.{Frame}
 use Rattle.mask_stream.specs.ChaMaskTables.{words_of}
-use Rattle.group_book.specs.Books.{shape_of, past}
-use Rattle.tick_run.specs.TickFrames.{answers_in}
+use Rattle.tick_run.specs.TickFrames.{answers_to}
 use Rattle.tick_run.proofs.group.add_answer_frames.Given as goal
 
 -- the answers of the rounds so far
@@ -14,4 +13,4 @@ pub record Answered (F : ℕ → List Frame) (first until round : ℕ) (before n
 
 abbrev pub invariant-loop-round : goal.invariant-loop-round
 invariant-loop-round l =
-    Answered (answers_in (shape_of l.book) (words_of l.masks) (past l.book) l.own.items l.group) l.first l.until l.round l.fn.frames.items l.frames.items
+    Answered (answers_to l.readings.plan.groups (words_of l.masks) l.own.items l.group) l.first l.until l.round l.fn.frames.items l.frames.items

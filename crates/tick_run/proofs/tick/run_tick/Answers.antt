@@ -1,9 +1,7 @@
-use Rattle.std.proofs.Common.{◌≡◌, sym, subst, ◌∙◌, List, arith}
-use Rattle.group_plan.specs.declared.Tag.{Tag}
+use Rattle.std.proofs.Common.{sym, subst, ◌∙◌, List, ℕ, arith}
 use Rattle.mask_stream.specs.ChaMaskTables.{words_of}
-use Rattle.lossy_link.specs.Arrivals.{Arrival, due_at, due_elsewhere}
-use Rattle.tick_run.specs.Running.{emptied, taken, IsRunning, AreCopiesDue}
-use Rattle.tick_run.proofs.StateLemmas.{empties, copies-due}
+use Rattle.tick_run.specs.Running.{emptied, taken, HaveCome}
+use Rattle.tick_run.proofs.StateLemmas.{emptied-of}
 use Rattle.tick_run.proofs.TakeLemmas.{all-taken}
 use Rattle.tick_run.proofs.SendingLemmas.{keeps-retired, kept-next}
 use Rattle.tick_run.proofs.BatchedLemmas.{takes-batched, closes-batched, takes-fates, closes-fates, last-running}
@@ -17,26 +15,20 @@ take_copies-requires-clause-later g c κs within =
     let t = c.args.tick in
     let book = c.args.run.book in
     let script = c.args.run.transcript in
-    let found = c.in_ok-tags.ensures in
-    let link : c.due.new.self ≡ due_elsewhere t c.args.run.link = found.1 in
-    let tags : c.deref.result.now ≡ due_at t c.args.run.link = c.deref.ensures.value ∙ found.0 in
-    let is : IsRunning readings m (emptied t) book script c.due.new.self = subst (λ (l : List Arrival). IsRunning readings m (emptied t) book script l) (sym link) (empties readings m t book script c.args.run.link c.requires.running) in
-    let due : AreCopiesDue t script.entries c.deref.result.now = subst (λ (l : List Tag). AreCopiesDue t script.entries l) (sym tags) (copies-due readings m t book script c.args.run.link c.requires.running) in
-    last-running readings m (emptied t) t book script c.due.new.self is (omega arith)
+    let found = c.in_ok-copies.ensures in
+    let out = emptied-of readings m t book script c.args.run.link c.due.new.self c.deref.result.now c.requires.running found.1 (c.deref.ensures.value ∙ found.0) in
+    last-running readings m (emptied t) t book script c.due.new.self out.0 (omega arith)
 
-pub take_copies-requires-clause-tags : goal.take_copies-requires-clause-tags
-take_copies-requires-clause-tags g c κs within =
+pub take_copies-requires-clause-copies : goal.take_copies-requires-clause-copies
+take_copies-requires-clause-copies g c κs within =
     let readings = c.args.readings.now in
     let m = words_of c.args.masks.now in
     let t = c.args.tick in
     let book = c.args.run.book in
     let script = c.args.run.transcript in
-    let found = c.in_ok-tags.ensures in
-    let link : c.due.new.self ≡ due_elsewhere t c.args.run.link = found.1 in
-    let tags : c.deref.result.now ≡ due_at t c.args.run.link = c.deref.ensures.value ∙ found.0 in
-    let is : IsRunning readings m (emptied t) book script c.due.new.self = subst (λ (l : List Arrival). IsRunning readings m (emptied t) book script l) (sym link) (empties readings m t book script c.args.run.link c.requires.running) in
-    let due : AreCopiesDue t script.entries c.deref.result.now = subst (λ (l : List Tag). AreCopiesDue t script.entries l) (sym tags) (copies-due readings m t book script c.args.run.link c.requires.running) in
-    all-taken readings m (emptied t) t book script c.due.new.self c.deref.result.now is due
+    let found = c.in_ok-copies.ensures in
+    let out = emptied-of readings m t book script c.args.run.link c.due.new.self c.deref.result.now c.requires.running found.1 (c.deref.ensures.value ∙ found.0) in
+    all-taken readings m (emptied t) t book script c.due.new.self c.deref.result.now out.0 out.1
 
 pub close_rounds-requires-clause-later : goal.close_rounds-requires-clause-later
 close_rounds-requires-clause-later g c κs within =
@@ -45,13 +37,10 @@ close_rounds-requires-clause-later g c κs within =
     let t = c.args.tick in
     let book = c.args.run.book in
     let script = c.args.run.transcript in
-    let found = c.in_ok-tags.ensures in
-    let link : c.due.new.self ≡ due_elsewhere t c.args.run.link = found.1 in
-    let tags : c.deref.result.now ≡ due_at t c.args.run.link = c.deref.ensures.value ∙ found.0 in
-    let is : IsRunning readings m (emptied t) book script c.due.new.self = subst (λ (l : List Arrival). IsRunning readings m (emptied t) book script l) (sym link) (empties readings m t book script c.args.run.link c.requires.running) in
-    let due : AreCopiesDue t script.entries c.deref.result.now = subst (λ (l : List Tag). AreCopiesDue t script.entries l) (sym tags) (copies-due readings m t book script c.args.run.link c.requires.running) in
+    let found = c.in_ok-copies.ensures in
+    let out = emptied-of readings m t book script c.args.run.link c.due.new.self c.deref.result.now c.requires.running found.1 (c.deref.ensures.value ∙ found.0) in
     let one = c.in_ok-run.run' in
-    let took = takes-batched readings m t book one.book script one.transcript c.due.new.self one.link c.deref.result.now is due c.in_ok-run.ensures in
+    let took = takes-batched readings m t book one.book script one.transcript c.due.new.self one.link c.deref.result.now out.0 out.1 c.in_ok-run.ensures in
     last-running readings m (taken t) t one.book one.transcript one.link took.0 (omega arith)
 
 pub send_tick-requires-clause-running : goal.send_tick-requires-clause-running
@@ -61,34 +50,28 @@ send_tick-requires-clause-running g c κs within =
     let t = c.args.tick in
     let book = c.args.run.book in
     let script = c.args.run.transcript in
-    let found = c.in_ok-tags.ensures in
-    let link : c.due.new.self ≡ due_elsewhere t c.args.run.link = found.1 in
-    let tags : c.deref.result.now ≡ due_at t c.args.run.link = c.deref.ensures.value ∙ found.0 in
-    let is : IsRunning readings m (emptied t) book script c.due.new.self = subst (λ (l : List Arrival). IsRunning readings m (emptied t) book script l) (sym link) (empties readings m t book script c.args.run.link c.requires.running) in
-    let due : AreCopiesDue t script.entries c.deref.result.now = subst (λ (l : List Tag). AreCopiesDue t script.entries l) (sym tags) (copies-due readings m t book script c.args.run.link c.requires.running) in
+    let found = c.in_ok-copies.ensures in
+    let out = emptied-of readings m t book script c.args.run.link c.due.new.self c.deref.result.now c.requires.running found.1 (c.deref.ensures.value ∙ found.0) in
     let one = c.in_ok-run.run' in
-    let took = takes-batched readings m t book one.book script one.transcript c.due.new.self one.link c.deref.result.now is due c.in_ok-run.ensures in
+    let took = takes-batched readings m t book one.book script one.transcript c.due.new.self one.link c.deref.result.now out.0 out.1 c.in_ok-run.ensures in
     let two = c.in_ok-run-2.run' in
     let ended = closes-batched readings m t one.book two.book one.transcript two.transcript one.link two.link c.deref.result.now took.0 took.1 c.in_ok-run-2.ensures in
     ended.0
 
-pub send_tick-requires-clause-tags : goal.send_tick-requires-clause-tags
-send_tick-requires-clause-tags g c κs within =
+pub send_tick-requires-clause-came : goal.send_tick-requires-clause-came
+send_tick-requires-clause-came g c κs within =
     let readings = c.args.readings.now in
     let m = words_of c.args.masks.now in
     let t = c.args.tick in
     let book = c.args.run.book in
     let script = c.args.run.transcript in
-    let found = c.in_ok-tags.ensures in
-    let link : c.due.new.self ≡ due_elsewhere t c.args.run.link = found.1 in
-    let tags : c.deref.result.now ≡ due_at t c.args.run.link = c.deref.ensures.value ∙ found.0 in
-    let is : IsRunning readings m (emptied t) book script c.due.new.self = subst (λ (l : List Arrival). IsRunning readings m (emptied t) book script l) (sym link) (empties readings m t book script c.args.run.link c.requires.running) in
-    let due : AreCopiesDue t script.entries c.deref.result.now = subst (λ (l : List Tag). AreCopiesDue t script.entries l) (sym tags) (copies-due readings m t book script c.args.run.link c.requires.running) in
+    let found = c.in_ok-copies.ensures in
+    let out = emptied-of readings m t book script c.args.run.link c.due.new.self c.deref.result.now c.requires.running found.1 (c.deref.ensures.value ∙ found.0) in
     let one = c.in_ok-run.run' in
-    let took = takes-batched readings m t book one.book script one.transcript c.due.new.self one.link c.deref.result.now is due c.in_ok-run.ensures in
+    let took = takes-batched readings m t book one.book script one.transcript c.due.new.self one.link c.deref.result.now out.0 out.1 c.in_ok-run.ensures in
     let two = c.in_ok-run-2.run' in
     let ended = closes-batched readings m t one.book two.book one.transcript two.transcript one.link two.link c.deref.result.now took.0 took.1 c.in_ok-run-2.ensures in
-    subst (λ (l : List Tag). AreCopiesDue t two.transcript.entries l) (c.deref.ensures.value ∙ sym c.deref-2.ensures.value) ended.1
+    subst (λ (l : List (List ℕ)). HaveCome t two.transcript.entries l) (c.deref.ensures.value ∙ sym c.deref-2.ensures.value) ended.1
 
 pub send_tick-requires-clause-meters : goal.send_tick-requires-clause-meters
 send_tick-requires-clause-meters g c κs within =
@@ -101,20 +84,12 @@ send_tick-requires-clause-meters g c κs within =
 
 pub returns-clause-fates : goal.returns-clause-fates
 returns-clause-fates g c = λ hung kept.
-    let readings = c.args.readings.now in
-    let m = words_of c.args.masks.now in
     let t = c.args.tick in
     let book = c.args.run.book in
     let script = c.args.run.transcript in
-    let found = c.in_ok-tags.ensures in
-    let link : c.due.new.self ≡ due_elsewhere t c.args.run.link = found.1 in
-    let tags : c.deref.result.now ≡ due_at t c.args.run.link = c.deref.ensures.value ∙ found.0 in
-    let is : IsRunning readings m (emptied t) book script c.due.new.self = subst (λ (l : List Arrival). IsRunning readings m (emptied t) book script l) (sym link) (empties readings m t book script c.args.run.link c.requires.running) in
-    let due : AreCopiesDue t script.entries c.deref.result.now = subst (λ (l : List Tag). AreCopiesDue t script.entries l) (sym tags) (copies-due readings m t book script c.args.run.link c.requires.running) in
     let one = c.in_ok-run.run' in
-    let took = takes-batched readings m t book one.book script one.transcript c.due.new.self one.link c.deref.result.now is due c.in_ok-run.ensures in
     let two = c.in_ok-run-2.run' in
     let retired = keeps-retired hung t script.entries _ _ _ _ kept c.retire.ensures.lanes c.retire.ensures.posts in
-    let after_takes = takes-fates hung t book one.book script one.transcript c.due.new.self one.link c.deref.result.now _ _ c.in_ok-run.ensures retired in
+    let after_takes = takes-fates hung t book one.book script one.transcript c.due.new.self one.link _ _ _ c.in_ok-run.ensures retired in
     let after_calls = closes-fates hung _ _ t one.book two.book one.transcript two.transcript one.link two.link _ _ c.in_ok-run-2.ensures after_takes in
     kept-next hung t c.send_tick.new.run.transcript.entries _ _ (c.in_ok-send_tick.ensures.fates hung after_calls)

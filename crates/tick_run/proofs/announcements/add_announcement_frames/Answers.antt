@@ -5,7 +5,7 @@ use Rattle.group_book.specs.Books.{shape_of, past}
 use Rattle.transcript_log.specs.Schedule.{missing, is_announced}
 use Rattle.tick_run.specs.TickFrames.{announcement_frame}
 use Rattle.tick_run.proofs.GroupLemmas.{announcements-none, announcements-thin, announcements-one}
-use Rattle.tick_run.proofs.group.add_announcement_frames.Goals as goal
+use Rattle.tick_run.proofs.announcements.add_announcement_frames.Goals as goal
 
 pub returns-in_default : goal.returns-in_default
 returns-in_default c =

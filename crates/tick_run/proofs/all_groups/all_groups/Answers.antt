@@ -1,13 +1,6 @@
-use Rattle.std.proofs.Common.{◌≡◌, ℕ, ◌≤◌, ◌-◌, ◌∙◌, length, map, ap, arith, sym, List, subst, Result, Vec, IfOk}
-use Rattle.std.specs.declared.alloc.Global.{Global}
+use Rattle.std.proofs.Common.{◌≡◌, ℕ, ◌≤◌, ◌-◌, ◌∙◌, length, map, ap, arith, sym, List, subst, Result, IfOk}
 use Rattle.std.specs.declared.alloc.AllocError.{AllocError}
 use Rattle.group_plan.specs.Plans.{IsWithinLimits}
-use Rattle.group_plan.specs.Tables.{reading}
-use Rattle.meter_frames.specs.declared.Frame.{Frame}
-use Rattle.group_book.specs.Books.{past}
-use Rattle.run_rows.specs.Ticks.{clock_of}
-use Rattle.tick_run.specs.Running.{run_shape}
-use Rattle.tick_run.specs.TickFrames.{frames_due}
 use Rattle.std.specs.List.{range_with_len, AllZip}
 use Rattle.std.proofs.lemmas.List.{length-map}
 use Rattle.group_plan.specs.NewPlans.{stated}
@@ -15,8 +8,9 @@ use Rattle.mask_stream.specs.ChaMaskTables.{plan_of, words_of}
 use Rattle.rayon.specs.Numbers.{nat_range}
 use Rattle.rayon.proofs.ListFacts.{IfOk-then}
 use Rattle.rayon.proofs.ToStd.{nat_range-All}
-use Rattle.tick_run.specs.Jobs.{CanSend}
-use Rattle.tick_run.proofs.words.tick_frames.Goals as goal
+use Rattle.tick_run.specs.Jobs.{CanSend, AreGroupFrames}
+use Rattle.tick_run.specs.declared.group.GroupFrames.{GroupFrames}
+use Rattle.tick_run.proofs.all_groups.all_groups.Goals as goal
 
 pub collect-requires-clause-ready : goal.collect-requires-clause-ready
 collect-requires-clause-ready g c κs within =
@@ -25,13 +19,12 @@ collect-requires-clause-ready g c κs within =
     let n : length c.groups-groups.result.now ≡ length readings.plan.groups = ap length (c.groups-groups.ensures.groups ∙ ap (λ p. map stated p.groups) c.plan.ensures.plan) ∙ length-map (readings.plan.groups) stated in
     let limits : IsWithinLimits readings.plan = subst IsWithinLimits c.plan.ensures.plan c.groups-groups.ensures.limits in
     let most : length readings.plan.groups ≤ 256 = limits.groups in
-    let inside = nat_range-All (λ i. CanSend readings c.args.book.now (plan_of c.args.masks.now) c.args.tags.now c.args.tick i) 0 (length c.groups-groups.result.now)
+    let inside = nat_range-All (λ i. CanSend readings (plan_of c.args.masks.now) c.args.came.now c.args.tick i) 0 (length c.groups-groups.result.now)
     (λ i low high. record {
-      presence = c.requires.presence;
       masks = c.requires.masks;
       group = omega arith;
       few = omega arith;
-      heard = c.requires.heard;
+      can = c.requires.came;
     }) in
     rw (c.map.ensures.base, c.with_min_len.ensures.base, c.map.ensures.f, ends.0, ends.1) (λ k d lt. (inside k d lt, λ y p. tt))
 
@@ -47,6 +40,6 @@ returns g c =
     IfOk-then c.collect.result _ _ c.collect.ensures (λ v h.
     let chain = rw (c.map.ensures.base, c.map.ensures.f) at h.1 in
     let places = chain.1 ∙ (λ i. nat_range (start i) (end i)) ∙ ap (range_with_len 0) (whole ∙ n) in
-    let P : ℕ → Result (Vec Frame Global) AllocError → Type 0
-    = λ k frames. IfOk frames (λ f. f.items ≡ frames_due (run_shape readings) (clock_of readings.plan) (reading readings.table) (words_of c.args.masks.now) (past c.args.book.now) c.args.tags.now c.args.tick k) in
-    subst (λ (xs : List ℕ). AllZip P xs v.items) places (subst (λ (ys : List (Result (Vec Frame Global) AllocError)). AllZip P chain.0 ys) (sym h.2) chain.2))
+    let P : ℕ → Result GroupFrames AllocError → Type 0
+    = λ k sent. IfOk sent (AreGroupFrames readings (words_of c.args.masks.now) c.args.came.now c.args.tick k) in
+    subst (λ (xs : List ℕ). AllZip P xs v.items) places (subst (λ (ys : List (Result GroupFrames AllocError)). AllZip P chain.0 ys) (sym h.2) chain.2))
