@@ -117,7 +117,7 @@ meet false b true e = refl
 meet false b false e = refl
 
 -- an announcement of the round has one meter
-same_at : (g r i : ℕ) (tag : Tag) → same_tag (tag_of Announcement g r i) tag ≡ ((tag.meter == i) && is_announcement_in g r tag)
+pub same_at : (g r i : ℕ) (tag : Tag) → same_tag (tag_of Announcement g r i) tag ≡ ((tag.meter == i) && is_announcement_in g r tag)
 same_at g r i tag = meet (tag.group == g) (tag.round == r) (tag.meter == i) (same_kind tag.kind Announcement)
 
 -- one more announcement of the round

@@ -15,6 +15,7 @@ pub mod StateLemmas
 pub mod ShapeLemmas
 pub mod PostedLemmas
 pub mod GroupLemmas
+pub mod HearerLemmas
 pub mod CameLemmas
 pub mod SendingLemmas
 pub mod SendingLoop

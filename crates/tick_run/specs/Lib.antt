@@ -7,3 +7,4 @@ pub mod Jobs
 pub mod Sending
 pub mod Batches
 pub mod Meters
+pub mod Hearers

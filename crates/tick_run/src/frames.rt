@@ -1,10 +1,12 @@
 //! The frames that the meters of a group send in a round.
 
-ghost use Rattle.std.specs.Prelude.{◌≡◌, ◌++◌, ◌<◌, map, filter, false, true, is_some, OnOk, IfOk, IsTrue, length, nat_lt, None, slice_index_or};
+ghost use Rattle.std.specs.Prelude.{◌≡◌, ◌++◌, ◌<◌, map, filter, false, true, is_some, OnOk, IfOk, IsTrue, ℕ, length, nat_lt, None, slice_index, slice_index_or};
 ghost use Rattle.std.specs.List.{list_all, range_with_len};
 ghost use Rattle.group_plan.specs.Plans.{members as members_of, size};
 ghost use Rattle.group_plan.specs.Tables.{reading};
 ghost use Rattle.missing_round.specs.Sets.{is_member};
+ghost use Rattle.missing_round.specs.Words.{answer_word};
+ghost use Rattle.tick_run.specs.Hearers.{AreHearers};
 ghost use Rattle.group_plan.specs.declared.Kind.TheVariants.{Announcement};
 ghost use Rattle.run_rows.specs.Ticks.{tag_of};
 ghost use Rattle.tick_run.specs.OnTheWay.{same_tag};
@@ -12,7 +14,8 @@ ghost use Rattle.blind_core.specs.Blind.{AreGroupWords};
 ghost use Rattle.mask_stream.specs.ChaMaskTables.{plan_of, words_of};
 ghost use Rattle.tick_run.specs.TickFrames.{reading_frame, answer_to, announced_set, CanAnswer, word_frame, IsRow};
 
-use blind_core::{answer, masked_group};
+use crate::group::Hearers;
+use blind_core::{answer, answers, masked_group};
 use group_plan::{Kind, Readings, Tag};
 use mask_stream::ChaMasks;
 use meter_frames::Frame;
@@ -41,33 +44,73 @@ fn announced_to(came: &[Frame], group: u16, round: u32, meter: u8) -> MeterSet
     }
 }
 
+/// The values of the words that the meters answer which heard of the same set, each at its meter's place.
+fn alike_words(masks: &ChaMasks, group: u16, round: u32, hearers: &Hearers) -> [u64; 256]
+    requires can { (i : ℕ) → is_member i hearers.now.alike ≡ true → CanAnswer (plan_of masks.now) group round i hearers.now.missing }
+    ensures { (i : ℕ) → is_member i hearers.now.alike ≡ true → slice_index result i ≡ answer_word ((words_of masks.now).own group round) ((words_of masks.now).pair group round) i hearers.now.missing }
+{
+    if hearers.alike.len() == 0 {
+        return [0; 256];
+    }
+    answers(masks, group, round, &hearers.alike, &hearers.missing)
+}
+
+/// The answer of a meter to the announcement that came to it.
+fn answer_of(
+    masks: &ChaMasks,
+    group: u16,
+    round: u32,
+    meter: u8,
+    hearers: &Hearers,
+    words: &[u64; 256],
+    came: &[Frame],
+) -> Frame
+    requires can { CanAnswer (plan_of masks.now) group round meter (announced_set came.now (tag_of Announcement group round meter)) }
+    requires alike { is_member meter hearers.now.alike ≡ true → announced_set came.now (tag_of Announcement group round meter) ≡ hearers.now.missing }
+    requires words { is_member meter hearers.now.alike ≡ true → slice_index words.now meter ≡ answer_word ((words_of masks.now).own group round) ((words_of masks.now).pair group round) meter hearers.now.missing }
+    ensures { result ≡ answer_to (words_of masks.now) came.now group round meter }
+{
+    let tag = Tag {
+        group,
+        round,
+        meter,
+        kind: Kind::Answer,
+    };
+    if hearers.alike.has(meter) {
+        return Frame {
+            tag,
+            missing: hearers.missing,
+            word: Word(words[meter as usize]),
+        };
+    }
+    let missing = announced_to(came, group, round, meter);
+    Frame {
+        tag,
+        missing,
+        word: answer(masks, group, round, meter, &missing),
+    }
+}
+
 /// Adds the answer of each member that heard, to the announcement that came to it.
 pub(crate) fn add_answers(
     masks: &ChaMasks,
     group: u16,
     round: u32,
     members: &MeterSet,
-    heard: &MeterSet,
+    hearers: &Hearers,
     came: &[Frame],
     frames: &mut Vec<Frame>,
 ) -> Result<(), AllocError>
-    requires heard { (i : _) → is_member i heard.now ≡ true → CanAnswer (plan_of masks.now) group round i (announced_set came.now (tag_of Announcement group round i)) }
-    ensures { OnOk result (frames.new.items ≡ frames.old.items ++ map (answer_to (words_of masks.now) came.now group round) (filter (λ i. is_member i heard.now) members.now)) }
+    requires hearers { AreHearers came.now group round hearers.now }
+    requires can { (i : _) → is_member i hearers.now.meters ≡ true → CanAnswer (plan_of masks.now) group round i (announced_set came.now (tag_of Announcement group round i)) }
+    ensures { OnOk result (frames.new.items ≡ frames.old.items ++ map (answer_to (words_of masks.now) came.now group round) (filter (λ i. is_member i hearers.now.meters) members.now)) }
 {
+    let words = alike_words(masks, group, round, hearers);
     for meter in members.members() {
-        if heard.has(meter) {
-            let tag = Tag {
-                group,
-                round,
-                meter,
-                kind: Kind::Answer,
-            };
-            let missing = announced_to(came, group, round, meter);
-            frames.push(Frame {
-                tag,
-                missing,
-                word: answer(masks, group, round, meter, &missing),
-            })?;
+        if hearers.meters.has(meter) {
+            frames.push(answer_of(
+                masks, group, round, meter, hearers, &words, came,
+            ))?;
         }
     }
     Ok(())

@@ -5,9 +5,10 @@ ghost use Rattle.mask_stream.specs.ChaMaskTables.{plan_of, words_of};
 ghost use Rattle.group_plan.specs.declared.Kind.TheVariants.{Announcement};
 ghost use Rattle.run_rows.specs.Ticks.{tag_of};
 ghost use Rattle.tick_run.specs.OnTheWay.{tags_of};
-ghost use Rattle.tick_run.specs.TickFrames.{was_taken, announced_set, answers_to, CanAnswer, AreAnswerable, IsHeardIn, is_announcement_in, is_announcement_to};
+ghost use Rattle.tick_run.specs.TickFrames.{was_taken, announced_set, answers_to, CanAnswer, AreAnswerable, is_announcement_in, is_announcement_to};
 ghost use Rattle.tick_run.specs.Jobs.{readings_at, answers_at, AreGroupFrames};
-ghost use Rattle.group_plan.specs.declared.Tag.{Tag};
+ghost use Rattle.tick_run.specs.Hearers.{HearsToo, AreHearers};
+ghost use Rattle.meter_frames.specs.declared.Frame.{Frame};
 
 use crate::frames::{add_answers, add_readings};
 use group_plan::{Kind, Readings, Tag};
@@ -31,26 +32,70 @@ fn is_announcement(tag: Tag, group: u16, round: u32) -> bool
     tag.group == group && tag.round == round && tag.kind == Kind::Announcement
 }
 
-/// The meters that heard, with the meter of this tag where it is an announcement of the round.
-fn with_heard(heard: MeterSet, tag: Tag, group: u16, round: u32) -> MeterSet
-    ensures { (tags : List Tag) → IsHeardIn tags group round heard → IsHeardIn (tags ++ tag ∷ []) group round result }
+/// The meters of a round to which an announcement came; some of those to which the same missing set came; and that set.
+#[derive(Clone, Copy)]
+pub(crate) struct Hearers {
+    pub meters: MeterSet,
+    pub alike: MeterSet,
+    pub missing: MeterSet,
+}
+
+/// The meters that heard, with one that now hears of a set.
+fn with_meter(hearers: Hearers, meter: u8, missing: MeterSet) -> Hearers
+    ensures { HearsToo hearers meter missing result }
 {
-    if is_announcement(tag, group, round) {
-        heard.with(tag.meter)
+    let meters = hearers.meters.with(meter);
+    if hearers.meters.has(meter) {
+        Hearers { meters, ..hearers }
+    } else if hearers.alike.len() == 0 {
+        Hearers {
+            meters,
+            alike: MeterSet::empty().with(meter),
+            missing,
+        }
+    } else if missing == hearers.missing {
+        Hearers {
+            meters,
+            alike: hearers.alike.with(meter),
+            missing,
+        }
     } else {
-        heard
+        Hearers { meters, ..hearers }
+    }
+}
+
+/// The meters that heard, with the meter of this frame where it is an announcement of the round.
+fn with_heard(hearers: Hearers, frame: &Frame, group: u16, round: u32) -> Hearers
+    ensures { (came : List Frame) → AreHearers came group round hearers → AreHearers (came ++ frame.now ∷ []) group round result }
+{
+    if is_announcement(frame.tag, group, round) {
+        with_meter(hearers, frame.tag.meter, frame.missing)
+    } else {
+        hearers
+    }
+}
+
+/// No meter has heard.
+fn no_hearers() -> Hearers
+    ensures { result ≡ record { meters = []; alike = []; missing = [] } }
+{
+    let none = MeterSet::empty();
+    Hearers {
+        meters: none,
+        alike: none,
+        missing: none,
     }
 }
 
 /// The meters of a round to which an announcement came.
-fn heard_in(came: &[Frame], group: u16, round: u32) -> MeterSet
-    ensures { IsHeardIn (tags_of came.now) group round result }
+fn hearers_in(came: &[Frame], group: u16, round: u32) -> Hearers
+    ensures { AreHearers came.now group round result }
 {
-    let mut heard = MeterSet::empty();
+    let mut hearers = no_hearers();
     for frame in came {
-        heard = with_heard(heard, frame.tag, group, round);
+        hearers = with_heard(hearers, frame, group, round);
     }
-    heard
+    hearers
 }
 
 /// Adds the readings of the round that starts at the tick.
@@ -108,9 +153,9 @@ fn add_answers_of(
     requires can { (i : _) → was_taken (tags_of came.now) (tag_of Announcement group round i) ≡ true → CanAnswer readings.now.plan group round i (announced_set came.now (tag_of Announcement group round i)) }
     ensures { OnOk result (frames.new.items ≡ frames.old.items ++ answers_to readings.now.plan.groups (words_of masks.now) came.now group round) }
 {
-    let heard = heard_in(came, group, round);
+    let hearers = hearers_in(came, group, round);
     let members = members(readings.plan(), group, round);
-    add_answers(masks, group, round, &members, &heard, came, frames)
+    add_answers(masks, group, round, &members, &hearers, came, frames)
 }
 
 /// Adds the answers to the announcements that came: their rounds closed at most 16 ticks before.

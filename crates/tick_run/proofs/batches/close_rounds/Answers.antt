@@ -1,4 +1,4 @@
-use Rattle.std.proofs.Common.{◌≡◌, ap, sym, subst, ◌∙◌, List, length, refl, arith}
+use Rattle.std.proofs.Common.{ap, sym, subst, ◌∙◌, List, length, refl, arith}
 use Rattle.group_plan.specs.Plans.{PlanView}
 use Rattle.run_rows.specs.Ticks.{clock_of}
 use Rattle.shared_book.specs.declared.parcel.Parcel.{Parcel}

@@ -6,5 +6,5 @@ use Rattle.tick_run.proofs.frames.add_answers.Given as goal
 
 abbrev pub invariant-loop-meter : goal.invariant-loop-meter
 invariant-loop-meter l =
-    l.frames.items ++ map (answer_to (words_of l.masks) l.came l.group l.round) (filter (λ i. is_member i l.heard) l.meter-iterator)
-    ≡ l.fn.frames.items ++ map (answer_to (words_of l.masks) l.came l.group l.round) (filter (λ i. is_member i l.heard) l.members)
+    l.frames.items ++ map (answer_to (words_of l.masks) l.came l.group l.round) (filter (λ i. is_member i l.hearers.meters) l.meter-iterator)
+    ≡ l.fn.frames.items ++ map (answer_to (words_of l.masks) l.came l.group l.round) (filter (λ i. is_member i l.hearers.meters) l.members)

@@ -7,12 +7,10 @@ use Rattle.tick_run.specs.TickFrames.{announced_set, CanAnswer}
 use Rattle.tick_run.proofs.CameLemmas.{answers-heard}
 use Rattle.tick_run.proofs.group.add_answers_of.Goals as goal
 
-pub add_answers-requires : goal.add_answers-requires
-add_answers-requires c = record {
-  heard = λ i is.
-      subst (λ (p : PlanView). CanAnswer p c.args.group c.args.round i (announced_set c.args.came.now (tag_of Announcement c.args.group c.args.round i))) (sym c.requires.masks)
-      (c.requires.can i (sym (c.heard_in-heard.ensures i) ∙ is));
-}
+pub add_answers-requires-clause-can : goal.add_answers-requires-clause-can
+add_answers-requires-clause-can c = λ i is.
+    subst (λ (p : PlanView). CanAnswer p c.args.group c.args.round i (announced_set c.args.came.now (tag_of Announcement c.args.group c.args.round i))) (sym c.requires.masks)
+    (c.requires.can i (sym (c.hearers_in-hearers.ensures.meters i) ∙ is))
 
 pub returns : goal.returns
 returns c =
@@ -20,5 +18,5 @@ returns c =
     let ms : c.members-members.result ≡ members groups c.args.group c.args.round
     = c.members-members.ensures ∙ ap (λ p. members p.groups c.args.group c.args.round) c.plan.ensures.plan in
     subst (λ l. OnOk c.add_answers.result (c.add_answers.new.frames.items ≡ c.args.frames.now.items ++ l))
-    (answers-heard groups (words_of c.args.masks.now) c.args.came.now c.args.group c.args.round c.heard_in-heard.result c.members-members.result c.heard_in-heard.ensures ms)
+    (answers-heard groups (words_of c.args.masks.now) c.args.came.now c.args.group c.args.round c.hearers_in-hearers.result.meters c.members-members.result c.hearers_in-hearers.ensures.meters ms)
     c.add_answers.ensures

@@ -1,9 +1,10 @@
-use Rattle.std.proofs.Common.{ap, ◌∙◌, sym}
-use Rattle.missing_round.specs.Sets.{is_member}
-use Rattle.tick_run.proofs.GroupLemmas.{heard-more}
+use Rattle.std.proofs.Common.{◌∙◌, sym}
+use Rattle.tick_run.proofs.HearerLemmas.{hearers-more, hearers-same}
 use Rattle.tick_run.proofs.group.with_heard.Goals as goal
 
 pub returns-then-is_announcement : goal.returns-then-is_announcement
-returns-then-is_announcement c = λ tags is i.
-    ap (is_member i) c.with.ensures
-    ∙ heard-more c.args.group c.args.round c.args.heard c.args.tag (sym c.is_announcement.ensures ∙ c.if-is_announcement.true) tags is i
+returns-then-is_announcement c = λ came are.
+    hearers-more c.args.group c.args.round c.args.hearers c.with_meter.result c.args.frame.now (sym c.is_announcement.ensures ∙ c.if-is_announcement.true) c.with_meter.ensures came are
+
+pub returns-else-is_announcement : goal.returns-else-is_announcement
+returns-else-is_announcement c = hearers-same c.args.group c.args.round c.args.hearers c.args.frame.now (sym c.is_announcement.ensures ∙ c.if-is_announcement.false)
