@@ -4,7 +4,7 @@ use Rattle.std.specs.Prelude.{◌≡◌, ℕ, ◌<◌, nat_lt, ◌&&◌, Bool, t
 use Rattle.std.specs.declared.alloc.Global.{Global}
 use Rattle.std.specs.List.{AllZip, range_with_len}
 use Rattle.group_plan.specs.Plans.{size}
-use Rattle.group_plan.specs.Tables.{IsPresenceTable}
+use Rattle.group_plan.specs.Tables.{ReadingsView, IsPresenceTable, presence_of}
 use Rattle.group_plan.specs.declared.Kind.TheVariants.{Announcement}
 use Rattle.group_plan.specs.declared.Tag.{Tag}
 use Rattle.meter_core.specs.Meters.{MeterView, note_at, kept_set}
@@ -14,6 +14,10 @@ use Rattle.transcript_log.specs.declared.Event.{Event}
 use Rattle.transcript_log.specs.Events.{same_kind}
 use Rattle.transcript_log.specs.Schedule.{Shape, members_of, floor_of, missing, is_announcement_taken}
 use Rattle.group_book.specs.Books.{BookView, shape_of, past}
+use Rattle.run_rows.specs.Ticks.{clock_of}
+use Rattle.tick_run.specs.OnTheWay.{tags_of}
+use Rattle.tick_run.specs.Running.{run_shape}
+use Rattle.tick_run.specs.TickFrames.{AreHeard}
 use Rattle.tick_run.specs.declared.meters.Meters.{Meters}
 
 -- a meter that is marked read is so over the members of the round
@@ -50,6 +54,20 @@ IsGroup b t g meters = AreOfGroup b t g meters.items
 pub record AreMeters (b : BookView) (t : ℕ) (m : Meters) : Type 0 where
   pub table : IsPresenceTable b.presence.plan b.presence.table
   pub groups : AllZip (IsGroup b t) (range_with_len 0 (length b.presence.plan.groups)) m.groups.items
+
+-- a book, as one of these readings
+abbrev pub book_of : ReadingsView → BookView → BookView
+book_of readings b = record b { presence = presence_of readings }
+
+-- by some book of these readings the meters have read the rounds below t
+pub record CanRead (readings : ReadingsView) (t : ℕ) (m : Meters) : Type 0 where
+  pub book : BookView
+  pub meters : AreMeters (book_of readings book) t m
+
+-- so have those of group g
+pub record CanReadGroup (readings : ReadingsView) (t g : ℕ) (meters : List MeterView) : Type 0 where
+  pub book : BookView
+  pub are : AreOfGroup (book_of readings book) t g meters
 
 -- ---- hearing
 
@@ -94,6 +112,13 @@ pub record CanHearAll (m : Meters) (came : List Frame) : Type 0 where
   pub until : ℕ
   pub meters : AreMeters book until m
   pub told : AreTold book until came
+
+-- by some book of these readings the meters have read the rounds below t, and each announcement that came is heard with the missing set
+pub record CanHearNow (readings : ReadingsView) (t : ℕ) (m : Meters) (came : List Frame) : Type 0 where
+  pub book : BookView
+  pub meters : AreMeters (book_of readings book) t m
+  pub heard : AreHeard (run_shape readings) (clock_of readings.plan) (past book) t (tags_of came)
+  pub sets : All (HasSet (run_shape readings) (past book)) came
 
 -- the meter to which the announcement came keeps its set
 abbrev pub HasKept : Meters → Frame → Type 0

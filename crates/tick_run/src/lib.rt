@@ -6,6 +6,7 @@ mod announcements;
 mod batches;
 mod frames;
 mod group;
+mod meter_side;
 mod meters;
 mod run;
 mod running;

@@ -1,14 +1,14 @@
 //! The meters of a run: each reads its rounds, and answers at most one missing set in each.
 
-ghost use Rattle.std.specs.Prelude.{◌≡◌, ◌+◌, ◌<◌, ◌≤◌, ◌++◌, ◌∷◌, [], ℕ, true, All, IfOk, OnOk, length};
-ghost use Rattle.group_plan.specs.Plans.{floor_of};
+ghost use Rattle.std.specs.Prelude.{◌≡◌, ◌+◌, ◌<◌, ◌≤◌, ◌++◌, ◌∷◌, [], ℕ, true, All, IfOk, OnOk, IsTrue, is_some, length};
+ghost use Rattle.group_plan.specs.Plans.{floor_of, is_place, is_member};
+ghost use Rattle.group_plan.specs.Tables.{reading};
 ghost use Rattle.group_book.specs.Books.{BookView};
 ghost use Rattle.meter_frames.specs.declared.Frame.{Frame};
 ghost use Rattle.tick_run.specs.OnTheWay.{frame_in, frames_in, IsSpelling};
-ghost use Rattle.tick_run.specs.Meters.{AreOfGroup, AreMeters, is_answer, is_announcement, announcements, IsTold, AreTold, CanHear, CanHearAll, HasKept, HaveHeard};
+ghost use Rattle.tick_run.specs.Meters.{AreOfGroup, AreMeters, book_of, CanRead, CanReadGroup, is_answer, is_announcement, announcements, IsTold, AreTold, CanHear, CanHearAll, HasKept, HaveHeard};
 
-use group_book::Book;
-use group_plan::{Kind, Plan, Tag};
+use group_plan::{Kind, Plan, Readings, Tag};
 use meter_core::{Heard, Meter};
 use meter_frames::{Frame, decode};
 use std::alloc::{AllocError, Global};
@@ -31,11 +31,11 @@ fn floor_of(plan: &Plan, group: u16) -> u16
 }
 
 /// The meters of a group, before they read or hear anything.
-fn new_group(alloc: Global, book: &Book, group: u16) -> Result<Vec<Meter>, AllocError>
-    requires { group < length book.now.presence.plan.groups }
-    ensures { IfOk result (λ meters. AreOfGroup book.now 0 group meters.items) }
+fn new_group(alloc: Global, readings: &Readings, group: u16) -> Result<Vec<Meter>, AllocError>
+    requires { group < length readings.now.plan.groups }
+    ensures { IfOk result (λ meters. (b : BookView) → AreOfGroup (book_of readings.now b) 0 group meters.items) }
 {
-    let plan = book.plan();
+    let plan = readings.plan();
     let floor = floor_of(plan, group);
     let rounds = plan.rounds();
     let mut meters = Vec::new(alloc);
@@ -45,16 +45,25 @@ fn new_group(alloc: Global, book: &Book, group: u16) -> Result<Vec<Meter>, Alloc
     Ok(meters)
 }
 
-/// Marks the round as read by each meter of the group that has a reading in it.
-fn read_group(meters: &mut [Meter], book: &Book, group: u16, round: u32)
-    requires group { group < length book.now.presence.plan.groups }
-    requires round { round < book.now.presence.plan.rounds }
-    requires meters { AreOfGroup book.now round group meters.old }
-    ensures { AreOfGroup book.now (round + 1) group meters.new }
+/// Whether a meter has a reading in a round.
+fn has_reading(readings: &Readings, group: u16, round: u32, meter: u8) -> bool
+    requires { IsTrue (is_place readings.now.plan group round meter) }
+    ensures present { result ≡ is_some (reading readings.now.table group round meter) }
+    ensures member { IsTrue result → IsTrue (is_member readings.now.plan.groups group round meter) }
 {
-    let members = members(book.plan(), group, round);
-    for meter in 0..book.plan().meters(group) {
-        if book.presence().has(group, round, meter as u8) {
+    readings.get(group, round, meter).is_some()
+}
+
+/// Marks the round as read by each meter of the group that has a reading in it.
+fn read_group(meters: &mut [Meter], readings: &Readings, group: u16, round: u32)
+    requires group { group < length readings.now.plan.groups }
+    requires round { round < readings.now.plan.rounds }
+    requires meters { CanReadGroup readings.now round group meters.old }
+    ensures { (b : BookView) → AreOfGroup (book_of readings.now b) round group meters.old → AreOfGroup (book_of readings.now b) (round + 1) group meters.new }
+{
+    let members = members(readings.plan(), group, round);
+    for meter in 0..readings.plan().meters(group) {
+        if has_reading(readings, group, round, meter as u8) {
             meters[meter as usize].mark_read(round, &members);
         }
     }
@@ -78,27 +87,27 @@ fn is_answer(heard: Heard) -> bool
 }
 
 impl Meters {
-    /// The meters of the book's plan, before they read or hear anything.
-    pub(crate) fn new(alloc: Global, book: &Book) -> Result<Meters, AllocError>
-        ensures { IfOk result (λ meters. AreMeters book.now 0 meters) }
+    /// The meters with these readings, before they read or hear anything.
+    pub(crate) fn new(alloc: Global, readings: &Readings) -> Result<Meters, AllocError>
+        ensures { IfOk result (λ meters. (b : BookView) → AreMeters (book_of readings.now b) 0 meters) }
     {
         let mut groups = Vec::new(alloc);
-        for group in 0..book.presence().plan().groups().len() {
-            groups.push(new_group(alloc, book, group as u16)?)?;
+        for group in 0..readings.plan().groups().len() {
+            groups.push(new_group(alloc, readings, group as u16)?)?;
         }
         Ok(Meters { groups })
     }
 
     /// Marks the round that starts at the tick as read by each meter that has a reading in it.
-    pub(crate) fn read(&mut self, book: &Book, tick: u32)
-        requires { AreMeters book.now tick self.old }
-        ensures { AreMeters book.now (tick + 1) self.new }
+    pub(crate) fn read(&mut self, readings: &Readings, tick: u32)
+        requires { CanRead readings.now tick self.old }
+        ensures { (b : BookView) → AreMeters (book_of readings.now b) tick self.old → AreMeters (book_of readings.now b) (tick + 1) self.new }
     {
-        if tick >= book.plan().rounds() {
+        if tick >= readings.plan().rounds() {
             return;
         }
         for group in 0..self.groups.len() {
-            read_group(&mut self.groups[group], book, group as u16, tick);
+            read_group(&mut self.groups[group], readings, group as u16, tick);
         }
     }
 

@@ -121,7 +121,7 @@ pub fn run_plan<R: Threads + Wait + Sync, G: Gate>(
         transcript: Transcript::empty(alloc, plan)?,
         link: Link::new(alloc),
     };
-    let mut meters = Meters::new(alloc, &run.book)?;
+    let mut meters = Meters::new(alloc, readings)?;
     let Running {
         book,
         transcript,

@@ -15,10 +15,10 @@ ghost use Rattle.tick_run.specs.TickFrames.{frames_due, AreHeard};
 ghost use Rattle.tick_run.specs.Meters.{AreMeters, HasSet, HaveHeard};
 
 use crate::RunError;
-use crate::all_groups::all_groups;
 use crate::announcements::with_announcements;
 use crate::batches::{close_rounds, take_copies};
-use crate::meters::{Meters, came_in};
+use crate::meter_side::meters_send;
+use crate::meters::Meters;
 use crate::running::Running;
 use crate::sends::send_all;
 use collector_workers::Gate;
@@ -54,10 +54,7 @@ fn frames_at(
     ensures frames { IfOk result (λ groups. AllZip (λ g frames. IfOk frames (λ f. f.items ≡ frames_due (run_shape readings.now) (clock_of readings.now.plan) (reading readings.now.table) (words_of masks.now) (past book.now) (tags_of (frames_in copies.now)) tick g))
         (range_with_len 0 (length readings.now.plan.groups)) groups.items) }
 {
-    meters.read(book, tick);
-    let came = came_in(alloc, copies)?;
-    let answered = meters.answered(alloc, &came)?;
-    let sent = all_groups(rt, alloc, readings, masks, &answered, tick)?;
+    let sent = meters_send(rt, alloc, meters, readings, masks, copies, tick)?;
     with_announcements(alloc, book, &sent, tick)
 }
 

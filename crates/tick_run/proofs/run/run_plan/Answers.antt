@@ -6,6 +6,7 @@ use Rattle.mask_stream.specs.ChaMaskTables.{words_of}
 use Rattle.lossy_link.specs.Arrivals.{Arrival}
 use Rattle.transcript_text.specs.Transcripts.{TranscriptView, no_entries}
 use Rattle.tick_run.specs.Running.{IsRunning, starting}
+use Rattle.tick_run.specs.Meters.{AreMeters}
 use Rattle.tick_run.proofs.StateLemmas.{starts}
 use Rattle.tick_run.proofs.FinishLemmas.{finishes, kept-fresh}
 use Rattle.tick_run.proofs.RowsOf.{rows-are}
@@ -20,6 +21,11 @@ run_ticks-requires-clause-running g c κs within =
     let empty = c.in_ok-empty.ensures ∙ ap no_entries (sym c.requires.readings) in
     subst (λ (l : List Arrival). IsRunning readings m (starting 0) c.in_ok-new.field-0 c.in_ok-empty.field-0 l) (sym c.new-2.ensures)
     (subst (λ (script : TranscriptView). IsRunning readings m (starting 0) c.in_ok-new.field-0 script []) (sym empty) start)
+
+pub run_ticks-requires-clause-meters : goal.run_ticks-requires-clause-meters
+run_ticks-requires-clause-meters g c κs within =
+    let book = c.in_ok-new.field-0 in
+    subst (λ (p : PresenceView). AreMeters (record book { presence = p }) 0 c.in_ok-meters.meters) (sym (c.in_ok-new.ensures.presence ∙ c.in_ok-presence.ensures)) (c.in_ok-meters.ensures book)
 
 pub returns-clause-finished : goal.returns-clause-finished
 returns-clause-finished g c =

@@ -14,9 +14,9 @@ use Rattle.tick_run.specs.OnTheWay.{frames_in, tags_of}
 use Rattle.tick_run.specs.Running.{run_shape}
 use Rattle.tick_run.specs.TickFrames.{AreHeard, AreAnswerable}
 use Rattle.tick_run.specs.Jobs.{readings_at, answers_at, announcements_due, AreGroupFrames, HasFrames}
-use Rattle.tick_run.specs.Meters.{is_announcement, announcements, HasSet, CanHearAll, AreTold, AreMeters}
+use Rattle.tick_run.specs.Meters.{announcements, book_of, HaveHeard, AreMeters}
 use Rattle.tick_run.proofs.RangeLemmas.{range_long, range_weaker}
-use Rattle.tick_run.proofs.CameLemmas.{heard-filter, all-filter, answerable, frames-merged}
+use Rattle.tick_run.proofs.CameLemmas.{frames-merged}
 use Rattle.tick_run.proofs.MetersLemmas.{are-told}
 use Rattle.tick_run.proofs.tick.frames_at.Goals as goal
 
@@ -24,35 +24,23 @@ on_ok : {A : Type 0} (P : Type 0) (r : Result A AllocError) → P → OnOk r P
 on_ok P (Ok x) h = h
 on_ok P (Err e) h = tt
 
-pub answered-requires : goal.answered-requires
-answered-requires g c =
+pub meters_send-requires-clause-can : goal.meters_send-requires-clause-can
+meters_send-requires-clause-can g c κs within =
     let b = c.args.book.now in
     let t = c.args.tick in
-    let came = frames_in c.args.copies.now in
-    let is : c.deref.result.now ≡ came = c.deref.ensures.value ∙ c.in_ok-came.ensures in
-    let heard = subst (λ (p : PresenceView). AreHeard (shape_of_presence p) (clock_of p.plan) (past b) t (tags_of came)) (sym c.requires.presence) c.requires.heard in
-    let sets = subst (λ (p : PresenceView). All (HasSet (shape_of_presence p) (past b)) came) (sym c.requires.presence) c.requires.sets in
-    subst (CanHearAll c.read.new.self) (sym is) (record { book = b; until = t + 1; meters = c.read.ensures; told = are-told b t came heard sets })
-
-pub all_groups-requires-clause-came : goal.all_groups-requires-clause-came
-all_groups-requires-clause-came g c κs within =
-    let readings = c.args.readings.now in
-    let p = presence_of readings in
-    let b = c.args.book.now in
-    let t = c.args.tick in
-    let came = frames_in c.args.copies.now in
-    let is : c.deref-2.result.now ≡ announcements came = c.deref-2.ensures.value ∙ c.in_ok-answered.ensures.answered ∙ ap announcements (c.deref.ensures.value ∙ c.in_ok-came.ensures) in
-    let table = subst (λ (p : PresenceView). IsPresenceTable p.plan p.table) c.requires.presence c.requires.meters.table in
-    subst (AreAnswerable readings.plan t) (sym is)
-    (answerable p (past b) t (announcements came) table (heard-filter (run_shape readings) (clock_of readings.plan) (past b) t came c.requires.heard)
-    (all-filter (HasSet (run_shape readings) (past b)) (λ f. is_announcement f.tag) came c.requires.sets))
+    record {
+      book = b;
+      meters = subst (λ (p : PresenceView). AreMeters (record b { presence = p }) t c.args.meters.now) c.requires.presence c.requires.meters;
+      heard = c.requires.heard;
+      sets = c.requires.sets;
+    }
 
 pub with_announcements-requires : goal.with_announcements-requires
 with_announcements-requires g c =
     let readings = c.args.readings.now in
     record {
-      groups = ap length c.deref-3.ensures.value
-          ∙ range_long (λ k sent. IfOk sent (AreGroupFrames readings (words_of c.args.masks.now) c.deref-2.result.now c.args.tick k)) 0 (length readings.plan.groups) c.in_ok-sent.sent.items c.in_ok-sent.ensures
+      groups = ap length c.deref.ensures.value
+          ∙ range_long (λ k sent. IfOk sent (AreGroupFrames readings (words_of c.args.masks.now) (announcements (frames_in c.args.copies.now)) c.args.tick k)) 0 (length readings.plan.groups) c.in_ok-sent.sent.items c.in_ok-sent.ensures.sent
           ∙ ap (λ (p : PresenceView). length p.plan.groups) (sym c.requires.presence);
     }
 
@@ -61,10 +49,12 @@ returns-clause-meters g c =
     let b = c.args.book.now in
     let t = c.args.tick in
     let came = frames_in c.args.copies.now in
-    let is : c.deref.result.now ≡ came = c.deref.ensures.value ∙ c.in_ok-came.ensures in
-    let heard = subst (λ (p : PresenceView). AreHeard (shape_of_presence p) (clock_of p.plan) (past b) t (tags_of came)) (sym c.requires.presence) c.requires.heard in
-    let sets = subst (λ (p : PresenceView). All (HasSet (shape_of_presence p) (past b)) came) (sym c.requires.presence) c.requires.sets in
-    on_ok (AreMeters b (t + 1) c.answered.new.self) c.with_announcements.result (c.in_ok-answered.ensures.meters b (t + 1) c.read.ensures (subst (AreTold b (t + 1)) (sym is) (are-told b t came heard sets)))
+    let are = subst (λ (p : PresenceView). AreMeters (record b { presence = p }) t c.args.meters.now) c.requires.presence c.requires.meters in
+    let now = c.in_ok-sent.ensures.meters b are (are-told (book_of c.args.readings.now b) t came c.requires.heard c.requires.sets) in
+    on_ok (AreMeters b (t + 1) c.meters_send.new.meters) c.with_announcements.result (subst (λ (p : PresenceView). AreMeters (record b { presence = p }) (t + 1) c.meters_send.new.meters) (sym c.requires.presence) now)
+
+pub returns-clause-heard : goal.returns-clause-heard
+returns-clause-heard g c = on_ok (HaveHeard c.meters_send.new.meters (frames_in c.args.copies.now)) c.with_announcements.result c.in_ok-sent.ensures.heard
 
 pub returns-clause-frames : goal.returns-clause-frames
 returns-clause-frames g c =
@@ -76,12 +66,11 @@ returns-clause-frames g c =
     let n = length readings.plan.groups in
     let F : ℕ → List Frame = readings_at readings m t in
     let H : ℕ → List Frame = answers_at readings.plan m (announcements came) in
-    let is : c.deref-2.result.now ≡ announcements came = c.deref-2.ensures.value ∙ c.in_ok-answered.ensures.answered ∙ ap announcements (c.deref.ensures.value ∙ c.in_ok-came.ensures) in
-    let sent = subst (λ (l : List Frame). AllZip (λ k sent. IfOk sent (AreGroupFrames readings m l t k)) (range_with_len 0 n) c.in_ok-sent.sent.items) is c.in_ok-sent.ensures in
-    let long : length c.deref-3.result.now ≡ n = ap length c.deref-3.ensures.value ∙ range_long (λ k sent. IfOk sent (AreGroupFrames readings m (announcements came) t k)) 0 n c.in_ok-sent.sent.items sent in
+    let sent = c.in_ok-sent.ensures.sent in
+    let long : length c.deref.result.now ≡ n = ap length c.deref.ensures.value ∙ range_long (λ k sent. IfOk sent (AreGroupFrames readings m (announcements came) t k)) 0 n c.in_ok-sent.sent.items sent in
     let all : AllZip (HasFrames F H) (range_with_len 0 n) c.in_ok-sent.sent.items
     = range_weaker (λ k sent. IfOk sent (AreGroupFrames readings m (announcements came) t k)) (HasFrames F H) 0 n c.in_ok-sent.sent.items (λ k r _ _ h. pair k r h) sent in
-    let merged = c.with_announcements.ensures F H (subst (λ (l : List (Result GroupFrames AllocError)). AllZip (HasFrames F H) (range_with_len 0 (length l)) l) (sym c.deref-3.ensures.value)
+    let merged = c.with_announcements.ensures F H (subst (λ (l : List (Result GroupFrames AllocError)). AllZip (HasFrames F H) (range_with_len 0 (length l)) l) (sym c.deref.ensures.value)
     (subst (λ (k : ℕ). AllZip (HasFrames F H) (range_with_len 0 k) c.in_ok-sent.sent.items) (sym (range_long (HasFrames F H) 0 n c.in_ok-sent.sent.items all)) all)) in
     subst (λ (frames_of : ℕ → List Frame). IfOk c.with_announcements.result (λ groups. AllZip (λ k frames. IfOk frames (λ f. f.items ≡ frames_of k)) (range_with_len 0 n) groups.items))
     (fun_ext (λ (k : ℕ). frames-merged readings m b came t k c.requires.presence c.requires.sets))
