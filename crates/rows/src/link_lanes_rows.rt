@@ -158,7 +158,7 @@ fn arguments_by_form(rt: HostRuntime) -> Result<(), Fail> {
 
 // Makes these posts.
 fn pass_all(rack: &mut Rack, posts: &[(u32, Tag)])
-    requires room { HasRoom (λ b. meaning b) rack.old }
+    requires room { HasRoom (λ b. meaning (b.vtable, b.value)) rack.old }
     requires few { length (posts_of rack.old) + length posts.now < 2 ^ 32 }
     requires spare { length posts.now ≤ spare_of rack.old }
 {
