@@ -28,8 +28,9 @@ use Rattle.twin_worlds.specs.declared.answers.TwinError.{TwinError}
 use Rattle.twin_worlds.specs.declared.answers.TwinError.TheVariants as twin
 use Rattle.twin_worlds.specs.MasksText.{masks_text}
 use Rattle.twin_worlds.specs.Twins.{TwinEnds}
+use Rattle.twin_worlds.specs.Statements.{FindsTwins, IsHonest}
+use Rattle.twin_worlds.proofs.HonestLemmas.{honest-have-twins}
 use Rattle.commands.specs.Twins.{TwinBytes, AreReadBy, TwinValues, AreTwinValues, Compared, RefusesFirst, RefusesSecond, TwinRefuses}
-use Rattle.commands.proofs.TwinLemmas.{agreeing_are_twins}
 use Rattle.commands.specs.declared.outcome.Outcome.{Outcome}
 use Rattle.commands.specs.declared.outcome.Outcome.TheVariants.{Done, NoMemory, BadWords, CannotRead, TooLong, CannotWrite, CannotPrint, BadPlan, BadReadings, BadTranscript, BadReport, Impossible, OtherRow, OtherPlan, OtherLine, OtherPresence, OtherTotal, BadLane}
 use Rattle.commands.specs.Words.{RunNames, TwinNames, Size, Command, Run, Audit, Twin, Make, Load, Convert, Help, Version}
@@ -279,13 +280,30 @@ same_values names v good values are =
     ∙ ap (λ x. record { file = values.file; first = x; second = good.values.second }) first
     ∙ ap (λ y. record { file = values.file; first = values.first; second = y }) second
 
+-- an accepted transcript is that of the first table, and the second one agrees
+is_honest : (names : TwinNames) (v : View) (good : TwinAccepts names v)
+    → IsHonest (streams good.values.file.keys) good.values.first good.values.second good.bytes.transcript good.lines
+is_honest names v good =
+    let short = good.transcript.short in
+    let few : length good.bytes.transcript < 2 ^ 64 = omega arith in
+    let text = good.recorded.text_of in
+    record { sound = text.sound; text_is = text.text_is; few = few; plan_is = good.recorded.plan_is; lines_are = good.recorded.lines_are; agree = good.agree }
+
+-- where twins are found, no cause but want of memory is answered
+no_cause : (error : TwinError) → error ≢ twin.Memory → FindsTwins (Err error) → ⊥
+no_cause (twin.Transcript refusal) known found = found
+no_cause twin.Head known found = found
+no_cause (twin.NotThis line expected other tick fate) known found = found
+no_cause (twin.Differ cause) known found = found
+no_cause twin.Memory known found = known refl
+
 -- of which `twin` answers no cause
 none_compared : (names : TwinNames) (v : View) (good : TwinAccepts names v) (error : TwinError) → Compared good.bytes (Err error) → error ≢ twin.Memory → ⊥
 none_compared names v good error (values, are, ends) known =
     let here : TwinEnds (streams good.values.file.keys) good.values.first good.values.second good.bytes.transcript (Err error) =
     subst (λ values. TwinEnds (streams values.file.keys) values.first values.second good.bytes.transcript (Err error)) (sym (same_values names v good values are)) ends
     in
-    known (agreeing_are_twins (streams good.values.file.keys) good.values.first good.values.second good.bytes.transcript good.lines error good.recorded good.agree here)
+    no_cause error known (honest-have-twins (streams good.values.file.keys) good.values.first good.values.second good.bytes.transcript good.lines (Err error) (is_honest names v good) here)
 
 twin_not_refused : (names : TwinNames) (v : View) (good : TwinAccepts names v) (outcome : Outcome) → TwinRefuses names good.bytes outcome → IsCalm outcome
 twin_not_refused names v good Done ends = absurd ends

@@ -1,6 +1,6 @@
 -- How commands end, from how their parts do.
 use Rattle.std.proofs.Common.{◌≡◌, List, [], ◌∷◌, ℕ, Bool, true, false, length, inl, inr, subst, sym, ap, ◌∙◌, refl, Result, Ok, Err}
-use Rattle.std.specs.Prelude.{Option, None, Some}
+use Rattle.std.specs.Prelude.{Option}
 use Rattle.desk_outside.specs.Desk.{View, IsLonger, after_step}
 use Rattle.link_lanes.specs.Lanes.{Meaning}
 use Rattle.transcript_text.specs.declared.version.Version.TheVariants.{One}

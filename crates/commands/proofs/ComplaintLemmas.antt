@@ -1,5 +1,5 @@
 -- Each outcome of a command has a complaint.
-use Rattle.std.proofs.Common.{refl, ◌≡◌, ℕ, List, [], subst, sym, inl, inr}
+use Rattle.std.proofs.Common.{refl, ◌≡◌, ℕ, List, subst, sym, inl, inr}
 use Rattle.std.specs.Prelude.{Option, None, Some}
 use Rattle.desk_outside.specs.Desk.{View}
 use Rattle.link_lanes.specs.Lanes.{Meaning}

@@ -1,10 +1,8 @@
 -- What a run stored: the audit finds no fault in it, and it is the record of the readings.
-use Rattle.std.proofs.Common.{◌≡◌, ◌^◌, ◌<◌, ℕ, List, sym, ap, ◌∙◌, subst, Result, Ok}
-use Rattle.std.specs.Prelude.{Option}
+use Rattle.std.proofs.Common.{◌≡◌, ℕ, List, sym, ap, ◌∙◌, subst, Result, Ok}
 use Rattle.link_lanes.specs.Lanes.{Meaning}
 use Rattle.mask_stream.specs.KeyStreams.{streams}
 use Rattle.transcript_text.specs.declared.version.Version.TheVariants.{Two}
-use Rattle.transcript_text.specs.Transcripts.{TranscriptView}
 use Rattle.transcript_text.specs.Heads.{read_of}
 use Rattle.totals_report.specs.declared.row.ReportRow.{ReportRow}
 use Rattle.totals_report.specs.Reading.{rows_of_text}
@@ -14,8 +12,8 @@ use Rattle.audit_check.specs.declared.answers.AuditError.{AuditError}
 use Rattle.audit_check.specs.Audits.{AuditEnds}
 use Rattle.audit_check.specs.Statements.{IsHonest, FindsNone}
 use Rattle.audit_check.proofs.HonestLemmas.{honest_are_accepted}
-use Rattle.commands.specs.Runs.{Values, plan_in, readings_in, row_in, transcript_in, Texts, Makes}
-use Rattle.commands.specs.Audits.{AreAuditTexts, Audited, RunsAreConfirmed}
+use Rattle.commands.specs.Runs.{plan_in, readings_in, row_in, transcript_in, Texts, Makes}
+use Rattle.commands.specs.Audits.{Audited, RunsAreConfirmed}
 use Rattle.transcript_log.specs.Events.{events_of}
 use Rattle.transcript_log.specs.Transcript.{transcript}
 use Rattle.commands.specs.Twins.{RunsAreRecorded}

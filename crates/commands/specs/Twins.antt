@@ -1,5 +1,5 @@
 -- What the bytes of the four files of `twin` come to.
-use Rattle.std.specs.Prelude.{◌≡◌, ◌⊎◌, ℕ, List, reverse, Result, Ok, Err, ⊤}
+use Rattle.std.specs.Prelude.{◌≡◌, ◌⊎◌, ℕ, List, Result, Ok, Err, ⊤}
 use Rattle.desk_outside.specs.Desk.{View}
 use Rattle.group_plan.specs.Tables.{ReadingsView}
 use Rattle.link_lanes.specs.Lanes.{Meaning}
