@@ -1,5 +1,5 @@
 -- The meters that hear, frame by frame.
-use Rattle.std.proofs.Common.{◌≡◌, ℕ, Bool, true, false, cond, ◌||◌, ◌&&◌, List, [], ◌∷◌, ◌++◌, length, map, refl, sym, ap, ◌∙◌, subst, arith, ⊎_elim}
+use Rattle.std.proofs.Common.{◌≡◌, ℕ, Bool, true, false, cond, ◌||◌, ◌&&◌, List, [], ◌∷◌, ◌++◌, length, refl, sym, ap, ◌∙◌, subst, ⊎_elim}
 use Rattle.std.specs.Prelude.{◌==◌}
 use Rattle.std.proofs.lemmas.Bool.{false≢true, and_from, eq-eqb, cases_eq, ne_eqb, or_right}
 use Rattle.std.specs.List.{list_all}
@@ -56,10 +56,11 @@ is-alike : (g r : ℕ) (h k : Hearers) (f : Frame) (came : List Frame) → is_an
     → IsAlike h f.tag.meter f.missing k → (i : ℕ) → f.tag.meter ≡ i
     → (is_member i k.meters ≡ true) × (announced_set (came ++ f ∷ []) (tag_of Announcement g r i) ≡ k.missing)
 is-alike g r h k f came here are meters is i e =
-    let this : (f.tag.meter == i) ≡ true = eq-eqb f.tag.meter i e in
-    (ap (is_member i) meters ∙ is_member-joined i f.tag.meter h.meters ∙ ap (λ b. b || is_member i h.meters) this,
-    set-new (tag_of Announcement g r i) came f (sym (are.meters i) ∙ subst (λ j. is_member j h.meters ≡ false) e is.new)
-    (same_at g r i f.tag ∙ ap (λ b. b && is_announcement_in g r f.tag) this ∙ here) ∙ sym is.missing)
+    let this : (f.tag.meter == i) ≡ true = eq-eqb f.tag.meter i e in (
+      ap (is_member i) meters ∙ is_member-joined i f.tag.meter h.meters ∙ ap (λ b. b || is_member i h.meters) this,
+      set-new (tag_of Announcement g r i) came f (sym (are.meters i) ∙ subst (λ j. is_member j h.meters ≡ false) e is.new)
+          (same_at g r i f.tag ∙ ap (λ b. b && is_announcement_in g r f.tag) this ∙ here) ∙ sym is.missing,
+    )
 
 -- an announcement that comes
 pub hearers-more : (g r : ℕ) (h k : Hearers) (f : Frame) → is_announcement_in g r f.tag ≡ true → HearsToo h f.tag.meter f.missing k → (came : List Frame) → AreHearers came g r h

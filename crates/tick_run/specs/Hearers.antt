@@ -1,5 +1,5 @@
 -- The meters of a round to which an announcement came.
-use Rattle.std.specs.Prelude.{◌≡◌, ℕ, ◌⊎◌, true, false, List, [], ◌∷◌}
+use Rattle.std.specs.Prelude.{◌≡◌, ℕ, ◌⊎◌, true, false, List, []}
 use Rattle.missing_round.specs.Sets.{is_member, joined}
 use Rattle.group_plan.specs.declared.Kind.TheVariants.{Announcement}
 use Rattle.meter_frames.specs.declared.Frame.{Frame}

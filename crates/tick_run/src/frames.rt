@@ -108,9 +108,7 @@ pub(crate) fn add_answers(
     let words = alike_words(masks, group, round, hearers);
     for meter in members.members() {
         if hearers.meters.has(meter) {
-            frames.push(answer_of(
-                masks, group, round, meter, hearers, &words, came,
-            ))?;
+            frames.push(answer_of(masks, group, round, meter, hearers, &words, came))?;
         }
     }
     Ok(())

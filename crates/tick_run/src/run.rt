@@ -26,7 +26,7 @@ use link_lanes::{Lane, Rack};
 use lossy_link::Link;
 use mask_stream::ChaMasks;
 use pair_keys::KeyTable;
-use std::alloc::Global;
+use std::alloc::{AllocError, Global};
 use std::sync::Wait;
 use std::thread::Threads;
 use transcript_text::Transcript;
@@ -66,6 +66,37 @@ fn run_ticks<R: Threads + Wait + Sync, G: Gate>(
         )?;
     }
     Ok(run)
+}
+
+/// So many lines has a meter in a round on most links: Sends and Takes of a reading, an announcement and an answer.
+const LINES_A_METER: usize = 6;
+
+/// About how many lines a run has.
+fn lines_about(plan: &Plan) -> usize {
+    let mut a_round = 0usize;
+    for group in plan.groups() {
+        let meters = group.meters as usize;
+        a_round = a_round
+            .saturating_add(meters.saturating_mul(LINES_A_METER))
+            .saturating_add(2);
+    }
+    a_round.saturating_mul(plan.rounds() as usize)
+}
+
+/// A book with no line, and with room for so many.
+fn new_book(
+    alloc: Global,
+    plan: &Plan,
+    presence: &Presence,
+    lines: usize,
+) -> Result<Book, AllocError>
+    requires { presence.now.plan ≡ plan.now }
+    ensures presence { IfOk result (λ book. book.presence ≡ presence.now) }
+    ensures journal { IfOk result (λ book. book.journal ≡ []) }
+{
+    let mut book = Book::new(alloc, plan, presence)?;
+    book.reserve(lines as u64)?;
+    Ok(book)
 }
 
 /// Learns that the lines of a book are the core's.
@@ -116,9 +147,10 @@ pub fn run_plan<R: Threads + Wait + Sync, G: Gate>(
     let masks = ChaMasks::new(keys);
     let presence = Presence::of(alloc, readings)?;
     presence_is_of_members(&presence);
+    let lines = lines_about(plan);
     let run = Running {
-        book: Book::new(alloc, plan, &presence)?,
-        transcript: Transcript::empty(alloc, plan)?,
+        book: new_book(alloc, plan, &presence, lines)?,
+        transcript: Transcript::with_room(alloc, plan, lines)?,
         link: Link::new(alloc),
     };
     let mut meters = Meters::new(alloc, readings)?;

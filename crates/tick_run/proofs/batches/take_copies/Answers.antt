@@ -1,7 +1,6 @@
-use Rattle.std.proofs.Common.{◌≡◌, sym, subst, ◌∙◌, List, map}
+use Rattle.std.proofs.Common.{sym, subst, List, map}
 use Rattle.transcript_log.specs.declared.Event.TheVariants.{Take}
 use Rattle.shared_book.specs.declared.parcel.Parcel.{Parcel}
-use Rattle.shared_book.specs.declared.parcel.Parcel.TheVariants.{Bytes}
 use Rattle.tick_run.specs.OnTheWay.{frames_in, tags_of}
 use Rattle.tick_run.specs.Running.{Ask}
 use Rattle.tick_run.proofs.ParcelLemmas.{takes-asked}
@@ -12,5 +11,5 @@ returns g c =
     let b = c.args.run.book in
     let copies = c.args.copies.now in
     let events = map Take (tags_of (frames_in copies)) in
-    let batch : c.deref.result.now ≡ map Bytes copies = c.deref.ensures.value ∙ c.in_ok-batch.ensures in
+    let batch = c.in_ok-batch.ensures in
     c.commit_batch.ensures events (subst (λ (ps : List Parcel). Ask b events ps) (sym batch) (takes-asked b copies c.requires.copies))

@@ -1,10 +1,7 @@
-use Rattle.std.proofs.Common.{◌≡◌, ◌+◌, ap, sym, subst, ◌∙◌, List}
+use Rattle.std.proofs.Common.{◌≡◌, ◌+◌, ap, sym, subst, ◌∙◌}
 use Rattle.std.specs.Prelude.{Result, Ok, Err, OnOk}
 use Rattle.std.specs.declared.alloc.AllocError.{AllocError}
-use Rattle.std.specs.List.{AllZip, range_with_len}
 use Rattle.group_plan.specs.Tables.{presence_of}
-use Rattle.mask_stream.specs.ChaMaskTables.{words_of}
-use Rattle.meter_frames.specs.declared.Frame.{Frame}
 use Rattle.run_rows.specs.Ticks.{clock_of}
 use Rattle.group_book.specs.Books.{past}
 use Rattle.tick_run.specs.OnTheWay.{frames_in}

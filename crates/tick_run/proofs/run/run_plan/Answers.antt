@@ -16,20 +16,20 @@ pub run_ticks-requires-clause-running : goal.run_ticks-requires-clause-running
 run_ticks-requires-clause-running g c κs within =
     let readings = c.args.readings.now in
     let m = words_of c.new-masks.result in
-    let presence = c.in_ok-new.ensures.presence ∙ c.in_ok-presence.ensures in
-    let start = starts readings m c.in_ok-new.field-0 presence c.in_ok-new.ensures.journal in
-    let empty = c.in_ok-empty.ensures ∙ ap no_entries (sym c.requires.readings) in
-    subst (λ (l : List Arrival). IsRunning readings m (starting 0) c.in_ok-new.field-0 c.in_ok-empty.field-0 l) (sym c.new-2.ensures)
-    (subst (λ (script : TranscriptView). IsRunning readings m (starting 0) c.in_ok-new.field-0 script []) (sym empty) start)
+    let presence = c.in_ok-new_book.ensures.presence ∙ c.in_ok-presence.ensures in
+    let start = starts readings m c.in_ok-new_book.field-0 presence c.in_ok-new_book.ensures.journal in
+    let empty = c.in_ok-with_room.ensures ∙ ap no_entries (sym c.requires.readings) in
+    subst (λ (l : List Arrival). IsRunning readings m (starting 0) c.in_ok-new_book.field-0 c.in_ok-with_room.field-0 l) (sym c.new.ensures)
+    (subst (λ (script : TranscriptView). IsRunning readings m (starting 0) c.in_ok-new_book.field-0 script []) (sym empty) start)
 
 pub run_ticks-requires-clause-meters : goal.run_ticks-requires-clause-meters
 run_ticks-requires-clause-meters g c κs within =
-    let book = c.in_ok-new.field-0 in
-    subst (λ (p : PresenceView). AreMeters (record book { presence = p }) 0 c.in_ok-meters.meters) (sym (c.in_ok-new.ensures.presence ∙ c.in_ok-presence.ensures)) (c.in_ok-meters.ensures book)
+    let book = c.in_ok-new_book.field-0 in
+    subst (λ (p : PresenceView). AreMeters (record book { presence = p }) 0 c.in_ok-meters.meters) (sym (c.in_ok-new_book.ensures.presence ∙ c.in_ok-presence.ensures)) (c.in_ok-meters.ensures book)
 
 pub returns-clause-finished : goal.returns-clause-finished
 returns-clause-finished g c =
-    let kept = c.in_ok-book.ensures.fates _ (kept-fresh _ _ _ c.args.plan.now c.in_ok-empty.field-0 c.requires.posts refl c.in_ok-empty.ensures) in
+    let kept = c.in_ok-book.ensures.fates _ (kept-fresh _ _ _ c.args.plan.now c.in_ok-with_room.field-0 c.requires.posts refl c.in_ok-with_room.ensures) in
     finishes c.args.readings.now (table_of c.args.keys.now) (words_of c.new-masks.result) _ _ _ (last_tick c.args.readings.now.plan + 1) c.in_ok-book.field-0.book c.in_ok-book.field-0.transcript c.in_ok-book.field-0.link
     c.readings_are_limited.ensures.limits c.readings_are_limited.ensures.table c.new-masks.ensures.words refl c.in_ok-book.ensures.running kept c.lines_are_legal.ensures
 
@@ -42,5 +42,5 @@ returns-clause-report g c =
 
 pub returns-clause-posts : goal.returns-clause-posts
 returns-clause-posts g c =
-    let kept = c.in_ok-book.ensures.fates _ (kept-fresh _ _ _ c.args.plan.now c.in_ok-empty.field-0 c.requires.posts refl c.in_ok-empty.ensures) in
+    let kept = c.in_ok-book.ensures.fates _ (kept-fresh _ _ _ c.args.plan.now c.in_ok-with_room.field-0 c.requires.posts refl c.in_ok-with_room.ensures) in
     kept.posts_are

@@ -1,18 +1,13 @@
 use Rattle.std.proofs.Common.{◌≡◌, ◌+◌, ◌++◌, ap, sym, subst, ◌∙◌, List, ℕ, length}
 use Rattle.std.specs.Prelude.{Result, Ok, Err, IfOk, OnOk}
 use Rattle.std.specs.declared.alloc.AllocError.{AllocError}
-use Rattle.std.specs.List.{All, AllZip, range_with_len}
+use Rattle.std.specs.List.{AllZip, range_with_len}
 use mathlib.Core.Path.{fun_ext}
-use Rattle.group_plan.specs.Tables.{PresenceView, IsPresenceTable, presence_of}
+use Rattle.group_plan.specs.Tables.{PresenceView}
 use Rattle.mask_stream.specs.ChaMaskTables.{words_of}
 use Rattle.meter_frames.specs.declared.Frame.{Frame}
-use Rattle.transcript_log.specs.Schedule.{shape_of_presence}
-use Rattle.run_rows.specs.Ticks.{clock_of}
-use Rattle.group_book.specs.Books.{past}
 use Rattle.tick_run.specs.declared.group.GroupFrames.{GroupFrames}
-use Rattle.tick_run.specs.OnTheWay.{frames_in, tags_of}
-use Rattle.tick_run.specs.Running.{run_shape}
-use Rattle.tick_run.specs.TickFrames.{AreHeard, AreAnswerable}
+use Rattle.tick_run.specs.OnTheWay.{frames_in}
 use Rattle.tick_run.specs.Jobs.{readings_at, answers_at, announcements_due, AreGroupFrames, HasFrames}
 use Rattle.tick_run.specs.Meters.{announcements, book_of, HaveHeard, AreMeters}
 use Rattle.tick_run.proofs.RangeLemmas.{range_long, range_weaker}

@@ -1,7 +1,7 @@
 use Rattle.std.proofs.Common.{◌≡◌, ◌+◌, ◌<◌, ◌≤◌, ap, sym, subst, ◌∙◌, length, arith}
 use Rattle.std.specs.Vec.{with_items}
 use Rattle.group_plan.specs.Plans.{PlanView, IsWithinLimits}
-use Rattle.tick_run.specs.Meters.{AreOfGroup, IsGroup, CanReadGroup, book_of}
+use Rattle.tick_run.specs.Meters.{AreOfGroup, IsGroup, book_of}
 use Rattle.std.proofs.lemmas.List.{with_items_is}
 use Rattle.tick_run.proofs.RangeLemmas.{upto-none, upto-long, upto-at, upto-more, upto-all}
 use Rattle.tick_run.proofs.MetersLemmas.{read-over, groups-long}
