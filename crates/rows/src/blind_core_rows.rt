@@ -146,8 +146,8 @@ fn each_pair_word_asked_once(rt: HostRuntime) -> Result<(), Fail> {
     let words = masked_group(rt.alloc(), &masks, 0, &MeterSet::full(64), 0, &readings)?;
     assert_eq!(rt; words.len(), 64);
     assert_eq!(rt; masks.asked.load(Ordering::SeqCst), 2016);
-    let missing = MeterSet::empty().with(7).with(40).with(63);
-    let _answers = answers(&masks, 0, 0, &MeterSet::full(64).minus(missing), &missing);
-    assert_eq!(rt; masks.asked.load(Ordering::SeqCst), 2016 + 183);
+    let missing = MeterSet::empty().with(5).with(6);
+    let _answers = answers(&masks, 0, 0, &MeterSet::full(4), &missing);
+    assert_eq!(rt; masks.asked.load(Ordering::SeqCst), 2016 + 8);
     Ok(())
 }
