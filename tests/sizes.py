@@ -95,7 +95,7 @@ ROWS = [
     ("256 groups of 2 meters, 256 rounds: 131,072 readings", RUN, 0, lambda: plan_and_readings(256, 2, 256)),
     ("1 group of 2 meters, 4096 rounds", RUN, 0, lambda: plan_and_readings(1, 2, 4096)),
     ("1 group of 32 meters, 4096 rounds: 131,072 readings", RUN, 0, lambda: plan_and_readings(1, 32, 4096)),
-    ("the same with 16 workers", RUN.replace(" 4", " 16"), 0, lambda: plan_and_readings(1, 32, 4096)),
+    ("256 groups of 32 meters, 16 rounds, with 16 workers", RUN.replace(" 4", " 16"), 0, lambda: plan_and_readings(256, 32, 16)),
     ("257 groups", RUN, 5, lambda: plan_and_readings(257, 2, 1)),
     ("4097 rounds", RUN, 5, lambda: plan_and_readings(1, 2, 4097)),
     ("1 group of 33 meters, 3972 rounds: 131,076 readings", RUN, 5, lambda: plan_and_readings(1, 33, 3972)),
