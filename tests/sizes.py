@@ -11,12 +11,11 @@ import multiprocessing
 import os
 import random
 import resource
-import subprocess
 import sys
 import tempfile
-import time
 
 from fuzz import PROGRAM
+from speed import measured
 
 MOST_BYTES = 1 << 28
 RUN = "run plan readings report transcript 4"
@@ -116,14 +115,7 @@ def run_row(program, words, make):
         writer = multiprocessing.Process(target=write_files, args=(room, make))
         writer.start()
         writer.join()
-        started = time.monotonic()
-        process = subprocess.Popen([program, *words.split()], cwd=room, stdout=subprocess.PIPE, stderr=subprocess.PIPE)
-        printed, complaint = process.stdout.read(), process.stderr.read()
-        _, status, used = os.wait4(process.pid, 0)
-        process.returncode = os.waitstatus_to_exitcode(status)
-        seconds = time.monotonic() - started
-    said = (printed or complaint).decode(errors="replace").strip()[:90]
-    return process.returncode, seconds, used.ru_utime + used.ru_stime, used.ru_maxrss // 1024, said
+        return measured(program, words, room)
 
 
 def main():

@@ -58,7 +58,7 @@ def add_files(room):
         old.write(old_text(transcript.read()))
 
 
-def run_once(program, words, room):
+def measured(program, words, room):
     """Runs the words: the status, the seconds, the processor's seconds, the most memory in MB, and what is printed."""
     started = time.monotonic()
     process = subprocess.Popen([program, *words.split()], cwd=room, stdout=subprocess.PIPE, stderr=subprocess.PIPE)
@@ -89,7 +89,7 @@ def main():
                 writer.start()
                 writer.join()
             words = command.format(size=size)
-            runs = [run_once(program, words, room) for _ in range(options.times)]
+            runs = [measured(program, words, room) for _ in range(options.times)]
             failed |= any(run[0] != 0 for run in runs)
             seconds, processor, memory = (statistics.median(run[at] for run in runs) for at in (1, 2, 3))
             print(f"| `{words}` | {seconds:.2f} | {processor:.2f} | {memory} | `{runs[0][4]}` |", flush=True)
