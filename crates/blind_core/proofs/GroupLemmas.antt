@@ -64,7 +64,7 @@ hiding-from_rows own pair members zeros sums n is_set within long e =
     })
 
 -- what a slice writes back into the list that lent it
-pub written : (xs ys : List ℕ) (n : ℕ) → length xs ≡ n → length ys ≡ n → take n (xs ++ drop (length xs) ys) ≡ xs
+pub written : {A : Type 0} (xs ys : List A) (n : ℕ) → length xs ≡ n → length ys ≡ n → take n (xs ++ drop (length xs) ys) ≡ xs
 written xs ys n e f = grind (arith, common_steps, e, f)
 
 -- hidden by its sum, a reading has its reading word

@@ -5,3 +5,4 @@ pub mod RowLemmas
 pub mod RowLoop
 pub mod GroupLemmas
 pub mod AnswerLoops
+pub mod ColumnLemmas

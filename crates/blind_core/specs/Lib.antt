@@ -1,3 +1,4 @@
 pub mod Answers
 pub mod Blind
+pub mod Columns
 pub mod Rows

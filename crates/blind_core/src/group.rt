@@ -112,7 +112,7 @@ fn hiding_sums<M: Masks>(
 }
 
 // The word of a meter: its reading and what hides it, or 0 where it has no reading.
-fn word_or_0(reading: Option<u64>, sum: u64) -> Word
+pub(crate) fn word_or_0(reading: Option<u64>, sum: u64) -> Word
     ensures { result ≡ hidden_or_0 sum reading }
 {
     match reading {

@@ -1,4 +1,4 @@
-//! Mask words by ChaCha20: of one key, and of many at once in the lanes of vectors.
+//! Mask words by ChaCha20: one at a time, and eight at once in the lanes of vectors, of eight keys or of eight rounds.
 #![tactic(auto)]
 
 mod rounds;
@@ -6,7 +6,7 @@ mod row;
 mod words;
 
 pub use row::WordRow;
-pub use words::{stream_word, stream_words};
+pub use words::{stream_word, stream_words, words_of_rounds};
 
 #[cfg(test)]
 mod tests;

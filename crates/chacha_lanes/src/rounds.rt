@@ -8,6 +8,9 @@ use std::simd::u32x8;
 /// The sixteen words of the eight states.
 pub(crate) type States = [u32x8; 16];
 
+/// The eight words of the states' keys.
+pub(crate) type Keys = [u32x8; 8];
+
 // The exclusive or of the two, rotated to the left.
 #[inline(always)]
 fn mixed(word: u32x8, other: u32x8, bits: u32) -> u32x8

@@ -1,6 +1,6 @@
-//! Mask words made eight at a time, compared with those of one key by itself.
+//! Mask words made eight at a time, compared with those made one by one.
 
-use crate::{WordRow, stream_word};
+use crate::{WordRow, stream_word, words_of_rounds};
 
 fn key_ending_in(last: u8) -> [u8; 32] {
     let mut key = [0; 32];
@@ -56,6 +56,23 @@ fn rows_of_0_to_40_keys_as_one_by_one(rt: HostRuntime) {
         for number in 0..count {
             let word = stream_word(&key_of(64 * count + number), round);
             assert_eq!(rt; words.get(number as usize).copied(), Some(word));
+        }
+    }
+}
+
+// The published words are those of `published_words` for the key of zeros.
+#[test]
+fn eight_rounds_as_one_by_one(rt: HostRuntime) {
+    let published = words_of_rounds(&key_ending_in(0), 0);
+    assert_eq!(rt; published[0], 0x903d_f1a0_ade0_b876);
+    assert_eq!(rt; published[1], 0xfb78_15c6_d6df_3fef);
+    for number in 0..40 {
+        let key = key_of(number);
+        let first = (next_word(number) >> 33) as u32;
+        let words = words_of_rounds(&key, first);
+        for round in 0..8u32 {
+            let word = stream_word(&key, first + round);
+            assert_eq!(rt; words[round as usize], word);
         }
     }
 }

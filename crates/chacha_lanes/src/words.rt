@@ -1,12 +1,13 @@
-//! The mask word of one key, and those of eight.
-ghost use Rattle.std.specs.Prelude.{◌≡◌, ℕ, ◌+◌, ◌*◌, ◌^◌, ◌<◌, [], slice_index, slice_index_or};
+//! The mask word of one key, those of eight keys, and those of one key in eight rounds.
+ghost use Rattle.std.specs.Prelude.{◌≡◌, ℕ, ◌+◌, ◌*◌, ◌^◌, ◌<◌, List, [], slice_index, slice_index_or};
 ghost use Rattle.rand_core.specs.Steps.{u32_at};
 ghost use Rattle.rand_chacha.specs.Block.{add32, initial_state, double_rounds};
 ghost use Rattle.rand_chacha.specs.ChaCha.{key_of};
 ghost use Rattle.rand_chacha.specs.Lanes.{lane};
+ghost use Rattle.chacha_lanes.specs.Keys.{key_lane};
 ghost use Rattle.chacha_lanes.specs.Stream.{mask_word};
 
-use crate::rounds::{States, columns, diagonals};
+use crate::rounds::{Keys, States, columns, diagonals};
 use rand_chacha::ChaCha20Rng;
 use rand_core::SeedableRng;
 use rand_core::utils::{NextWord, read_u32};
@@ -14,7 +15,7 @@ use std::simd::u32x8;
 
 // Word `at` of each key.
 #[inline(always)]
-fn key_words(keys: &[[u8; 32]; 8], at: usize) -> u32x8
+fn word_of_keys(keys: &[[u8; 32]; 8], at: usize) -> u32x8
     requires { at < 8 }
     ensures { (j : ℕ) → j < 8 → slice_index result j ≡ u32_at (slice_index_or keys.now j []) at }
 {
@@ -30,27 +31,79 @@ fn key_words(keys: &[[u8; 32]; 8], at: usize) -> u32x8
     ])
 }
 
-// The states of the first blocks of these keys, in the stream that the round numbers.
+// Eight keys, one in each lane.
 #[inline(always)]
-fn first_states(keys: &[[u8; 32]; 8], round: u32) -> States
-    ensures { (j : ℕ) → j < 8 → lane j result ≡ initial_state (key_of (slice_index_or keys.now j [])) 0 round }
+fn key_in_each_lane(keys: &[[u8; 32]; 8]) -> Keys
+    ensures { (j : ℕ) → j < 8 → key_lane j result ≡ key_of (slice_index_or keys.now j []) }
+{
+    [
+        word_of_keys(keys, 0),
+        word_of_keys(keys, 1),
+        word_of_keys(keys, 2),
+        word_of_keys(keys, 3),
+        word_of_keys(keys, 4),
+        word_of_keys(keys, 5),
+        word_of_keys(keys, 6),
+        word_of_keys(keys, 7),
+    ]
+}
+
+// Word `at` of one key, in every lane.
+#[inline(always)]
+fn word_of_key(key: &[u8; 32], at: usize) -> u32x8
+    requires { at < 8 }
+    ensures { (j : ℕ) → j < 8 → slice_index result j ≡ u32_at key.now at }
+{
+    u32x8::splat(read_u32(key, at))
+}
+
+// One key, the same in every lane.
+#[inline(always)]
+fn key_in_all_lanes(key: &[u8; 32]) -> Keys
+    ensures { (j : ℕ) → j < 8 → key_lane j result ≡ key_of key.now }
+{
+    [
+        word_of_key(key, 0),
+        word_of_key(key, 1),
+        word_of_key(key, 2),
+        word_of_key(key, 3),
+        word_of_key(key, 4),
+        word_of_key(key, 5),
+        word_of_key(key, 6),
+        word_of_key(key, 7),
+    ]
+}
+
+// Eight rounds one after another, one in each lane.
+#[inline(always)]
+fn rounds_from(first: u32) -> u32x8
+    requires { first + 7 < 2 ^ 32 }
+    ensures { (j : ℕ) → j < 8 → slice_index result j ≡ first + j }
+{
+    u32x8::splat(first) + u32x8::from_array([0, 1, 2, 3, 4, 5, 6, 7])
+}
+
+// The states of the first blocks of these keys, each in the stream that its round numbers.
+#[inline(always)]
+fn first_states(keys: Keys, rounds: u32x8) -> States
+    ensures { (j : ℕ) → j < 8 → slice_index rounds j < 2 ^ 32 → lane j result ≡ initial_state (key_lane j keys) 0 (slice_index rounds j) }
 {
     [
         u32x8::splat(0x6170_7865),
         u32x8::splat(0x3320_646e),
         u32x8::splat(0x7962_2d32),
         u32x8::splat(0x6b20_6574),
-        key_words(keys, 0),
-        key_words(keys, 1),
-        key_words(keys, 2),
-        key_words(keys, 3),
-        key_words(keys, 4),
-        key_words(keys, 5),
-        key_words(keys, 6),
-        key_words(keys, 7),
+        keys[0],
+        keys[1],
+        keys[2],
+        keys[3],
+        keys[4],
+        keys[5],
+        keys[6],
+        keys[7],
         u32x8::splat(0),
         u32x8::splat(0),
-        u32x8::splat(round),
+        rounds,
         u32x8::splat(0),
     ]
 }
@@ -96,17 +149,34 @@ pub fn stream_word(key: &[u8; 32], round: u32) -> u64
     joined(low, high)
 }
 
-/// The mask word of each of these keys in a round, all eight at once.
-pub fn stream_words(keys: &[[u8; 32]; 8], round: u32) -> [u64; 8]
-    ensures { (j : ℕ) → j < 8 → slice_index result j ≡ mask_word (slice_index_or keys.now j []) round }
+// The mask words of the keys in the lanes, each in its lane's round. It stays a function of its own, so that the compiler
+// has one copy, in which it sees that only words 0 and 1 of the last states are read.
+#[inline(never)]
+fn words_in_lanes(keys: Keys, rounds: u32x8) -> [u64; 8]
+    ensures { (j : ℕ) (key : List ℕ) → j < 8 → slice_index rounds j < 2 ^ 32 → key_lane j keys ≡ key_of key → slice_index result j ≡ mask_word key (slice_index rounds j) }
 {
-    let first = first_states(keys, round);
+    let first = first_states(keys, rounds);
     let last = last_states(first);
     let low = sums(last[0], first[0]);
     let high = sums(last[1], first[1]);
     let mut words = [0; 8];
-    for key in 0..8 {
-        words[key] = joined(low[key], high[key]);
+    for lane in 0..8 {
+        words[lane] = joined(low[lane], high[lane]);
     }
     words
+}
+
+/// The mask word of each of these keys in a round, all eight at once.
+pub fn stream_words(keys: &[[u8; 32]; 8], round: u32) -> [u64; 8]
+    ensures { (j : ℕ) → j < 8 → slice_index result j ≡ mask_word (slice_index_or keys.now j []) round }
+{
+    words_in_lanes(key_in_each_lane(keys), u32x8::splat(round))
+}
+
+/// The mask words of a key in eight rounds one after another, `first` and the next seven, all at once.
+pub fn words_of_rounds(key: &[u8; 32], first: u32) -> [u64; 8]
+    requires { first + 7 < 2 ^ 32 }
+    ensures { (j : ℕ) → j < 8 → slice_index result j ≡ mask_word key.now (first + j) }
+{
+    words_in_lanes(key_in_all_lanes(key), rounds_from(first))
 }

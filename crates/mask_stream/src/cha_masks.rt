@@ -2,7 +2,7 @@
 ghost use Rattle.std.specs.Prelude.{◌≡◌, ◌<◌, Some, IsTrue, if◌then◌else◌, nat_lt};
 
 use crate::{Masks, Row};
-use chacha_lanes::{WordRow, stream_word};
+use chacha_lanes::{WordRow, stream_word, words_of_rounds};
 use missing_round::MeterSet;
 use mod_word::Word;
 use pair_keys::KeyTable;
@@ -61,5 +61,13 @@ impl<'k> Masks for ChaMasks<'k> {
             row.put(key);
         }
         row.words()
+    }
+
+    fn own_rounds(&self, group: u16, first: u32, meter: u8) -> [u64; 8] {
+        words_of_rounds(self.keys.own(group, meter), first)
+    }
+
+    fn pair_rounds(&self, group: u16, first: u32, low: u8, high: u8) -> [u64; 8] {
+        words_of_rounds(self.keys.pair(group, low, high), first)
     }
 }

@@ -1,5 +1,5 @@
 //! Tables of mask words.
-ghost use Rattle.std.specs.Prelude.{◌≡◌, ◌<◌, IsTrue, map};
+ghost use Rattle.std.specs.Prelude.{◌≡◌, ℕ, ◌+◌, ◌^◌, ◌<◌, IsTrue, map, slice_index};
 ghost use Rattle.std.specs.List.{list_all};
 ghost use Rattle.group_plan.specs.Plans.{PlanView, is_place};
 ghost use Rattle.missing_round.specs.Masks.{Masks as MaskTable};
@@ -59,5 +59,32 @@ pub trait Masks {
             row.push(word.value());
         }
         row
+    }
+
+    /// The values of the own words of a meter in eight rounds one after another, `first` and the next seven.
+    fn own_rounds(&self, group: u16, first: u32, meter: u8) -> [u64; 8]
+        requires fits { first + 7 < 2 ^ 32 }
+        requires place { IsTrue (is_place (plan self.now) group (first + 7) meter) }
+        ensures { (j : ℕ) → j < 8 → slice_index result j ≡ (table self.now).own group (first + j) meter }
+    {
+        let mut words = [0; 8];
+        for round in 0..8u32 {
+            words[round as usize] = self.own(group, first + round, meter).value();
+        }
+        words
+    }
+
+    /// The values of the words of a pair of meters, the lower meter first, in eight rounds one after another.
+    fn pair_rounds(&self, group: u16, first: u32, low: u8, high: u8) -> [u64; 8]
+        requires fits { first + 7 < 2 ^ 32 }
+        requires place { IsTrue (is_place (plan self.now) group (first + 7) high) }
+        requires order { low < high }
+        ensures { (j : ℕ) → j < 8 → slice_index result j ≡ (table self.now).pair group (first + j) low high }
+    {
+        let mut words = [0; 8];
+        for round in 0..8u32 {
+            words[round as usize] = self.pair(group, first + round, low, high).value();
+        }
+        words
     }
 }

@@ -1,8 +1,8 @@
 //! Words over tables of masks that are listed.
 
-ghost use Rattle.std.specs.Prelude.{◌+◌, ◌-◌, [], ◌∷◌, replicate, slice_index_or};
+ghost use Rattle.std.specs.Prelude.{◌+◌, ◌-◌, ◌*◌, [], ◌∷◌, replicate, slice_index_or};
 
-use blind_core::{answer, answers, masked, masked_group};
+use blind_core::{answer, answers, masked, masked_group, masked_rounds};
 use mask_stream::Masks;
 use missing_round::MeterSet;
 use mod_word::Word;
@@ -31,24 +31,24 @@ impl Masks for Listed {
     }
 }
 
-// Masks of 64 meters that are all 0, with the number of pair words that were asked.
+// Masks of 64 meters in nine rounds, made of the round and the meters, with the number of pair words that were asked.
 #[derive(Drop)]
 struct Counting {
     asked: AtomicU32,
 }
 
 impl Masks for Counting {
-    ghost plan = { λ s. record { groups = record { name = []; floor = 2; spans = replicate 64 (record { from = 0; until = 1 }) } ∷ []; rounds = 1; w1 = 1; w2 = 2 } };
+    ghost plan = { λ s. record { groups = record { name = []; floor = 2; spans = replicate 64 (record { from = 0; until = 9 }) } ∷ []; rounds = 9; w1 = 1; w2 = 2 } };
 
-    ghost table = { λ s. record { own = λ g r i. 0; pair = λ g r i j. 0 } };
+    ghost table = { λ s. record { own = λ g r i. 1000 * r + i; pair = λ g r i j. 1000000 * r + 1000 * i + j } };
 
-    fn own(&self, _group: u16, _round: u32, _meter: u8) -> Word {
-        Word(0)
+    fn own(&self, _group: u16, round: u32, meter: u8) -> Word {
+        Word(1000 * u64::from(round) + u64::from(meter))
     }
 
-    fn pair(&self, _group: u16, _round: u32, _low: u8, _high: u8) -> Word {
+    fn pair(&self, _group: u16, round: u32, low: u8, high: u8) -> Word {
         self.asked.fetch_add(1, Ordering::SeqCst);
-        Word(0)
+        Word(1_000_000 * u64::from(round) + 1000 * u64::from(low) + u64::from(high))
     }
 }
 
@@ -149,5 +149,23 @@ fn each_pair_word_asked_once(rt: HostRuntime) -> Result<(), Fail> {
     let missing = MeterSet::empty().with(5).with(6);
     let _answers = answers(&masks, 0, 0, &MeterSet::full(4), &missing);
     assert_eq!(rt; masks.asked.load(Ordering::SeqCst), 2016 + 8);
+    Ok(())
+}
+
+#[test]
+fn eight_rounds_as_one_by_one(rt: HostRuntime) -> Result<(), Fail> {
+    let masks = Counting {
+        asked: AtomicU32::new(0),
+    };
+    let all = MeterSet::full(64);
+    let words = masked_rounds(rt.alloc(), &masks, 0, &all, 1, &[[Some(3); 8]; 64])?;
+    assert_eq!(rt; words.len(), 64);
+    assert_eq!(rt; masks.asked.load(Ordering::SeqCst), 8 * 2016);
+    for round in 0..8u32 {
+        let group = masked_group(rt.alloc(), &masks, 0, &all, 1 + round, &[Some(3); 64])?;
+        for (row, word) in words.iter().zip(&group) {
+            assert_eq!(rt; row[round as usize], word.value());
+        }
+    }
     Ok(())
 }
