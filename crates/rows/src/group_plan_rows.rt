@@ -1,7 +1,7 @@
 //! Names, the order in which plans are refused, and readings put into a table.
 
-use crate::fixtures::{group, plan_of_north, reading_tag};
 use group_plan::{GroupPlan, Name, Plan, PlanError, Presence, Readings, Span, SpanError};
+use row_fixtures::{group, plan_of_north, reading_tag};
 use std::alloc::Global;
 use std::test::Fail;
 

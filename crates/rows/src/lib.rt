@@ -1,4 +1,5 @@
-//! Worked rows and outside vectors of the crates below: tests alone, in modules that are named after the crates.
+//! Worked rows and outside vectors of the crates below: tests alone, in modules that are named after the crates. Those of
+//! `twin_worlds` are in `twin_rows`.
 //! They stand here because a crate that has tests is proved twice, so those crates have none of their own.
 #![tactic(auto)]
 
@@ -38,9 +39,3 @@ mod totals_report_book_rows;
 mod totals_report_rows;
 #[cfg(test)]
 mod transcript_text_rows;
-#[cfg(test)]
-mod twin_worlds_rows;
-#[cfg(test)]
-mod twin_worlds_schedule_rows;
-#[cfg(test)]
-mod twin_worlds_table_rows;

@@ -3,12 +3,12 @@
 ghost use Rattle.std.specs.Prelude.{◌≡◌, ◌<◌, ◌≤◌, ◌+◌, ◌^◌, length};
 ghost use Rattle.link_lanes.specs.Racks.{posts_of, spare_of, HasRoom};
 
-use crate::fixtures::reading_tag;
 use group_plan::{Kind, Name, Tag};
 use link_lanes::{
     Arg, ArgError, Burst, Clear, EveryNth, Fate, FateError, Lane, LaneError, LaneRow, Rack,
     RackCause, Rules, Seeded,
 };
+use row_fixtures::reading_tag;
 use std::alloc::Global;
 use std::cell::Cell;
 use std::process::Abort;

@@ -1,8 +1,8 @@
 //! Keys that are put, refused and missing.
 
-use crate::fixtures::group;
 use group_plan::Plan;
 use pair_keys::{KeyError, KeyId, KeyPile};
+use row_fixtures::group;
 use std::test::Fail;
 
 #[test]

@@ -6,13 +6,13 @@ ghost use Rattle.meter_frames.specs.Frames.{FitsKind};
 ghost use Rattle.group_plan.specs.Plans.{members};
 ghost use Rattle.rows.specs.Streets.{streets, street_shape, street_contents, has_reading, own_word, reading_of};
 
-use crate::fixtures::{group, reading_tag, roll};
 use group_book::Book;
 use group_plan::{Kind, Plan, Presence, Readings, Span, Tag};
 use meter_frames::Frame;
 use missing_round::MeterSet;
 use mod_word::Word;
 use plain_transcript::{World, transcript};
+use row_fixtures::{group, reading_tag, roll};
 use std::alloc::{AllocError, Global};
 use std::test::Fail;
 use transcript_log::Event;

@@ -1,9 +1,9 @@
 //! Plan files: their values and their first faults.
 
-use crate::fixtures::reading_tag;
 use group_plan::{PlanError, SpanError};
 use pair_keys::{KeyError, KeyId};
 use plan_files::{FileCause, FileError, PlanFile, read_plan};
+use row_fixtures::reading_tag;
 use std::alloc::{AllocError, Global};
 use std::test::Fail;
 

@@ -1,8 +1,8 @@
 //! Readings files: their values and their first faults.
 
-use crate::fixtures::{group, reading_tag};
 use group_plan::{Plan, Readings, Span};
 use plan_files::{FileCause, FileError, read_readings};
+use row_fixtures::{group, reading_tag};
 use std::alloc::Global;
 use std::test::Fail;
 

@@ -1,9 +1,9 @@
 //! A worked run.
 
-use crate::fixtures::{keys_of_north, plan_of_north, table};
 use collector_workers::Free;
 use link_lanes::Rack;
 use round_machine::Ending;
+use row_fixtures::{keys_of_north, plan_of_north, table};
 use std::test::Fail;
 use tick_run::run_plan;
 use transcript_log::Line;

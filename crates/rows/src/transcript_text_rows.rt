@@ -1,9 +1,9 @@
 //! Texts of transcripts, read and written, and their first faults.
 
-use crate::fixtures::{PLAIN, plan_of_north, reading_tag, with_line};
 use group_plan::{Plan, Span};
 use link_lanes::Fate;
 use round_machine::Verdict;
+use row_fixtures::{PLAIN, plan_of_north, reading_tag, with_line};
 use std::alloc::Global;
 use std::test::Fail;
 use transcript_log::{Entry, Line};

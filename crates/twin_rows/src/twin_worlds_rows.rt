@@ -1,10 +1,9 @@
 //! Masks files of the plain case, the first lines that differ, and the causes that come first.
 
-use crate::fixtures::{
-    LATE, PLAIN, group, is_writable, keys_of_north, plan_of_north, table, with_line,
-};
+use crate::fixtures::{LATE, is_writable};
 use group_plan::{Plan, Span};
 use ideal_masks::Differ;
+use row_fixtures::{PLAIN, group, keys_of_north, plan_of_north, table, with_line};
 use std::alloc::Global;
 use std::test::Fail;
 use transcript_log::Entry;

@@ -5,7 +5,7 @@ ghost use Rattle.std.specs.Prelude.{◌≡◌, ◌+◌, ◌*◌, ◌%◌, ◌<�
 ghost use Rattle.missing_round.specs.Sets.{block_at};
 ghost use Rattle.transcript_log.specs.Rows.{three};
 
-use crate::fixtures::{is_writable, keys_of_north, plan_of_north, put, roll};
+use crate::fixtures::is_writable;
 use group_plan::{Kind, Plan, Readings, Tag};
 use ideal_masks::Differ;
 use link_lanes::Fate;
@@ -14,6 +14,7 @@ use missing_round::MeterSet;
 use mod_word::Word;
 use pair_keys::{KeyId, KeyTable};
 use plain_transcript::{World, transcript};
+use row_fixtures::{keys_of_north, plan_of_north, put, roll};
 use std::alloc::{AllocError, Global};
 use std::test::Fail;
 use transcript_log::{Entry, Event, Line};

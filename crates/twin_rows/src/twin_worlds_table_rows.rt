@@ -5,13 +5,14 @@ ghost use Rattle.group_plan.specs.Plans.{is_place};
 ghost use Rattle.blind_core.specs.Blind.{are_places};
 ghost use Rattle.ideal_masks.specs.Order.{AreOfPlan};
 
-use crate::fixtures::{LATE, group, plan_of_north, reading_tag, table};
+use crate::fixtures::LATE;
 use blind_core::{answer, masked};
 use group_plan::{Plan, Readings};
 use ideal_masks::{MaskTable, Offsets, offsets, shift};
 use mask_stream::Masks;
 use missing_round::MeterSet;
 use mod_word::Word;
+use row_fixtures::{group, plan_of_north, reading_tag, table};
 use std::alloc::Global;
 use std::test::Fail;
 use transcript_text::read;
