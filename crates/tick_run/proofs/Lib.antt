@@ -29,3 +29,4 @@ pub mod RangeLemmas
 pub mod MeterLemmas
 pub mod MetersLemmas
 pub mod RowsOf
+pub mod HiddenLemmas

@@ -15,6 +15,7 @@ use Rattle.transcript_log.proofs.MemberLemmas.{is_member-below}
 use Rattle.run_rows.specs.Ticks.{tag_of}
 use Rattle.group_plan.specs.declared.Kind.TheVariants.{Reading}
 use Rattle.tick_run.specs.TickFrames.{reading_frame, word_frame, IsRow}
+use Rattle.tick_run.specs.Hidden.{Hide}
 
 -- what passes for each number of a range passes for those that are kept of it
 pub all_in_range : (p q : ℕ → Bool) (a n : ℕ) → ((i : ℕ) → i < a + n → p i ≡ true) → list_all p (filter q (range_with_len a n)) ≡ true
@@ -78,12 +79,15 @@ word_is readings m g r row words is are i below present = step (reading readings
         let frame : ℕ → Frame = λ w. record { tag = tag_of Reading g r i; missing = []; word = w } in
         ap frame (word ∙ ap (λ (o : Option ℕ). word_or_0 (m.own g r) (m.pair g r) (members readings.plan.groups g r) i (Some (unwrap_or o 0))) (sym at))
 
--- the frames with the words of a row are those of its readings
-pub word-frames : (readings : ReadingsView) (m : Masks) (g r : ℕ) (row : List (Option ℕ)) (words : List ℕ) → IsRow readings g r row
-    → AreGroupWords (m.own g r) (m.pair g r) (members readings.plan.groups g r) row words
-    → map (word_frame g r words) (filter (λ i. is_some (slice_index_or row i None)) (members readings.plan.groups g r))
+-- as many words as the group has meters
+pub hide-long : (readings : ReadingsView) (m : Masks) (g r : ℕ) (words : List ℕ) → Hide readings m g r words → length words ≡ size readings.plan.groups g
+hide-long readings m g r words hide = hide.are.long ∙ hide.is.long
+
+-- the frames with the words that hide the readings of a group are those of its readings
+pub word-frames : (readings : ReadingsView) (m : Masks) (g r : ℕ) (words : List ℕ) → Hide readings m g r words
+    → map (word_frame g r words) (filter (λ i. is_some (reading readings.table g r i)) (members readings.plan.groups g r))
     ≡ map (reading_frame readings.plan.groups (reading readings.table) m g r) (filter (λ i. is_some (reading readings.table g r i)) (members readings.plan.groups g r))
-word-frames readings m g r row words is are =
-    map_filter_same (λ i. is_some (slice_index_or row i None)) (λ i. is_some (reading readings.table g r i)) (word_frame g r words)
-    (reading_frame readings.plan.groups (reading readings.table) m g r) (length row) (members readings.plan.groups g r) (members-below readings.plan.groups g r (length row) is.long)
-    (λ i below. ap is_some (is.each i below)) (word_is readings m g r row words is are)
+word-frames readings m g r words hide =
+    map_filter_same (λ i. is_some (reading readings.table g r i)) (λ i. is_some (reading readings.table g r i)) (word_frame g r words)
+    (reading_frame readings.plan.groups (reading readings.table) m g r) (length hide.row) (members readings.plan.groups g r) (members-below readings.plan.groups g r (length hide.row) hide.is.long)
+    (λ i below. refl) (word_is readings m g r hide.row words hide.is hide.are)

@@ -10,15 +10,17 @@ use Rattle.meter_frames.specs.declared.Frame.{Frame}
 use Rattle.transcript_log.specs.Schedule.{members_of}
 use Rattle.group_book.specs.Books.{BookView, shape_of, past}
 use Rattle.tick_run.specs.declared.group.GroupFrames.{GroupFrames}
+use Rattle.tick_run.specs.declared.known.Known.{Known}
+use Rattle.tick_run.specs.Hidden.{IsOfOnePlan}
 use Rattle.tick_run.specs.Running.{run_shape}
 use Rattle.tick_run.specs.TickFrames.{reading_frame, announcements_at, answers_to, AreAnswerable}
 
--- the masks are of these readings, the group is one of the plan's, and what came can be answered
-pub record CanSend (readings : ReadingsView) (plan : PlanView) (came : List Frame) (t g : ℕ) : Type 0 where
-  pub masks : plan ≡ readings.plan
-  pub group : g < length readings.plan.groups
+-- what the meters have is of one plan, the group is one of the plan's, and what came can be answered
+pub record CanSend (known : Known) (came : List Frame) (t g : ℕ) : Type 0 where
+  pub are : IsOfOnePlan known
+  pub group : g < length known.readings.now.plan.groups
   pub few : g < 256
-  pub can : AreAnswerable readings.plan t came
+  pub can : AreAnswerable known.readings.now.plan t came
 
 -- the readings of group g at tick t
 abbrev pub readings_at : ReadingsView → Masks → ℕ → ℕ → List Frame

@@ -8,3 +8,4 @@ pub mod Sending
 pub mod Batches
 pub mod Meters
 pub mod Hearers
+pub mod Hidden

@@ -2,55 +2,50 @@
 
 ghost use Rattle.std.specs.Prelude.{◌≡◌, ◌<◌, length, IfOk};
 ghost use Rattle.std.specs.List.{AllZip, range_with_len};
-ghost use Rattle.mask_stream.specs.ChaMaskTables.{plan_of, words_of};
+ghost use Rattle.mask_stream.specs.ChaMaskTables.{words_of};
+ghost use Rattle.tick_run.specs.Hidden.{IsOfOnePlan};
 ghost use Rattle.tick_run.specs.Jobs.{CanSend, AreGroupFrames};
 ghost use Rattle.tick_run.specs.TickFrames.{AreAnswerable};
 
 use crate::group::{GroupFrames, group_frames};
-use group_plan::{GroupPlan, Readings};
-use mask_stream::ChaMasks;
+use crate::known::Known;
+use crate::pieces::items_a_piece;
 use meter_frames::Frame;
 use rayon::prelude::*;
 use std::alloc::{AllocError, Global};
 use std::thread::Threads;
 
-// As many mask words as are worth a thread.
-const WORDS_A_PIECE: usize = 20_000;
-
-// How many groups make about as many mask words in a round as are worth a thread: at least one.
-fn groups_a_piece(groups: &[GroupPlan]) -> usize {
+/// How many mask words the answers to these announcements take: of each, an own word and one for each missing meter.
+fn words_of_answers(came: &[Frame]) -> usize {
     let mut words = 0usize;
-    for group in groups {
-        let meters = group.meters as usize;
-        words = words.saturating_add(meters * (meters + 1) / 2);
+    for frame in came {
+        words = words.saturating_add(1 + usize::from(frame.missing.len()));
     }
-    let each = words / groups.len().max(1);
-    (WORDS_A_PIECE / each.max(1)).max(1)
+    words
 }
 
 /// What the meters of each group send at a tick, group by group, or that there was no memory for it.
 pub(crate) fn all_groups(
     rt: &(impl Threads + Sync),
     alloc: Global,
-    readings: &Readings,
-    masks: &ChaMasks,
+    known: &Known,
     came: &[Frame],
     tick: u32,
 ) -> Result<Vec<Result<GroupFrames, AllocError>>, AllocError>
-    requires masks { plan_of masks.now ≡ readings.now.plan }
-    requires came { AreAnswerable readings.now.plan tick came.now }
-    ensures { IfOk result (λ groups. AllZip (λ g sent. IfOk sent (AreGroupFrames readings.now (words_of masks.now) came.now tick g))
-        (range_with_len 0 (length readings.now.plan.groups)) groups.items) }
+    requires known { IsOfOnePlan known.now }
+    requires came { AreAnswerable known.now.readings.now.plan tick came.now }
+    ensures { IfOk result (λ groups. AllZip (λ g sent. IfOk sent (AreGroupFrames known.now.readings.now (words_of known.now.masks.now) came.now tick g))
+        (range_with_len 0 (length known.now.readings.now.plan.groups)) groups.items) }
 {
-    let groups = readings.plan().groups();
-    (0..groups.len())
+    let groups = known.readings.plan().groups().len();
+    (0..groups)
         .into_par_iter()
-        .with_min_len(groups_a_piece(groups))
+        .with_min_len(items_a_piece(words_of_answers(came), groups))
         .map(
             |group: usize| -> Result<GroupFrames, AllocError>
-                requires { CanSend readings.now (plan_of masks.now) came.now tick group }
-                ensures { IfOk result (AreGroupFrames readings.entry.now (words_of masks.entry.now) came.entry.now tick group) }
-            { group_frames(alloc, readings, masks, came, tick, group as u16) },
+                requires { CanSend known.now came.now tick group }
+                ensures { IfOk result (AreGroupFrames known.entry.now.readings.now (words_of known.entry.now.masks.now) came.entry.now tick group) }
+            { group_frames(alloc, known, came, tick, group as u16) },
         )
         .collect(rt, alloc)
 }

@@ -11,6 +11,7 @@ ghost use Rattle.run_rows.specs.Ticks.{clock_of};
 ghost use Rattle.shared_book.specs.declared.parcel.Parcel.TheVariants.{Bytes, Close as CloseParcel, End as EndParcel};
 
 use crate::RunError;
+use crate::context::Crew;
 use crate::running::Running;
 use collector_workers::{Collected, Gate, collect};
 use group_plan::Plan;
@@ -61,15 +62,12 @@ fn push_lines(transcript: &mut Transcript, lines: &[Line], tick: u32) -> Result<
 
 /// Commits a batch by workers, and adds the lines that the book gained to the transcript at the tick.
 fn commit_batch<R: Threads + Wait + Sync, G: Gate>(
-    rt: &R,
-    alloc: Global,
+    crew: &Crew<R, G>,
     run: Running,
     batch: Vec<Parcel>,
     tick: u32,
-    workers: u32,
-    gate: &G,
 ) -> Result<Running, RunError>
-    requires workers { (1 ≤ workers) × (workers ≤ 16) }
+    requires workers { (1 ≤ crew.now.workers) × (crew.now.workers ≤ 16) }
     requires later { last_tick_from 0 run.transcript.entries ≤ tick }
     requires plan { run.transcript.plan ≡ run.book.presence.plan }
     ensures { (events : List Event) → Ask run.book events batch.items → IfOk result (λ after. Batched tick events run.book after.book run.transcript after.transcript run.link after.link) }
@@ -83,7 +81,7 @@ fn commit_batch<R: Threads + Wait + Sync, G: Gate>(
         link,
     } = run;
     let before = book.journal().len();
-    match collect(rt, alloc, book, batch, workers, gate) {
+    match collect(crew.rt, crew.alloc, book, batch, crew.workers, crew.gate) {
         Err(_) => Err(RunError::Memory),
         Ok(collected) => {
             let Collected { book, replies: _ } = collected;
@@ -99,22 +97,19 @@ fn commit_batch<R: Threads + Wait + Sync, G: Gate>(
 
 /// Takes the copies that came in at the tick, by workers, in any order.
 pub(crate) fn take_copies<R: Threads + Wait + Sync, G: Gate>(
-    rt: &R,
-    alloc: Global,
+    crew: &Crew<R, G>,
     run: Running,
     copies: &[[u8; 52]],
     tick: u32,
-    workers: u32,
-    gate: &G,
 ) -> Result<Running, RunError>
-    requires workers { (1 ≤ workers) × (workers ≤ 16) }
+    requires workers { (1 ≤ crew.now.workers) × (crew.now.workers ≤ 16) }
     requires later { last_tick_from 0 run.transcript.entries ≤ tick }
     requires plan { run.transcript.plan ≡ run.book.presence.plan }
     requires copies { All (CanTake run.book) copies.now }
     ensures { IfOk result (λ after. Batched tick (map Take (tags_of (frames_in copies.now))) run.book after.book run.transcript after.transcript run.link after.link) }
 {
-    let batch = parcels_in(alloc, copies)?;
-    commit_batch(rt, alloc, run, batch, tick, workers, gate)
+    let batch = parcels_in(crew.alloc, copies)?;
+    commit_batch(crew, run, batch, tick)
 }
 
 /// The round of which the window ends at the tick.
@@ -157,18 +152,15 @@ fn calls_at(alloc: Global, plan: &Plan, tick: u32) -> Result<Vec<Parcel>, AllocE
 
 /// Closes and ends the rounds that are due at the tick, by workers, in any order.
 pub(crate) fn close_rounds<R: Threads + Wait + Sync, G: Gate>(
-    rt: &R,
-    alloc: Global,
+    crew: &Crew<R, G>,
     run: Running,
     tick: u32,
-    workers: u32,
-    gate: &G,
 ) -> Result<Running, RunError>
-    requires workers { (1 ≤ workers) × (workers ≤ 16) }
+    requires workers { (1 ≤ crew.now.workers) × (crew.now.workers ≤ 16) }
     requires later { last_tick_from 0 run.transcript.entries ≤ tick }
     requires plan { run.transcript.plan ≡ run.book.presence.plan }
     ensures { IfOk result (λ after. Batched tick (calls_due (clock_of run.book.presence.plan) (length run.book.presence.plan.groups) tick) run.book after.book run.transcript after.transcript run.link after.link) }
 {
-    let batch = calls_at(alloc, run.book.plan(), tick)?;
-    commit_batch(rt, alloc, run, batch, tick, workers, gate)
+    let batch = calls_at(crew.alloc, run.book.plan(), tick)?;
+    commit_batch(crew, run, batch, tick)
 }

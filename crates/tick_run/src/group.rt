@@ -1,18 +1,19 @@
 //! All frames that the meters of a group send at a tick: their readings, and their answers to what came.
 
 ghost use Rattle.std.specs.Prelude.{◌≡◌, ◌++◌, ◌<◌, List, [], ◌∷◌, true, filter, length, IfOk, OnOk, map};
-ghost use Rattle.mask_stream.specs.ChaMaskTables.{plan_of, words_of};
+ghost use Rattle.mask_stream.specs.ChaMaskTables.{words_of};
 ghost use Rattle.group_plan.specs.declared.Kind.TheVariants.{Announcement};
 ghost use Rattle.run_rows.specs.Ticks.{tag_of};
 ghost use Rattle.tick_run.specs.OnTheWay.{tags_of};
 ghost use Rattle.tick_run.specs.TickFrames.{was_taken, announced_set, answers_to, CanAnswer, AreAnswerable, is_announcement_in, is_announcement_to};
 ghost use Rattle.tick_run.specs.Jobs.{readings_at, answers_at, AreGroupFrames};
 ghost use Rattle.tick_run.specs.Hearers.{HearsToo, AreHearers};
+ghost use Rattle.tick_run.specs.Hidden.{IsOfOnePlan};
 ghost use Rattle.meter_frames.specs.declared.Frame.{Frame};
 
 use crate::frames::{add_answers, add_readings};
-use group_plan::{Kind, Readings, Tag};
-use mask_stream::ChaMasks;
+use crate::known::Known;
+use group_plan::{Kind, Tag};
 use meter_frames::Frame;
 use missing_round::MeterSet;
 use std::alloc::{AllocError, Global};
@@ -100,22 +101,20 @@ fn hearers_in(came: &[Frame], group: u16, round: u32) -> Hearers
 
 /// Adds the readings of the round that starts at the tick.
 fn add_reading_frames(
-    alloc: Global,
-    masks: &ChaMasks,
-    readings: &Readings,
+    known: &Known,
     group: u16,
     tick: u32,
     frames: &mut Vec<Frame>,
 ) -> Result<(), AllocError>
-    requires masks { plan_of masks.now ≡ readings.now.plan }
-    requires group { group < length readings.now.plan.groups }
-    ensures { OnOk result (frames.new.items ≡ frames.old.items ++ readings_at readings.now (words_of masks.now) tick group) }
+    requires known { IsOfOnePlan known.now }
+    requires group { group < length known.now.readings.now.plan.groups }
+    ensures { OnOk result (frames.new.items ≡ frames.old.items ++ readings_at known.now.readings.now (words_of known.now.masks.now) tick group) }
 {
-    if tick >= readings.plan().rounds() {
+    if tick >= known.readings.plan().rounds() {
         return Ok(());
     }
-    let members = members(readings.plan(), group, tick);
-    add_readings(alloc, masks, readings, group, tick, &members, frames)
+    let members = members(known.readings.plan(), group, tick);
+    add_readings(known, group, tick, &members, frames)
 }
 
 /// Whether it is an announcement to a meter of this group.
@@ -140,45 +139,42 @@ fn announcements_to(alloc: Global, came: &[Frame], group: u16) -> Result<Vec<Fra
 
 /// Adds the answers of a round to the announcements that came.
 fn add_answers_of(
-    readings: &Readings,
-    masks: &ChaMasks,
+    known: &Known,
     came: &[Frame],
     group: u16,
     round: u32,
     frames: &mut Vec<Frame>,
 ) -> Result<(), AllocError>
-    requires masks { plan_of masks.now ≡ readings.now.plan }
-    requires group { group < length readings.now.plan.groups }
-    requires round { round < readings.now.plan.rounds }
-    requires can { (i : _) → was_taken (tags_of came.now) (tag_of Announcement group round i) ≡ true → CanAnswer readings.now.plan group round i (announced_set came.now (tag_of Announcement group round i)) }
-    ensures { OnOk result (frames.new.items ≡ frames.old.items ++ answers_to readings.now.plan.groups (words_of masks.now) came.now group round) }
+    requires known { IsOfOnePlan known.now }
+    requires group { group < length known.now.readings.now.plan.groups }
+    requires round { round < known.now.readings.now.plan.rounds }
+    requires can { (i : _) → was_taken (tags_of came.now) (tag_of Announcement group round i) ≡ true → CanAnswer known.now.readings.now.plan group round i (announced_set came.now (tag_of Announcement group round i)) }
+    ensures { OnOk result (frames.new.items ≡ frames.old.items ++ answers_to known.now.readings.now.plan.groups (words_of known.now.masks.now) came.now group round) }
 {
     let hearers = hearers_in(came, group, round);
-    let members = members(readings.plan(), group, round);
-    add_answers(masks, group, round, &members, &hearers, came, frames)
+    add_answers(known, group, round, &hearers, came, frames)
 }
 
 /// Adds the answers to the announcements that came: their rounds closed at most 16 ticks before.
 fn add_answer_frames(
     alloc: Global,
-    readings: &Readings,
-    masks: &ChaMasks,
+    known: &Known,
     came: &[Frame],
     group: u16,
     tick: u32,
     frames: &mut Vec<Frame>,
 ) -> Result<(), AllocError>
-    requires masks { plan_of masks.now ≡ readings.now.plan }
-    requires group { group < length readings.now.plan.groups }
-    requires came { AreAnswerable readings.now.plan tick came.now }
-    ensures { OnOk result (frames.new.items ≡ frames.old.items ++ answers_at readings.now.plan (words_of masks.now) came.now group) }
+    requires known { IsOfOnePlan known.now }
+    requires group { group < length known.now.readings.now.plan.groups }
+    requires came { AreAnswerable known.now.readings.now.plan tick came.now }
+    ensures { OnOk result (frames.new.items ≡ frames.old.items ++ answers_at known.now.readings.now.plan (words_of known.now.masks.now) came.now group) }
 {
     let own = announcements_to(alloc, came, group)?;
-    let closed = tick.saturating_sub(readings.plan().w1());
-    let until = closed.min(readings.plan().rounds());
+    let closed = tick.saturating_sub(known.readings.plan().w1());
+    let until = closed.min(known.readings.plan().rounds());
     let first = closed.saturating_sub(16).min(until);
     for round in first..until {
-        add_answers_of(readings, masks, &own, group, round, frames)?;
+        add_answers_of(known, &own, group, round, frames)?;
     }
     Ok(())
 }
@@ -186,21 +182,20 @@ fn add_answer_frames(
 /// The frames that the meters of a group send at a tick, after these announcements came to them.
 pub(crate) fn group_frames(
     alloc: Global,
-    readings: &Readings,
-    masks: &ChaMasks,
+    known: &Known,
     came: &[Frame],
     tick: u32,
     group: u16,
 ) -> Result<GroupFrames, AllocError>
-    requires masks { plan_of masks.now ≡ readings.now.plan }
-    requires group { group < length readings.now.plan.groups }
-    requires came { AreAnswerable readings.now.plan tick came.now }
-    ensures { IfOk result (λ sent. AreGroupFrames readings.now (words_of masks.now) came.now tick group sent) }
+    requires known { IsOfOnePlan known.now }
+    requires group { group < length known.now.readings.now.plan.groups }
+    requires came { AreAnswerable known.now.readings.now.plan tick came.now }
+    ensures { IfOk result (λ sent. AreGroupFrames known.now.readings.now (words_of known.now.masks.now) came.now tick group sent) }
 {
     let mut first = Vec::new(alloc);
-    add_reading_frames(alloc, masks, readings, group, tick, &mut first)?;
+    add_reading_frames(known, group, tick, &mut first)?;
     let mut answers = Vec::new(alloc);
-    add_answer_frames(alloc, readings, masks, came, group, tick, &mut answers)?;
+    add_answer_frames(alloc, known, came, group, tick, &mut answers)?;
     Ok(GroupFrames {
         readings: first,
         answers,

@@ -4,10 +4,14 @@
 mod all_groups;
 mod announcements;
 mod batches;
+mod context;
 mod frames;
 mod group;
+mod hidden;
+mod known;
 mod meter_side;
 mod meters;
+mod pieces;
 mod run;
 mod running;
 mod sends;

@@ -3,16 +3,16 @@
 ghost use Rattle.std.specs.Prelude.{◌≡◌, ◌+◌, All, length, IfOk, OnOk};
 ghost use Rattle.std.specs.List.{AllZip, range_with_len};
 ghost use Rattle.group_book.specs.Books.{BookView};
-ghost use Rattle.mask_stream.specs.ChaMaskTables.{plan_of, words_of};
+ghost use Rattle.mask_stream.specs.ChaMaskTables.{words_of};
 ghost use Rattle.tick_run.specs.OnTheWay.{frames_in, IsSpelling};
 ghost use Rattle.tick_run.specs.Jobs.{AreGroupFrames};
+ghost use Rattle.tick_run.specs.Hidden.{IsOfOnePlan};
 ghost use Rattle.tick_run.specs.Meters.{AreMeters, book_of, announcements, AreTold, CanHearNow, HaveHeard};
 
 use crate::all_groups::all_groups;
 use crate::group::GroupFrames;
+use crate::known::Known;
 use crate::meters::{Meters, came_in};
-use group_plan::Readings;
-use mask_stream::ChaMasks;
 use std::alloc::{AllocError, Global};
 use std::thread::Threads;
 
@@ -22,22 +22,21 @@ pub(crate) fn meters_send(
     rt: &(impl Threads + Sync),
     alloc: Global,
     meters: &mut Meters,
-    readings: &Readings,
-    masks: &ChaMasks,
+    known: &Known,
     copies: &[[u8; 52]],
     tick: u32,
 ) -> Result<Vec<Result<GroupFrames, AllocError>>, AllocError>
-    requires masks { plan_of masks.now ≡ readings.now.plan }
+    requires known { IsOfOnePlan known.now }
     requires spelled { All IsSpelling copies.now }
-    requires can { CanHearNow readings.now tick meters.old (frames_in copies.now) }
-    ensures meters { (b : BookView) → AreMeters (book_of readings.now b) tick meters.old → AreTold (book_of readings.now b) (tick + 1) (frames_in copies.now) →
-        OnOk result (AreMeters (book_of readings.now b) (tick + 1) meters.new) }
+    requires can { CanHearNow known.now.readings.now tick meters.old (frames_in copies.now) }
+    ensures meters { (b : BookView) → AreMeters (book_of known.now.readings.now b) tick meters.old → AreTold (book_of known.now.readings.now b) (tick + 1) (frames_in copies.now) →
+        OnOk result (AreMeters (book_of known.now.readings.now b) (tick + 1) meters.new) }
     ensures heard { OnOk result (HaveHeard meters.new (frames_in copies.now)) }
-    ensures sent { IfOk result (λ groups. AllZip (λ g sent. IfOk sent (AreGroupFrames readings.now (words_of masks.now) (announcements (frames_in copies.now)) tick g))
-        (range_with_len 0 (length readings.now.plan.groups)) groups.items) }
+    ensures sent { IfOk result (λ groups. AllZip (λ g sent. IfOk sent (AreGroupFrames known.now.readings.now (words_of known.now.masks.now) (announcements (frames_in copies.now)) tick g))
+        (range_with_len 0 (length known.now.readings.now.plan.groups)) groups.items) }
 {
-    meters.read(readings, tick);
+    meters.read(known.readings, tick);
     let came = came_in(alloc, copies)?;
     let answered = meters.answered(alloc, &came)?;
-    all_groups(rt, alloc, readings, masks, &answered, tick)
+    all_groups(rt, alloc, known, &answered, tick)
 }

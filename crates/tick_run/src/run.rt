@@ -5,7 +5,7 @@ ghost use Rattle.group_plan.specs.Plans.{last_tick, IsWithinLimits};
 ghost use Rattle.group_plan.specs.Tables.{IsPresenceTable, IsReadingTable};
 ghost use Rattle.link_lanes.specs.Lanes.{Slot};
 ghost use Rattle.link_lanes.specs.Racks.{slots, posts_of, HasRoom};
-ghost use Rattle.mask_stream.specs.ChaMaskTables.{plan_of, words_of};
+ghost use Rattle.mask_stream.specs.ChaMaskTables.{words_of};
 ghost use Rattle.pair_keys.specs.Keys.{table_of};
 ghost use Rattle.run_rows.specs.Ticks.{posts_of as posts_of_entries};
 ghost use Rattle.transcript_log.specs.Journal.{IsJournalAfter};
@@ -13,9 +13,13 @@ ghost use Rattle.group_book.specs.Books.{shape_of};
 ghost use Rattle.tick_run.specs.Running.{IsRunning, starting};
 ghost use Rattle.tick_run.specs.Sending.{KeptFates};
 ghost use Rattle.tick_run.specs.Finished.{IsFinished, HasRowsOf};
+ghost use Rattle.tick_run.specs.Hidden.{IsOfOnePlan};
 ghost use Rattle.tick_run.specs.Meters.{AreMeters};
 
 use crate::RunError;
+use crate::context::{Context, Crew};
+use crate::hidden::HiddenReadings;
+use crate::known::Known;
 use crate::meters::Meters;
 use crate::running::Running;
 use crate::tick::run_tick;
@@ -40,30 +44,23 @@ pub struct Finished {
 
 /// Makes all ticks, from 0 to the last.
 fn run_ticks<R: Threads + Wait + Sync, G: Gate>(
-    rt: &R,
-    alloc: Global,
+    context: &Context<R, G>,
     run: Running,
     meters: &mut Meters,
     rack: &mut Rack,
-    readings: &Readings,
-    masks: &ChaMasks,
-    workers: u32,
-    gate: &G,
 ) -> Result<Running, RunError>
-    requires running { IsRunning readings.now (words_of masks.now) (starting 0) run.book run.transcript run.link }
+    requires running { IsRunning context.now.known.readings.now (words_of context.now.known.masks.now) (starting 0) run.book run.transcript run.link }
     requires meters { AreMeters run.book 0 meters.old }
-    requires masks { plan_of masks.now ≡ readings.now.plan }
-    requires workers { (1 ≤ workers) × (workers ≤ 16) }
+    requires known { IsOfOnePlan context.now.known }
+    requires workers { (1 ≤ context.now.crew.workers) × (context.now.crew.workers ≤ 16) }
     requires room { HasRoom (λ b. meaning (b.vtable, b.value)) rack.old }
-    ensures running { IfOk result (λ after. IsRunning readings.now (words_of masks.now) (starting (last_tick readings.now.plan + 1)) after.book after.transcript after.link) }
+    ensures running { IfOk result (λ after. IsRunning context.now.known.readings.now (words_of context.now.known.masks.now) (starting (last_tick context.now.known.readings.now.plan + 1)) after.book after.transcript after.link) }
     ensures fates { (hung : List Slot) → KeptFates hung 0 run.transcript.entries (slots (λ b. meaning (b.vtable, b.value)) rack.old) (posts_of rack.old) →
-        IfOk result (λ after. KeptFates hung (last_tick readings.now.plan + 1) after.transcript.entries (slots (λ b. meaning (b.vtable, b.value)) rack.new) (posts_of rack.new)) }
+        IfOk result (λ after. KeptFates hung (last_tick context.now.known.readings.now.plan + 1) after.transcript.entries (slots (λ b. meaning (b.vtable, b.value)) rack.new) (posts_of rack.new)) }
 {
     let mut run = run;
-    for tick in 0..readings.plan().last_tick() + 1 {
-        run = run_tick(
-            rt, alloc, run, meters, rack, readings, masks, tick, workers, gate,
-        )?;
+    for tick in 0..context.known.readings.plan().last_tick() + 1 {
+        run = run_tick(context, run, meters, rack, tick)?;
     }
     Ok(run)
 }
@@ -154,21 +151,25 @@ pub fn run_plan<R: Threads + Wait + Sync, G: Gate>(
         link: Link::new(alloc),
     };
     let mut meters = Meters::new(alloc, readings)?;
+    let hidden = HiddenReadings::new(rt, alloc, readings, &masks)?;
+    let context = Context {
+        crew: Crew {
+            rt,
+            alloc,
+            workers,
+            gate,
+        },
+        known: Known {
+            readings,
+            masks: &masks,
+            hidden: &hidden,
+        },
+    };
     let Running {
         book,
         transcript,
         link: _,
-    } = run_ticks(
-        rt,
-        alloc,
-        run,
-        &mut meters,
-        rack,
-        readings,
-        &masks,
-        workers,
-        gate,
-    )?;
+    } = run_ticks(&context, run, &mut meters, rack)?;
     lines_are_legal(&book);
     Ok(Finished { book, transcript })
 }

@@ -4,7 +4,7 @@ use Rattle.group_plan.specs.Plans.{IsWithinLimits}
 use Rattle.std.specs.List.{range_with_len, AllZip}
 use Rattle.std.proofs.lemmas.List.{length-map}
 use Rattle.group_plan.specs.NewPlans.{stated}
-use Rattle.mask_stream.specs.ChaMaskTables.{plan_of, words_of}
+use Rattle.mask_stream.specs.ChaMaskTables.{words_of}
 use Rattle.rayon.specs.Numbers.{nat_range}
 use Rattle.rayon.proofs.ListFacts.{IfOk-then}
 use Rattle.rayon.proofs.ToStd.{nat_range-All}
@@ -15,13 +15,13 @@ use Rattle.tick_run.proofs.all_groups.all_groups.Goals as goal
 pub collect-requires-clause-ready : goal.collect-requires-clause-ready
 collect-requires-clause-ready g c κs within =
     let ends = c.into_par_iter.ensures in
-    let readings = c.args.readings.now in
+    let readings = c.args.known.now.readings.now in
     let n : length c.groups-groups.result.now ≡ length readings.plan.groups = ap length (c.groups-groups.ensures.groups ∙ ap (λ p. map stated p.groups) c.plan.ensures.plan) ∙ length-map (readings.plan.groups) stated in
     let limits : IsWithinLimits readings.plan = subst IsWithinLimits c.plan.ensures.plan c.groups-groups.ensures.limits in
     let most : length readings.plan.groups ≤ 256 = limits.groups in
-    let inside = nat_range-All (λ i. CanSend readings (plan_of c.args.masks.now) c.args.came.now c.args.tick i) 0 (length c.groups-groups.result.now)
+    let inside = nat_range-All (CanSend c.args.known.now c.args.came.now c.args.tick) 0 (length c.groups-groups.result.now)
     (λ i low high. record {
-      masks = c.requires.masks;
+      are = c.requires.known;
       group = omega arith;
       few = omega arith;
       can = c.requires.came;
@@ -33,13 +33,14 @@ returns g c =
     let ends = c.into_par_iter.ensures in
     let start = ap (λ r. r.start) c.with_min_len.ensures.base ∙ ends.0 in
     let end = ap (λ r. r.end) c.with_min_len.ensures.base ∙ ends.1 in
-    let readings = c.args.readings.now in
+    let readings = c.args.known.now.readings.now in
     let m = length c.groups-groups.result.now in
     let whole : m - 0 ≡ m = omega arith in
     let n : m ≡ length readings.plan.groups = ap length (c.groups-groups.ensures.groups ∙ ap (λ p. map stated p.groups) c.plan.ensures.plan) ∙ length-map (readings.plan.groups) stated in
-    IfOk-then c.collect.result _ _ c.collect.ensures (λ v h.
-    let chain = rw (c.map.ensures.base, c.map.ensures.f) at h.1 in
-    let places = chain.1 ∙ (λ i. nat_range (start i) (end i)) ∙ ap (range_with_len 0) (whole ∙ n) in
     let P : ℕ → Result GroupFrames AllocError → Type 0
-    = λ k sent. IfOk sent (AreGroupFrames readings (words_of c.args.masks.now) c.args.came.now c.args.tick k) in
-    subst (λ (xs : List ℕ). AllZip P xs v.items) places (subst (λ (ys : List (Result GroupFrames AllocError)). AllZip P chain.0 ys) (sym h.2) chain.2))
+    = λ k sent. IfOk sent (AreGroupFrames readings (words_of c.args.known.now.masks.now) c.args.came.now c.args.tick k) in
+    IfOk-then c.collect.result _ _ c.collect.ensures (λ v h.
+    let chain = rw c.map.ensures.base at h.1 in
+    let sent : AllZip P chain.0 h.0 = subst (λ f. AllZip (λ k sent. IfOk sent (AreGroupFrames f.1.now.readings.now (words_of f.1.now.masks.now) f.2.now f.3.now k)) chain.0 h.0) c.map.ensures.f chain.2 in
+    let places = chain.1 ∙ (λ i. nat_range (start i) (end i)) ∙ ap (range_with_len 0) (whole ∙ n) in
+    subst (λ (xs : List ℕ). AllZip P xs v.items) places (subst (λ (ys : List (Result GroupFrames AllocError)). AllZip P chain.0 ys) (sym h.2) sent))

@@ -14,7 +14,7 @@ pub add_answers_of-requires-clause-can : goal.add_answers_of-requires-clause-can
 add_answers_of-requires-clause-can c =
     let g = c.args.group in
     let r = c.loop-round.round in
-    let plan = c.args.readings.now.plan in
+    let plan = c.args.known.now.readings.now.plan in
     let came = c.args.came.now in
     let own : c.deref.result.now ≡ filter (λ f. is_announcement_to g f.tag) came = c.deref.ensures.value ∙ c.in_ok-own.ensures in
     subst (λ (l : List Frame). (i : _) → was_taken (tags_of l) (tag_of Announcement g r i) ≡ true → CanAnswer plan g r i (announced_set l (tag_of Announcement g r i))) (sym own)
@@ -22,8 +22,8 @@ add_answers_of-requires-clause-can c =
 
 pub loop-round-preserved : goal.loop-round-preserved
 loop-round-preserved c =
-    let groups = c.args.readings.now.plan.groups in
-    let F = answers_to groups (words_of c.args.masks.now) c.in_ok-own.own.items c.args.group in
+    let groups = c.args.known.now.readings.now.plan.groups in
+    let F = answers_to groups (words_of c.args.known.now.masks.now) c.in_ok-own.own.items c.args.group in
     let first = c.min-first.result in
     let r = c.loop-round.round in
     let was = c.loop-round.invariant in
@@ -31,7 +31,7 @@ loop-round-preserved c =
       from = let le : first ≤ r = was.from in omega arith;
       to = let lt : r < c.min-until.result = c.loop-round-test.true in omega arith;
       frames = c.in_ok-add_answers_of.ensures
-          ∙ ap (λ (l : List Frame). c.loop-round.frames.items ++ answers_to groups (words_of c.args.masks.now) l c.args.group r) c.deref.ensures.value
+          ∙ ap (λ (l : List Frame). c.loop-round.frames.items ++ answers_to groups (words_of c.args.known.now.masks.now) l c.args.group r) c.deref.ensures.value
           ∙ ap (λ l. l ++ F r) was.frames
           ∙ append_assoc c.args.frames.now.items (flat_map F (range_with_len first (r - first))) (F r)
           ∙ ap (λ l. c.args.frames.now.items ++ l) (sym (flat_more F first r was.from));
@@ -39,8 +39,8 @@ loop-round-preserved c =
 
 pub returns : goal.returns
 returns c =
-    let plan = c.args.readings.now.plan in
-    let m = words_of c.args.masks.now in
+    let plan = c.args.known.now.readings.now.plan in
+    let m = words_of c.args.known.now.masks.now in
     let g = c.args.group in
     let t = c.args.tick in
     let first = c.min-first.result in

@@ -1,4 +1,4 @@
-use Rattle.std.proofs.Common.{◌≡◌, ◌++◌, sym, ap, ◌∙◌, subst, OnOk}
+use Rattle.std.proofs.Common.{◌≡◌, ◌++◌, refl, sym, ◌∙◌, subst, OnOk}
 use Rattle.group_plan.specs.Plans.{PlanView, members}
 use Rattle.group_plan.specs.declared.Kind.TheVariants.{Announcement}
 use Rattle.mask_stream.specs.ChaMaskTables.{words_of}
@@ -9,14 +9,12 @@ use Rattle.tick_run.proofs.group.add_answers_of.Goals as goal
 
 pub add_answers-requires-clause-can : goal.add_answers-requires-clause-can
 add_answers-requires-clause-can c = λ i is.
-    subst (λ (p : PlanView). CanAnswer p c.args.group c.args.round i (announced_set c.args.came.now (tag_of Announcement c.args.group c.args.round i))) (sym c.requires.masks)
+    subst (λ (p : PlanView). CanAnswer p c.args.group c.args.round i (announced_set c.args.came.now (tag_of Announcement c.args.group c.args.round i))) (sym c.requires.known.masks)
     (c.requires.can i (sym (c.hearers_in-hearers.ensures.meters i) ∙ is))
 
 pub returns : goal.returns
 returns c =
-    let groups = c.args.readings.now.plan.groups in
-    let ms : c.members-members.result ≡ members groups c.args.group c.args.round
-    = c.members-members.ensures ∙ ap (λ p. members p.groups c.args.group c.args.round) c.plan.ensures.plan in
+    let groups = c.args.known.now.readings.now.plan.groups in
     subst (λ l. OnOk c.add_answers.result (c.add_answers.new.frames.items ≡ c.args.frames.now.items ++ l))
-    (answers-heard groups (words_of c.args.masks.now) c.args.came.now c.args.group c.args.round c.hearers_in-hearers.result.meters c.members-members.result c.hearers_in-hearers.ensures.meters ms)
+    (answers-heard groups (words_of c.args.known.now.masks.now) c.args.came.now c.args.group c.args.round c.hearers_in-hearers.result.meters (members groups c.args.group c.args.round) c.hearers_in-hearers.ensures.meters refl)
     c.add_answers.ensures

@@ -8,10 +8,10 @@ use Rattle.tick_run.proofs.group.add_reading_frames.Goals as goal
 
 pub returns : goal.returns
 returns c =
-    let readings = c.args.readings.now in
+    let readings = c.args.known.now.readings.now in
     let g = c.args.group in
     let t = c.args.tick in
-    let m = words_of c.args.masks.now in
+    let m = words_of c.args.known.now.masks.now in
     let below : t < readings.plan.rounds = let n : c.rounds.result ≡ readings.plan.rounds = c.rounds.ensures.rounds ∙ ap (λ p. p.rounds) c.plan.ensures.plan in let lt : t < c.rounds.result = c.if-tick-rounds.false in omega arith in
     let ms : c.members-members.result ≡ members readings.plan.groups g t = c.members-members.ensures ∙ ap (λ p. members p.groups g t) c.plan-2.ensures.plan in
     subst (λ l. OnOk c.add_readings.result (c.add_readings.new.frames.items ≡ c.args.frames.now.items ++ l))

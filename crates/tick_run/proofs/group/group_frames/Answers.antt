@@ -5,8 +5,8 @@ use Rattle.tick_run.proofs.group.group_frames.Goals as goal
 
 pub returns : goal.returns
 returns c =
-    let readings = c.args.readings.now in
-    let m = words_of c.args.masks.now in
+    let readings = c.args.known.now.readings.now in
+    let m = words_of c.args.known.now.masks.now in
     record {
       readings_are = c.in_ok-add_reading_frames.ensures ∙ ap (λ l. l ++ readings_at readings m c.args.tick c.args.group) c.new-first.ensures.items;
       answers_are = c.in_ok-add_answer_frames.ensures ∙ ap (λ l. l ++ answers_at readings.plan m c.args.came.now c.args.group) c.new-answers.ensures.items;

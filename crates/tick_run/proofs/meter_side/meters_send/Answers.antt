@@ -22,7 +22,7 @@ read-requires g c = record { book = c.requires.can.book; meters = c.requires.can
 pub answered-requires : goal.answered-requires
 answered-requires g c =
     let can = c.requires.can in
-    let b = book_of c.args.readings.now can.book in
+    let b = book_of c.args.known.now.readings.now can.book in
     let t = c.args.tick in
     let came = frames_in c.args.copies.now in
     let is : c.deref.result.now ≡ came = c.deref.ensures.value ∙ c.in_ok-came.ensures in
@@ -30,7 +30,7 @@ answered-requires g c =
 
 pub all_groups-requires-clause-came : goal.all_groups-requires-clause-came
 all_groups-requires-clause-came g c κs within =
-    let readings = c.args.readings.now in
+    let readings = c.args.known.now.readings.now in
     let can = c.requires.can in
     let t = c.args.tick in
     let came = frames_in c.args.copies.now in
@@ -41,7 +41,7 @@ all_groups-requires-clause-came g c κs within =
 
 pub returns-clause-meters : goal.returns-clause-meters
 returns-clause-meters g c = λ some are told.
-    let b = book_of c.args.readings.now some in
+    let b = book_of c.args.known.now.readings.now some in
     let t = c.args.tick in
     let is : c.deref.result.now ≡ frames_in c.args.copies.now = c.deref.ensures.value ∙ c.in_ok-came.ensures in
     on_ok (AreMeters b (t + 1) c.answered.new.self) c.all_groups.result (c.in_ok-answered.ensures.meters b (t + 1) (c.read.ensures some are) (subst (AreTold b (t + 1)) (sym is) told))

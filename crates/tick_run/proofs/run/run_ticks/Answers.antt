@@ -15,16 +15,16 @@ loop-tick-preserved g c = record {
 
 pub returns-clause-running : goal.returns-clause-running
 returns-clause-running g c =
-    let end : c.last_tick-tick-end.result ≡ last_tick c.args.readings.now.plan = c.last_tick-tick-end.ensures ∙ ap last_tick c.plan.ensures.plan in
+    let end : c.last_tick-tick-end.result ≡ last_tick c.args.context.now.known.readings.now.plan = c.last_tick-tick-end.ensures ∙ ap last_tick c.plan.ensures.plan in
     let over = c.loop-tick-test.false in
     let within = c.loop-tick.auto.tick-end in
-    let at : c.loop-tick.tick ≡ last_tick c.args.readings.now.plan + 1 = omega arith in
-    subst (λ (n : ℕ). IsRunning c.args.readings.now (words_of c.args.masks.now) (starting n) c.loop-tick.run.book c.loop-tick.run.transcript c.loop-tick.run.link) at c.loop-tick.invariant.running
+    let at : c.loop-tick.tick ≡ last_tick c.args.context.now.known.readings.now.plan + 1 = omega arith in
+    subst (λ (n : ℕ). IsRunning c.args.context.now.known.readings.now (words_of c.args.context.now.known.masks.now) (starting n) c.loop-tick.run.book c.loop-tick.run.transcript c.loop-tick.run.link) at c.loop-tick.invariant.running
 
 pub returns-clause-fates : goal.returns-clause-fates
 returns-clause-fates g c = λ hung kept.
-    let end : c.last_tick-tick-end.result ≡ last_tick c.args.readings.now.plan = c.last_tick-tick-end.ensures ∙ ap last_tick c.plan.ensures.plan in
+    let end : c.last_tick-tick-end.result ≡ last_tick c.args.context.now.known.readings.now.plan = c.last_tick-tick-end.ensures ∙ ap last_tick c.plan.ensures.plan in
     let over = c.loop-tick-test.false in
     let within = c.loop-tick.auto.tick-end in
-    let at : c.loop-tick.tick ≡ last_tick c.args.readings.now.plan + 1 = omega arith in
-    kept-at hung c.loop-tick.tick (last_tick c.args.readings.now.plan + 1) c.loop-tick.run.transcript.entries _ _ at (c.loop-tick.invariant.fates hung kept)
+    let at : c.loop-tick.tick ≡ last_tick c.args.context.now.known.readings.now.plan + 1 = omega arith in
+    kept-at hung c.loop-tick.tick (last_tick c.args.context.now.known.readings.now.plan + 1) c.loop-tick.run.transcript.entries _ _ at (c.loop-tick.invariant.fates hung kept)

@@ -32,10 +32,10 @@ meters_send-requires-clause-can g c κs within =
 
 pub with_announcements-requires : goal.with_announcements-requires
 with_announcements-requires g c =
-    let readings = c.args.readings.now in
+    let readings = c.args.context.now.known.readings.now in
     record {
       groups = ap length c.deref.ensures.value
-          ∙ range_long (λ k sent. IfOk sent (AreGroupFrames readings (words_of c.args.masks.now) (announcements (frames_in c.args.copies.now)) c.args.tick k)) 0 (length readings.plan.groups) c.in_ok-sent.sent.items c.in_ok-sent.ensures.sent
+          ∙ range_long (λ k sent. IfOk sent (AreGroupFrames readings (words_of c.args.context.now.known.masks.now) (announcements (frames_in c.args.copies.now)) c.args.tick k)) 0 (length readings.plan.groups) c.in_ok-sent.sent.items c.in_ok-sent.ensures.sent
           ∙ ap (λ (p : PresenceView). length p.plan.groups) (sym c.requires.presence);
     }
 
@@ -45,7 +45,7 @@ returns-clause-meters g c =
     let t = c.args.tick in
     let came = frames_in c.args.copies.now in
     let are = subst (λ (p : PresenceView). AreMeters (record b { presence = p }) t c.args.meters.now) c.requires.presence c.requires.meters in
-    let now = c.in_ok-sent.ensures.meters b are (are-told (book_of c.args.readings.now b) t came c.requires.heard c.requires.sets) in
+    let now = c.in_ok-sent.ensures.meters b are (are-told (book_of c.args.context.now.known.readings.now b) t came c.requires.heard c.requires.sets) in
     on_ok (AreMeters b (t + 1) c.meters_send.new.meters) c.with_announcements.result (subst (λ (p : PresenceView). AreMeters (record b { presence = p }) (t + 1) c.meters_send.new.meters) (sym c.requires.presence) now)
 
 pub returns-clause-heard : goal.returns-clause-heard
@@ -53,8 +53,8 @@ returns-clause-heard g c = on_ok (HaveHeard c.meters_send.new.meters (frames_in 
 
 pub returns-clause-frames : goal.returns-clause-frames
 returns-clause-frames g c =
-    let readings = c.args.readings.now in
-    let m = words_of c.args.masks.now in
+    let readings = c.args.context.now.known.readings.now in
+    let m = words_of c.args.context.now.known.masks.now in
     let b = c.args.book.now in
     let t = c.args.tick in
     let came = frames_in c.args.copies.now in
@@ -71,7 +71,7 @@ returns-clause-frames g c =
     (fun_ext (λ (k : ℕ). frames-merged readings m b came t k c.requires.presence c.requires.sets))
     (subst (λ (j : ℕ). IfOk c.with_announcements.result (λ groups. AllZip (λ k frames. IfOk frames (λ f. f.items ≡ F k ++ announcements_due b t k ++ H k)) (range_with_len 0 j) groups.items)) long merged)
   where
-    pair : (k : ℕ) (r : Result GroupFrames AllocError) → IfOk r (AreGroupFrames c.args.readings.now (words_of c.args.masks.now) (announcements (frames_in c.args.copies.now)) c.args.tick k)
-        → HasFrames (readings_at c.args.readings.now (words_of c.args.masks.now) c.args.tick) (answers_at c.args.readings.now.plan (words_of c.args.masks.now) (announcements (frames_in c.args.copies.now))) k r
+    pair : (k : ℕ) (r : Result GroupFrames AllocError) → IfOk r (AreGroupFrames c.args.context.now.known.readings.now (words_of c.args.context.now.known.masks.now) (announcements (frames_in c.args.copies.now)) c.args.tick k)
+        → HasFrames (readings_at c.args.context.now.known.readings.now (words_of c.args.context.now.known.masks.now) c.args.tick) (answers_at c.args.context.now.known.readings.now.plan (words_of c.args.context.now.known.masks.now) (announcements (frames_in c.args.copies.now))) k r
     pair k (Ok s) h = (h.readings_are, h.answers_are)
     pair k (Err e) h = tt

@@ -10,8 +10,8 @@ use Rattle.tick_run.proofs.tick.run_tick.Goals as goal
 
 pub take_copies-requires-clause-later : goal.take_copies-requires-clause-later
 take_copies-requires-clause-later g c κs within =
-    let readings = c.args.readings.now in
-    let m = words_of c.args.masks.now in
+    let readings = c.args.context.now.known.readings.now in
+    let m = words_of c.args.context.now.known.masks.now in
     let t = c.args.tick in
     let book = c.args.run.book in
     let script = c.args.run.transcript in
@@ -21,8 +21,8 @@ take_copies-requires-clause-later g c κs within =
 
 pub take_copies-requires-clause-copies : goal.take_copies-requires-clause-copies
 take_copies-requires-clause-copies g c κs within =
-    let readings = c.args.readings.now in
-    let m = words_of c.args.masks.now in
+    let readings = c.args.context.now.known.readings.now in
+    let m = words_of c.args.context.now.known.masks.now in
     let t = c.args.tick in
     let book = c.args.run.book in
     let script = c.args.run.transcript in
@@ -32,8 +32,8 @@ take_copies-requires-clause-copies g c κs within =
 
 pub close_rounds-requires-clause-later : goal.close_rounds-requires-clause-later
 close_rounds-requires-clause-later g c κs within =
-    let readings = c.args.readings.now in
-    let m = words_of c.args.masks.now in
+    let readings = c.args.context.now.known.readings.now in
+    let m = words_of c.args.context.now.known.masks.now in
     let t = c.args.tick in
     let book = c.args.run.book in
     let script = c.args.run.transcript in
@@ -45,8 +45,8 @@ close_rounds-requires-clause-later g c κs within =
 
 pub send_tick-requires-clause-running : goal.send_tick-requires-clause-running
 send_tick-requires-clause-running g c κs within =
-    let readings = c.args.readings.now in
-    let m = words_of c.args.masks.now in
+    let readings = c.args.context.now.known.readings.now in
+    let m = words_of c.args.context.now.known.masks.now in
     let t = c.args.tick in
     let book = c.args.run.book in
     let script = c.args.run.transcript in
@@ -60,8 +60,8 @@ send_tick-requires-clause-running g c κs within =
 
 pub send_tick-requires-clause-came : goal.send_tick-requires-clause-came
 send_tick-requires-clause-came g c κs within =
-    let readings = c.args.readings.now in
-    let m = words_of c.args.masks.now in
+    let readings = c.args.context.now.known.readings.now in
+    let m = words_of c.args.context.now.known.masks.now in
     let t = c.args.tick in
     let book = c.args.run.book in
     let script = c.args.run.transcript in

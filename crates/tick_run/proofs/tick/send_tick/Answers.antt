@@ -12,25 +12,25 @@ use Rattle.tick_run.proofs.tick.send_tick.Goals as goal
 
 pub frames_at-requires-clause-heard : goal.frames_at-requires-clause-heard
 frames_at-requires-clause-heard g c κs within =
-    heard-past c.args.readings.now (words_of c.args.masks.now) c.args.tick c.args.run.now.book c.args.run.now.transcript c.args.run.now.link (tags_of (frames_in c.args.copies.now)) c.requires.running c.requires.came.due
+    heard-past c.args.context.now.known.readings.now (words_of c.args.context.now.known.masks.now) c.args.tick c.args.run.now.book c.args.run.now.transcript c.args.run.now.link (tags_of (frames_in c.args.copies.now)) c.requires.running c.requires.came.due
 
 pub frames_at-requires-clause-spelled : goal.frames_at-requires-clause-spelled
 frames_at-requires-clause-spelled g c κs within = all-spelled c.args.run.now.transcript.entries c.args.copies.now c.requires.came.spelled
 
 pub frames_at-requires-clause-sets : goal.frames_at-requires-clause-sets
 frames_at-requires-clause-sets g c κs within =
-    sets-come c.args.readings.now (words_of c.args.masks.now) (closed c.args.tick) c.args.run.now.book c.args.run.now.transcript c.args.run.now.link c.args.copies.now c.requires.running c.requires.came.spelled
+    sets-come c.args.context.now.known.readings.now (words_of c.args.context.now.known.masks.now) (closed c.args.tick) c.args.run.now.book c.args.run.now.transcript c.args.run.now.link c.args.copies.now c.requires.running c.requires.came.spelled
 
 pub loop-frames-init : goal.loop-frames-init
 loop-frames-init g c = record {
   room = c.requires.room;
-  sent = groups-none c.args.readings.now (words_of c.args.masks.now) c.args.tick (tags_of (frames_in c.args.copies.now)) c.args.run.now.book c.args.run.now.transcript c.args.run.now.link _ _ c.requires.running;
+  sent = groups-none c.args.context.now.known.readings.now (words_of c.args.context.now.known.masks.now) c.args.tick (tags_of (frames_in c.args.copies.now)) c.args.run.now.book c.args.run.now.transcript c.args.run.now.link _ _ c.requires.running;
 }
 
 pub send_all-requires-clause-frames : goal.send_all-requires-clause-frames
 send_all-requires-clause-frames g c =
-    let readings = c.args.readings.now in
-    let m = words_of c.args.masks.now in
+    let readings = c.args.context.now.known.readings.now in
+    let m = words_of c.args.context.now.known.masks.now in
     let t = c.args.tick in
     let tags = tags_of (frames_in c.args.copies.now) in
     let script = c.args.run.now.transcript in
@@ -45,8 +45,8 @@ send_all-requires-clause-frames g c =
 
 pub loop-frames-preserved : goal.loop-frames-preserved
 loop-frames-preserved g c =
-    let readings = c.args.readings.now in
-    let m = words_of c.args.masks.now in
+    let readings = c.args.context.now.known.readings.now in
+    let m = words_of c.args.context.now.known.masks.now in
     let t = c.args.tick in
     let tags = tags_of (frames_in c.args.copies.now) in
     let script = c.args.run.now.transcript in
@@ -66,8 +66,8 @@ loop-frames-preserved g c =
 
 pub returns-clause-running : goal.returns-clause-running
 returns-clause-running g c =
-    let readings = c.args.readings.now in
-    let m = words_of c.args.masks.now in
+    let readings = c.args.context.now.known.readings.now in
+    let m = words_of c.args.context.now.known.masks.now in
     let t = c.args.tick in
     let tags = tags_of (frames_in c.args.copies.now) in
     let long : length c.deref-frames-items.result.now ≡ length readings.plan.groups
@@ -79,5 +79,5 @@ returns-clause-running g c =
 pub returns-clause-meters : goal.returns-clause-meters
 returns-clause-meters g c =
     let sent = c.loop-frames.invariant.sent in
-    meters-running c.args.readings.now (words_of c.args.masks.now) (closed c.args.tick) (sending_at c.args.tick) c.args.run.now.book c.loop-frames.run.book c.args.run.now.transcript c.loop-frames.run.transcript c.args.run.now.link c.loop-frames.run.link
+    meters-running c.args.context.now.known.readings.now (words_of c.args.context.now.known.masks.now) (closed c.args.tick) (sending_at c.args.tick) c.args.run.now.book c.loop-frames.run.book c.args.run.now.transcript c.loop-frames.run.transcript c.args.run.now.link c.loop-frames.run.link
     (c.args.tick + 1) c.frames_at.new.meters c.requires.running sent.running sent.on.sets c.in_ok-groups.ensures.meters

@@ -7,7 +7,7 @@ use Rattle.tick_run.proofs.tick.send_tick.Given as goal
 abbrev pub invariant-loop-frames : goal.invariant-loop-frames
 invariant-loop-frames g l = record {
   room : HasRoom (λ b. (goal.Lane-dyn g (b.vtable, b.value)).meaning b.value) l.rack;
-  sent : SentGroups l.readings (words_of l.masks) l.tick l.frames-index (tags_of (frames_in l.copies)) l.fn.run.transcript l.run.book l.run.transcript l.run.link
+  sent : SentGroups l.context.known.readings.now (words_of l.context.known.masks.now) l.tick l.frames-index (tags_of (frames_in l.copies)) l.fn.run.transcript l.run.book l.run.transcript l.run.link
       (slots (λ b. (goal.Lane-dyn g (b.vtable, b.value)).meaning b.value) l.fn.rack) (slots (λ b. (goal.Lane-dyn g (b.vtable, b.value)).meaning b.value) l.rack)
       (posts_of l.fn.rack) (posts_of l.rack);
 }

@@ -1,6 +1,6 @@
 use Rattle.std.proofs.Common.{◌≡◌, ℕ, ◌<◌, List, length, get_or, Option, None}
 use Rattle.group_plan.specs.Tables.{ReadingsView, reading}
-use Rattle.tick_run.proofs.frames.row_of.Given as goal
+use Rattle.tick_run.proofs.hidden.row_of.Given as goal
 
 -- the readings of the first n meters
 pub record Row (readings : ReadingsView) (g r n : ℕ) (row : List (Option ℕ)) : Type 0 where
