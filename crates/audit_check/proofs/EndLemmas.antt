@@ -16,7 +16,7 @@ use Rattle.transcript_log.specs.Schedule.{shape_of_presence}
 use Rattle.transcript_log.specs.Transcript.{lines_after}
 use Rattle.transcript_log.specs.Frames.{shape_of_lines, contents_of_lines, IsPossible, IsPossibleUpTo}
 use Rattle.transcript_log.specs.Journal.{past_of}
-use Rattle.transcript_text.specs.Transcripts.{TranscriptView, IsTranscript}
+use Rattle.transcript_log.specs.Transcripts.{TranscriptView, IsTranscript}
 use Rattle.group_book.specs.Books.{BookView, shape_of, past}
 use Rattle.run_rows.specs.Report.{Row, outcome_row}
 use Rattle.totals_report.specs.declared.row.ReportRow.{ReportRow}
@@ -54,30 +54,34 @@ splits (x ∷ entries) (suc at) d lt =
       whole = ap (λ ls. x.line ∷ ls) rest.whole ∙ ap (λ k. (take (suc at) (lines_of (x ∷ entries)) ++ (get_or entries at d).line ∷ []) ++ drop k (lines_of (x ∷ entries))) next;
     }
 
-module _ (plan : PlanView) (entries : List Entry) (at : ℕ) (d : Entry) (b : BookView) (p : PresenceView) (presence : IsPresenceOf plan (lines_of entries) p) (same : b.presence ≡ p)
-    (journal : b.journal ≡ take at (lines_of entries)) (lt : at < length entries) where
+module _ (plan : PlanView) (entries : List Entry) (at : ℕ) (e : Entry) (b : BookView) (p : PresenceView) (presence : IsPresenceOf plan (lines_of entries) p) (same : b.presence ≡ p)
+    (journal : b.journal ≡ take at (lines_of entries)) (lt : at < length entries) (here : e ≡ get_or entries at e) where
   abbrev ls : List Line
   ls = lines_of entries
 
   abbrev l : Line
-  l = (get_or entries at d).line
+  l = e.line
+
+  split : Splits entries at l
+  split = subst (λ (x : Entry). Splits entries at x.line) (sym here) (splits entries at e lt)
 
   shape : shape_of b ≡ shape_of_lines plan.groups ((take at ls ++ l ∷ []) ++ drop (at + 1) ls)
-  shape = ap shape_of_presence same ∙ presence.shape_is ∙ ap (shape_of_lines plan.groups) (splits entries at d lt).whole
+  shape = ap shape_of_presence same ∙ presence.shape_is ∙ ap (shape_of_lines plan.groups) split.whole
 
   pub goes_on : IsPossible plan.groups (take at ls) → MayFollow (shape_of b) b.journal l → IsPossible plan.groups (take (at + 1) ls)
   goes_on possible may =
-      subst (IsPossible plan.groups) (sym (splits entries at d lt).next)
+      subst (IsPossible plan.groups) (sym split.next)
       (possible-push plan.groups (take at ls) l (drop (at + 1) ls) possible
       (subst (λ s. MayFollow s (take at ls) l) shape (subst (λ j. MayFollow (shape_of b) j l) journal may)))
 
   pub stops : (¬ MayFollow (shape_of b) b.journal l) → ¬ IsPossibleUpTo plan.groups (at + 1) ls
   stops may_not possible =
       may_not (subst (λ j. MayFollow (shape_of b) j l) (sym journal) (subst (λ s. MayFollow s (take at ls) l) (sym shape)
-      (possible-pop plan.groups (take at ls) l (drop (at + 1) ls) (subst (IsPossible plan.groups) (splits entries at d lt).next possible))))
+      (possible-pop plan.groups (take at ls) l (drop (at + 1) ls) (subst (IsPossible plan.groups) split.next possible))))
 
-pub journal_more : (entries : List Entry) (at : ℕ) (d : Entry) (old new : List Line) → at < length entries → old ≡ take at (lines_of entries) → new ≡ old ++ (get_or entries at d).line ∷ [] → new ≡ take (at + 1) (lines_of entries)
-journal_more entries at d old new lt before gains = gains ∙ ap (λ j. j ++ (get_or entries at d).line ∷ []) before ∙ sym (splits entries at d lt).next
+pub journal_more : (entries : List Entry) (at : ℕ) (e : Entry) (old new : List Line) → at < length entries → e ≡ get_or entries at e → old ≡ take at (lines_of entries) → new ≡ old ++ e.line ∷ [] → new ≡ take (at + 1) (lines_of entries)
+journal_more entries at e old new lt here before gains =
+    gains ∙ ap (λ j. j ++ e.line ∷ []) before ∙ ap (λ (x : Entry). take at (lines_of entries) ++ x.line ∷ []) here ∙ sym (splits entries at e lt).next
 
 pub lines_long : (entries : List Entry) → length (lines_of entries) ≡ length entries
 lines_long entries = length-map entries (λ (e : Entry). e.line)

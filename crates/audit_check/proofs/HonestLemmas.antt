@@ -19,7 +19,7 @@ use Rattle.transcript_log.proofs.FrameLemmas.{possible, shapes_agree, totals_tol
 use Rattle.transcript_log.proofs.ListLemmas.{and_first, flat_map_same, tabulate_same}
 use Rattle.transcript_log.proofs.ScheduleLemmas.{after, after-reverse, once-more}
 use Rattle.transcript_log.proofs.ShapeLemmas.{AgreeOn, announced_agree, reply_agree, survivors_agree}
-use Rattle.transcript_text.specs.Transcripts.{TranscriptView, IsTranscript, IsEntry, IsLine}
+use Rattle.transcript_log.specs.Transcripts.{TranscriptView, IsTranscript, IsEntry, IsLine}
 use Rattle.ideal_masks.specs.Statements.{IsExplained}
 use Rattle.ideal_masks.proofs.Explained.{explained}
 use Rattle.run_rows.specs.Report.{Row, row_of, outcome_row}

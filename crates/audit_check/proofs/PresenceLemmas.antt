@@ -55,18 +55,19 @@ lines_from (x ∷ entries) (suc n) d lt = lines_from entries n d (omega (arith, 
 
 -- ---- in the loop, which goes from the last entry to the first
 
-pub none_noted : (plan : PlanView) (entries : List Entry) (readings : ReadingsView) → readings ≡ absent plan → IsNoted plan (lines_of (drop (length entries) entries)) readings
-none_noted plan entries readings is =
-    subst (λ es. IsNoted plan (lines_of es) readings) (sym (drop_all (length entries) entries (omega arith))) (subst (IsNoted plan []) (sym is) (noted_none plan))
+pub none_noted : (plan : PlanView) (entries : List Entry) (len : ℕ) (readings : ReadingsView) → len ≡ length entries → readings ≡ absent plan → IsNoted plan (lines_of (drop len entries)) readings
+none_noted plan entries len readings long is =
+    subst (λ es. IsNoted plan (lines_of es) readings) (sym (drop_all len entries (omega (arith, long)))) (subst (IsNoted plan []) (sym is) (noted_none plan))
 
-pub next_noted : (plan : PlanView) (entries : List Entry) (at : ℕ) (d : Entry) (old new : ReadingsView) → 0 < at → at ≤ length entries → IsNoted plan (lines_of (drop at entries)) old
-    → Notes old (get_or entries (at - 1) d).line new → IsNoted plan (lines_of (drop (at - 1) entries)) new
-next_noted plan entries zero d old new some le noted notes = absurd (omega (arith, some))
-next_noted plan entries (suc n) d old new some le noted notes =
+pub next_noted : (plan : PlanView) (entries : List Entry) (at : ℕ) (e : Entry) (old new : ReadingsView) → 0 < at → at ≤ length entries → IsNoted plan (lines_of (drop at entries)) old
+    → e ≡ get_or entries (at - 1) e → Notes old e.line new → IsNoted plan (lines_of (drop (at - 1) entries)) new
+next_noted plan entries zero e old new some le noted here notes = absurd (omega (arith, some))
+next_noted plan entries (suc n) e old new some le noted here notes =
     let before : suc n - 1 ≡ n = omega arith in
+    let read : e ≡ get_or entries n e = rw before at here in
     subst (λ k. IsNoted plan (lines_of (drop k entries)) new) (sym before)
-    (subst (λ ls. IsNoted plan ls new) (sym (lines_from entries n d (omega (arith, le))))
-    (noted_more plan (get_or entries n d).line (lines_of (drop (suc n) entries)) old new noted (subst (λ k. Notes old (get_or entries k d).line new) before notes)))
+    (subst (λ ls. IsNoted plan ls new) (sym (lines_from entries n e (omega (arith, le)) ∙ ap (λ (x : Entry). x.line ∷ lines_of (drop (suc n) entries)) (sym read)))
+    (noted_more plan e.line (lines_of (drop (suc n) entries)) old new noted notes))
 
 pub all_noted : {E : Type 0} (plan : PlanView) (entries : List Entry) (at : ℕ) (readings : ReadingsView) (result : Result PresenceView E) → at ≤ 0 → IsNoted plan (lines_of (drop at entries)) readings
     → IfOk result (λ presence. presence ≡ presence_of readings) → IfOk result (λ presence. IsPresenceOf plan (lines_of entries) presence)

@@ -4,7 +4,7 @@ use Rattle.group_plan.specs.Plans.{PlanView, IsWithinLimits}
 use Rattle.ideal_masks.specs.Statements.{IsExplained}
 use Rattle.transcript_log.specs.declared.Line.{Line}
 use Rattle.transcript_log.specs.Frames.{shape_of_lines, IsPossible, IsPossibleUpTo}
-use Rattle.transcript_text.specs.Transcripts.{TranscriptView}
+use Rattle.transcript_log.specs.Transcripts.{TranscriptView}
 use Rattle.transcript_text.specs.EntryLines.{entry_line}
 use Rattle.group_book.specs.Books.{BookView, shape_of}
 use Rattle.totals_report.specs.declared.row.ReportRow.{ReportRow}

@@ -5,7 +5,7 @@ use Rattle.group_plan.specs.Plans.{PlanView, is_member}
 use Rattle.group_plan.specs.Tables.{ReadingsView, PresenceView, reading}
 use Rattle.transcript_log.specs.declared.Line.{Line}
 use Rattle.transcript_log.specs.declared.Line.TheVariants.{Send as SendLine}
-use Rattle.transcript_text.specs.Transcripts.{HasPlace}
+use Rattle.transcript_log.specs.Transcripts.{HasPlace}
 use Rattle.transcript_log.specs.Events.{event_of, frame_of, is_send}
 use Rattle.transcript_log.specs.Schedule.{shape_of_presence}
 use Rattle.transcript_log.specs.Frames.{first_frame, shape_of_lines}

@@ -8,7 +8,7 @@ use Rattle.transcript_log.specs.Schedule.{Shape, is_opened, survivors}
 use Rattle.transcript_log.specs.Transcript.{lines_after, shape_of_readings, transcript}
 use Rattle.transcript_log.specs.Frames.{shape_of_lines, contents_of_lines, IsPossible, IsPossibleUpTo}
 use Rattle.transcript_log.specs.Journal.{past_of}
-use Rattle.transcript_text.specs.Transcripts.{TranscriptView, IsTranscript}
+use Rattle.transcript_log.specs.Transcripts.{TranscriptView, IsTranscript}
 use Rattle.group_book.specs.Replay.{IsJournal}
 use Rattle.run_rows.specs.Report.{Row, outcome_row}
 use Rattle.totals_report.specs.Reports.{report_rows}

@@ -1,8 +1,7 @@
 //! The audit: the lines of a transcript replayed, and the rows that they give compared with those of a report.
 
-ghost use Rattle.std.specs.Prelude.{◌≡◌, ◌<◌, ◌^◌, length, All};
+ghost use Rattle.std.specs.Prelude.{◌≡◌, ◌<◌, ◌^◌, length};
 ghost use Rattle.transcript_log.specs.Events.{lines_of};
-ghost use Rattle.transcript_text.specs.Transcripts.{Fits};
 ghost use Rattle.audit_check.specs.Audits.{AuditEnds};
 ghost use Rattle.audit_check.specs.Ends.{LinesEnd, ReplayEnds, RowsEnd};
 ghost use Rattle.audit_check.specs.Presence.{IsPresenceOf};
@@ -13,25 +12,22 @@ use crate::presence::presence_of_frames;
 use crate::replay::Replay;
 use crate::{AuditCounts, AuditError};
 use group_book::Book;
-use group_plan::Plan;
 use std::alloc::Global;
 use totals_report::{Report, ReportRow, rows_of};
-use transcript_log::Entry;
-use transcript_text::{Transcript, entry_line};
+use transcript_log::Transcript;
+use transcript_text::entry_line;
 
 // The first entry whose line is not possible, where there is one.
-fn first_impossible(replay: &mut Replay, plan: &Plan, entries: &[Entry]) -> Option<usize>
-    requires fits { All (Fits plan.now) entries.now }
-    requires presence { IsPresenceOf plan.now (lines_of entries.now) replay.old.book.presence }
-    requires begins { Begins replay.old.book.presence (length entries.now) replay.old.book replay.old.answered.items }
-    ensures { LinesEnd plan.now (lines_of entries.now) result replay.new.book }
+fn first_impossible(replay: &mut Replay, transcript: &Transcript) -> Option<usize>
+    requires presence { IsPresenceOf transcript.now.plan (lines_of transcript.now.entries) replay.old.book.presence }
+    requires begins { Begins replay.old.book.presence (length transcript.now.entries) replay.old.book replay.old.answered.items }
+    ensures { LinesEnd transcript.now.plan (lines_of transcript.now.entries) result replay.new.book }
 {
-    let mut at = 0;
-    while at < entries.len() {
-        if !replay.line(&entries[at].line) {
+    for at in 0..transcript.len() {
+        let entry = transcript.entry(at);
+        if !replay.line(&entry.line) {
             return Some(at);
         }
-        at += 1;
     }
     None
 }
@@ -40,13 +36,11 @@ fn first_impossible(replay: &mut Replay, plan: &Plan, entries: &[Entry]) -> Opti
 fn replay(alloc: Global, transcript: &Transcript) -> Result<Book, AuditError>
     ensures { ReplayEnds transcript.now result }
 {
-    let plan = transcript.plan();
-    let entries = transcript.entries();
-    let presence = presence_of_frames(alloc, plan, entries)?;
-    let mut replay = Replay::new(alloc, &presence, entries.len() as u64)?;
-    match first_impossible(&mut replay, plan, entries) {
+    let presence = presence_of_frames(alloc, transcript)?;
+    let mut replay = Replay::new(alloc, &presence, transcript.len() as u64)?;
+    match first_impossible(&mut replay, transcript) {
         None => Ok(replay.book),
-        Some(entry) => Err(AuditError::Line(entry_line(plan, entry as u64))),
+        Some(at) => Err(AuditError::Line(entry_line(transcript.plan(), at as u64))),
     }
 }
 

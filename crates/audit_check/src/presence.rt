@@ -1,13 +1,12 @@
 //! Who has a reading, by the frames of a transcript.
 
-ghost use Rattle.std.specs.Prelude.{IfOk, All};
+ghost use Rattle.std.specs.Prelude.{IfOk};
 ghost use Rattle.transcript_log.specs.Events.{lines_of};
-ghost use Rattle.transcript_text.specs.Transcripts.{Fits};
 ghost use Rattle.audit_check.specs.Presence.{HasTagPlace, IsPresenceOf, Notes};
 
-use group_plan::{Kind, Plan, Presence, Readings};
+use group_plan::{Kind, Presence, Readings};
 use std::alloc::{AllocError, Global};
-use transcript_log::{Entry, Line};
+use transcript_log::{Line, Transcript};
 
 // Notes whether a line is a Send of a reading of a member, and has a frame: a reading of 0 stands for one that is present.
 fn note(readings: &mut Readings, line: &Line)
@@ -27,20 +26,19 @@ fn note(readings: &mut Readings, line: &Line)
     }
 }
 
-/// The presence that the frames of these entries say: of the first Send of each reading.
+/// The presence that the frames of a transcript say: of the first Send of each reading.
 pub(crate) fn presence_of_frames(
     alloc: Global,
-    plan: &Plan,
-    entries: &[Entry],
+    transcript: &Transcript,
 ) -> Result<Presence, AllocError>
-    requires { All (Fits plan.now) entries.now }
-    ensures { IfOk result (λ presence. IsPresenceOf plan.now (lines_of entries.now) presence) }
+    ensures { IfOk result (λ presence. IsPresenceOf transcript.now.plan (lines_of transcript.now.entries) presence) }
 {
-    let mut readings = Readings::new(alloc, plan)?;
-    let mut at = entries.len();
+    let mut readings = Readings::new(alloc, transcript.plan())?;
+    let mut at = transcript.len();
     while at > 0 {
         at -= 1;
-        note(&mut readings, &entries[at].line);
+        let entry = transcript.entry(at);
+        note(&mut readings, &entry.line);
     }
     Presence::of(alloc, &readings)
 }

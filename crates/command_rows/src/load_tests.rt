@@ -54,8 +54,8 @@ fn run_commits_cross_in_load(rt: HostRuntime) -> Result<(), Fail> {
     };
     let mut sends = 0_u32;
     let mut takes = 0_u32;
-    for entry in transcript.entries() {
-        match entry.line {
+    for at in 0..transcript.len() {
+        match transcript.entry(at).line {
             Line::Send { frame: Some(_), .. } => sends = sends.saturating_add(1),
             Line::Take { .. } => takes = takes.saturating_add(1),
             _ => {}

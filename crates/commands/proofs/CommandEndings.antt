@@ -4,7 +4,7 @@ use Rattle.std.specs.Prelude.{Option}
 use Rattle.desk_outside.specs.Desk.{View, IsLonger, after_step}
 use Rattle.link_lanes.specs.Lanes.{Meaning}
 use Rattle.transcript_text.specs.declared.version.Version.TheVariants.{One}
-use Rattle.transcript_text.specs.Transcripts.{TranscriptView}
+use Rattle.transcript_log.specs.Transcripts.{TranscriptView}
 use Rattle.transcript_text.specs.ReadBack.{HasText}
 use Rattle.transcript_text.specs.Spelling.{text_of, transcript_text}
 use Rattle.commands.specs.declared.texts.Refusal.{Refusal}

@@ -41,7 +41,7 @@ use Rattle.plan_files.specs.Rows.{file_rows}
 use Rattle.plan_files.specs.Readings.{ReadingsEnd, readings_of, readings_by, rows_fault}
 use Rattle.plan_files.specs.PlanFiles.{PlanFileView, plan_of}
 use Rattle.group_book.specs.Books.{BookView}
-use Rattle.transcript_text.specs.Transcripts.{TranscriptView, IsTranscript}
+use Rattle.transcript_log.specs.Transcripts.{TranscriptView, IsTranscript}
 use Rattle.transcript_text.specs.Spelling.{transcript_text}
 use Rattle.totals_report.specs.Books.{row_in as book_row, summary_in as book_summary}
 use Rattle.tick_run.specs.Finished.{IsFinished}

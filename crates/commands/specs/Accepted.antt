@@ -7,7 +7,7 @@ use Rattle.transcript_log.specs.Frames.{IsPossible}
 use Rattle.totals_report.specs.declared.row.ReportRow.{ReportRow}
 use Rattle.audit_check.specs.Audits.{lines_in, rows_by_frames}
 use Rattle.transcript_text.specs.declared.version.Version.TheVariants.{One}
-use Rattle.transcript_text.specs.Transcripts.{TranscriptView}
+use Rattle.transcript_log.specs.Transcripts.{TranscriptView}
 use Rattle.transcript_text.specs.ReadBack.{HasText}
 use Rattle.transcript_text.specs.Spelling.{text_of}
 use Rattle.group_plan.specs.Tables.{reading}

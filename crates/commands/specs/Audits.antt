@@ -2,7 +2,7 @@
 use Rattle.std.specs.Prelude.{◌≡◌, ℕ, List, Result, Ok, Err, ⊤}
 use Rattle.link_lanes.specs.Lanes.{Meaning}
 use Rattle.transcript_text.specs.declared.version.Version.TheVariants.{Two}
-use Rattle.transcript_text.specs.Transcripts.{TranscriptView, IsTranscript}
+use Rattle.transcript_log.specs.Transcripts.{TranscriptView, IsTranscript}
 use Rattle.transcript_text.specs.Heads.{read_of}
 use Rattle.totals_report.specs.declared.row.ReportRow.{ReportRow}
 use Rattle.totals_report.specs.Reading.{rows_of_text}

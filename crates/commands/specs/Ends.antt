@@ -8,7 +8,7 @@ use Rattle.plan_files.specs.declared.fault.FileError.{FileError}
 use Rattle.plan_files.specs.PlanFiles.{PlanFileView, plan_of}
 use Rattle.plan_files.specs.Readings.{readings_of}
 use Rattle.transcript_text.specs.declared.version.Version.TheVariants.{One}
-use Rattle.transcript_text.specs.Transcripts.{TranscriptView}
+use Rattle.transcript_log.specs.Transcripts.{TranscriptView}
 use Rattle.transcript_text.specs.ReadBack.{HasText}
 use Rattle.transcript_text.specs.Spelling.{text_of, transcript_text, ended}
 use Rattle.transcript_text.specs.Heads.{read_of}

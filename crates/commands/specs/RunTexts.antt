@@ -4,7 +4,7 @@ use Rattle.group_book.specs.Books.{BookView}
 use Rattle.link_lanes.specs.Lanes.{Meaning}
 use Rattle.plan_files.specs.PlanFiles.{plan_of}
 use Rattle.transcript_text.specs.declared.version.Version.TheVariants.{Two}
-use Rattle.transcript_text.specs.Transcripts.{TranscriptView, IsTranscript}
+use Rattle.transcript_log.specs.Transcripts.{TranscriptView, IsTranscript}
 use Rattle.transcript_text.specs.Spelling.{transcript_text}
 use Rattle.transcript_text.specs.Heads.{read_of}
 use Rattle.totals_report.specs.Books.{row_in, summary_in}

@@ -19,7 +19,7 @@ use Rattle.ideal_masks.specs.Isolation.{Isolated}
 use Rattle.ideal_masks.specs.ListTables.{MaskTable, masks_in, mask_table_of, IsMaskTable}
 use Rattle.plan_files.specs.PlanFiles.{PlanFileView, plan_of}
 use Rattle.transcript_text.specs.declared.version.Version.TheVariants.{Two}
-use Rattle.transcript_text.specs.Transcripts.{TranscriptView, IsTranscript}
+use Rattle.transcript_log.specs.Transcripts.{TranscriptView, IsTranscript}
 use Rattle.transcript_text.specs.Spelling.{transcript_text}
 use Rattle.transcript_text.specs.Heads.{read_of}
 use Rattle.totals_report.specs.Reading.{rows_of_text}

@@ -8,7 +8,7 @@ use Rattle.plan_files.specs.declared.fault.FileError.{FileError}
 use Rattle.plan_files.specs.PlanFiles.{PlanFileView, plan_of}
 use Rattle.plan_files.specs.Readings.{readings_of}
 use Rattle.transcript_log.specs.declared.Line.{Line}
-use Rattle.transcript_text.specs.Transcripts.{TranscriptView}
+use Rattle.transcript_log.specs.Transcripts.{TranscriptView}
 use Rattle.ideal_masks.specs.declared.Differ.TheVariants.{Presence, Total}
 use Rattle.twin_worlds.specs.declared.rows.MovedRow.{MovedRow}
 use Rattle.twin_worlds.specs.declared.answers.TwinError.{TwinError}

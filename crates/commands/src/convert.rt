@@ -10,7 +10,7 @@ use crate::outcome::Outcome;
 use crate::words::ConvertFiles;
 use desk_outside::Desk;
 use std::alloc::{AllocError, Global};
-use transcript_text::{ReadError, Transcript, read_old, write};
+use transcript_text::{ReadError, read_old, write};
 
 // The line that says how many entries the transcript has.
 #[tactic(auto, unfolding(crate::specs::Ends::converted_line))]
@@ -38,7 +38,7 @@ pub fn convert<'a, D: Desk>(alloc: Global, files: ConvertFiles<'a>, desk: &mut D
     let Ok(text) = write(alloc, &transcript) else {
         return Outcome::NoMemory;
     };
-    let Ok(line) = converted_line(alloc, transcript.entries().len()) else {
+    let Ok(line) = converted_line(alloc, transcript.len()) else {
         return Outcome::NoMemory;
     };
     let file = NewFile {

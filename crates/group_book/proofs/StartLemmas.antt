@@ -1,15 +1,13 @@
--- What a book begins with: the members of a round, one after another, and a book with no line.
-use Rattle.std.proofs.Common.{◌≡◌, ℕ, zero, suc, ◌+◌, ◌<◌, ◌%◌, Bool, true, false, ◌&&◌, ◌||◌, List, [], ◌∷◌, length, map, replicate, refl, sym, ap, ◌∙◌, inl, inr, arith, subst, ⊎_elim}
-use Rattle.std.specs.Prelude.{◌==◌, nat_lt, filter, slice_index_or, if◌then◌else◌, Option, None, is_some}
+-- A book with no line: every round as it begins, and no frame.
+use Rattle.std.proofs.Common.{◌≡◌, ℕ, ◌<◌, ◌%◌, Bool, false, List, [], ◌∷◌, length, map, replicate, refl, sym, ap, ◌∙◌, arith, subst}
+use Rattle.std.specs.Prelude.{filter, slice_index_or, if◌then◌else◌, Option, None, is_some}
 use Rattle.std.specs.List.{range_with_len}
-use Rattle.std.proofs.lemmas.Bool.{cases_eq, cases_lt, eq-eqb, ne_eqb, lt-ltb, le-ltb}
-use Rattle.group_plan.specs.declared.plan.GroupPlan.{GroupPlan}
 use Rattle.std.proofs.lemmas.Nat.{div-mul-add, mod-mul-add, mul-add-lt}
 use Rattle.std.proofs.lemmas.List.{get_or-replicate, length-replicate}
 use Rattle.std.proofs.lemmas.List.FromFn.{length-map-range_with_len, get_or-map-range_with_len}
 use Rattle.group_plan.specs.declared.Kind.{Kind}
 use Rattle.group_plan.specs.declared.Kind.TheVariants.{Reading, Announcement, Answer}
-use Rattle.group_plan.specs.Plans.{Group, PlanView, floor_of, members, IsWithinLimits}
+use Rattle.group_plan.specs.Plans.{PlanView, members, IsWithinLimits}
 use Rattle.group_plan.specs.Tables.{PresenceView, IsPresenceTable}
 use Rattle.meter_frames.specs.declared.Frame.{Frame}
 use Rattle.transcript_log.specs.Events.{once}
@@ -20,56 +18,6 @@ use Rattle.group_book.specs.Start.{first_page, first_page_at}
 use Rattle.group_book.specs.Books.{posted}
 use Rattle.group_book.specs.Replay.{IsPage, Replays}
 use Rattle.group_book.proofs.PlaceLemmas.{frame_at-lt}
-use Rattle.group_plan.specs.NewPlans.{stated}
-use Rattle.missing_round.specs.Sets.{joined}
-use Rattle.missing_round.proofs.SetLemmas.{joined-picked, same_picked, none-picked}
-
--- ---- a set that is made member by member
-
--- the numbers below m that pass the test
-abbrev pub passed : (ℕ → Bool) → ℕ → ℕ → List ℕ
-passed test m n = filter (λ i. nat_lt i m && test i) (range_with_len 0 n)
-
-pub passed-none : (test : ℕ → Bool) (n : ℕ) → passed test 0 n ≡ []
-passed-none test n = none-picked (λ i. nat_lt i 0 && test i) 0 n (λ i l u. ap (λ b. b && test i) (le-ltb i 0 (omega arith)))
-
-pub passed-all : (test : ℕ → Bool) (n : ℕ) → passed test n n ≡ filter test (range_with_len 0 n)
-passed-all test n = same_picked (λ i. nat_lt i n && test i) test 0 n (λ i l u. ap (λ b. b && test i) (lt-ltb i n (omega arith)))
-
--- one test more
-below_next : (test : ℕ → Bool) (m i : ℕ) → (nat_lt i (m + 1) && test i) ≡ (((i == m) && test i) || (nat_lt i m && test i))
-below_next test m i = elim (cases_lt i m) [
-  | inl lt ↦ grind (arith, lt-ltb i m lt, lt-ltb i (m + 1) (omega arith), ne_eqb i m (omega arith))
-  | inr le ↦ ⊎_elim
-      (λ e. grind (arith, eq-eqb i m e, le-ltb i m le, lt-ltb i (m + 1) (omega arith)))
-      (λ ne. grind (arith, ne_eqb i m ne, le-ltb i m le, le-ltb i (m + 1) (omega arith)))
-      (cases_eq i m)
-]
-
-pub passed-member : (test : ℕ → Bool) (m n : ℕ) → m < n → test m ≡ true → joined m (passed test m n) ≡ passed test (m + 1) n
-passed-member test m n lt is =
-    joined-picked (λ i. nat_lt i m && test i) (λ i. nat_lt i (m + 1) && test i) 0 n m (omega arith) (omega (arith, lt))
-    (λ i l u. below_next test m i ∙ ap (λ b. b || (nat_lt i m && test i)) (here i))
-  where
-    here : (i : ℕ) → ((i == m) && test i) ≡ (i == m)
-    here i = ⊎_elim (λ e. grind (arith, eq-eqb i m e, ap test e, is)) (λ ne. grind (arith, ne_eqb i m ne)) (cases_eq i m)
-
-pub passed-other : (test : ℕ → Bool) (m n : ℕ) → test m ≡ false → passed test m n ≡ passed test (m + 1) n
-passed-other test m n isnt =
-    same_picked (λ i. nat_lt i m && test i) (λ i. nat_lt i (m + 1) && test i) 0 n
-    (λ i l u. sym (below_next test m i ∙ ap (λ b. b || (nat_lt i m && test i)) (here i)))
-  where
-    here : (i : ℕ) → ((i == m) && test i) ≡ false
-    here i = ⊎_elim (λ e. grind (arith, eq-eqb i m e, ap test e, isnt)) (λ ne. grind (arith, ne_eqb i m ne)) (cases_eq i m)
-
--- ---- floors
-
-pub floor-is : (groups : List Group) (g : ℕ) (d : GroupPlan) → g < length groups → (slice_index_or (map stated groups) g d).floor ≡ floor_of groups g
-floor-is [] g d lt = absurd (omega (arith, lt))
-floor-is (x ∷ groups) zero d lt = refl
-floor-is (x ∷ groups) (suc g) d lt = floor-is groups g d (omega (arith, lt))
-
--- ---- a book with no line
 
 nothing_passes : (test : ℕ → Bool) (xs : List ℕ) → ((i : ℕ) → test i ≡ false) → filter test xs ≡ []
 nothing_passes test [] none = refl

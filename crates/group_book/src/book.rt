@@ -11,7 +11,7 @@ ghost use Rattle.group_book.specs.Replay.{IsJournal, IsPage};
 ghost use Rattle.group_book.specs.Tables.{IsTranscriptUnder, IsOutcomeUnder};
 ghost use Rattle.group_book.specs.BookParts.{IsOther, IsOtherSet, HasSetOf};
 
-use crate::copies::{copy_of_frames, copy_of_lines, copy_of_pages};
+use crate::copies::{copy_of_frames, copy_of_pages};
 use crate::lines::{add_close, add_end, add_send, add_take};
 use crate::page::Page;
 use crate::places::{frame_at, is_round, page_at};
@@ -23,7 +23,7 @@ use missing_round::MeterSet;
 use round_machine::{Closing, Ending, Verdict};
 use std::alloc::{AllocError, Global};
 use std::marker::Model;
-use transcript_log::Line;
+use transcript_log::Lines;
 
 /// All rounds of a plan and who has a reading, the frame posted under each tag, who took its announcement, and the journal:
 /// the list of lines so far. What it keeps is always what the journal says.
@@ -35,17 +35,16 @@ pub struct Book {
     pages: Vec<Page>,
     /// The posted frames, one kind after another and in each by places.
     frames: Vec<Option<Frame>>,
-    journal: Vec<Line>,
+    journal: Lines,
 }
 
 impl Model for Book {
-    ghost use Rattle.std.specs.Prelude.{◌-◌, vec_len, vec_capacity};
     ghost use Rattle.group_book.specs.Books.{BookView};
     ghost use Rattle.group_book.specs.Replay.{Replays};
 
     ghost Value = { BookView };
 
-    ghost view = { λ b. record { presence = b.presence; journal = b.journal.items; spare = vec_capacity b.journal - vec_len b.journal } };
+    ghost view = { λ b. record { presence = b.presence; journal = b.journal.items; spare = b.journal.spare } };
 
     ghost invariant = { λ b. Replays b.presence b.pages.items b.frames.items b.journal.items };
 }
@@ -62,7 +61,7 @@ impl Book {
             pages: first_pages(alloc, plan)?,
             frames: no_frames(alloc, plan)?,
             presence: presence.try_copy()?,
-            journal: Vec::new(alloc),
+            journal: Lines::new(alloc),
         })
     }
 
@@ -81,10 +80,10 @@ impl Book {
     }
 
     /// The lines so far.
-    pub fn journal(&self) -> &[Line]
-        ensures lines { result.now ≡ self.now.journal }
-        ensures journal { IsJournal (shape_of self.now) result.now }
-        ensures tables { IsTranscriptUnder self.now.presence result.now }
+    pub fn journal(&self) -> &Lines
+        ensures lines { result.now.items ≡ self.now.journal }
+        ensures journal { IsJournal (shape_of self.now) result.now.items }
+        ensures tables { IsTranscriptUnder self.now.presence result.now.items }
     {
         &self.journal
     }
@@ -93,7 +92,7 @@ impl Book {
     pub fn spare(&self) -> u64
         ensures { result ≡ self.now.spare }
     {
-        (self.journal.capacity() - self.journal.len()) as u64
+        self.journal.spare()
     }
 
     /// Makes room for the lines of so many events.
@@ -103,7 +102,7 @@ impl Book {
         ensures journal { self.new.journal ≡ self.old.journal }
         ensures spare { self.old.spare ≤ self.new.spare }
     {
-        self.journal.reserve(events as usize)
+        self.journal.reserve(events)
     }
 
     /// An equal book. For how many lines it has room is not said.
@@ -116,7 +115,7 @@ impl Book {
             presence: self.presence.try_copy()?,
             pages: copy_of_pages(self.alloc, &self.pages)?,
             frames: copy_of_frames(self.alloc, &self.frames)?,
-            journal: copy_of_lines(self.alloc, &self.journal)?,
+            journal: self.journal.try_copy()?,
         })
     }
 

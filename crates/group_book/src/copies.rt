@@ -5,7 +5,6 @@ ghost use Rattle.std.specs.Prelude.{◌≡◌, IfOk};
 use crate::page::Page;
 use meter_frames::Frame;
 use std::alloc::{AllocError, Global};
-use transcript_log::Line;
 
 pub(crate) fn copy_of_pages(alloc: Global, pages: &[Page]) -> Result<Vec<Page>, AllocError>
     ensures { IfOk result (λ copy. copy.items ≡ pages.now) }
@@ -20,10 +19,4 @@ pub(crate) fn copy_of_frames(
     ensures { IfOk result (λ copy. copy.items ≡ frames.now) }
 {
     frames.to_vec(alloc)
-}
-
-pub(crate) fn copy_of_lines(alloc: Global, lines: &[Line]) -> Result<Vec<Line>, AllocError>
-    ensures { IfOk result (λ copy. copy.items ≡ lines.now) }
-{
-    lines.to_vec(alloc)
 }

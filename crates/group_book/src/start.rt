@@ -1,46 +1,23 @@
 //! What a book begins with: every round with its members, and no frame.
 
-ghost use Rattle.std.specs.Prelude.{◌≡◌, ◌<◌, ◌≤◌, IsTrue, IfOk, OnOk, None, length, map, replicate};
+ghost use Rattle.std.specs.Prelude.{◌≡◌, ◌<◌, IsTrue, IfOk, OnOk, None, map, replicate};
 ghost use Rattle.std.specs.List.{range_with_len};
-ghost use Rattle.group_plan.specs.Plans.{IsWithinLimits, members, floor_of};
+ghost use Rattle.group_plan.specs.Plans.{IsWithinLimits};
 ghost use Rattle.group_book.specs.Places.{is_round, all_rounds, all_tags};
 ghost use Rattle.group_book.specs.Start.{first_page, first_page_at};
 
 use crate::page::Page;
 use group_plan::Plan;
 use meter_frames::Frame;
-use missing_round::MeterSet;
 use std::alloc::{AllocError, Global};
-
-fn members_of(plan: &Plan, group: u16, round: u32) -> MeterSet
-    requires { IsTrue (is_round plan.now group round) }
-    ensures { result ≡ members plan.now.groups group round }
-{
-    let mut members = MeterSet::empty();
-    for meter in 0..plan.meters(group) {
-        if plan.is_member(group, round, meter as u8) {
-            members = members.with(meter as u8);
-        }
-    }
-    members
-}
-
-fn floor_of(plan: &Plan, group: u16) -> u16
-    requires { group < length plan.now.groups }
-    ensures floor { result ≡ floor_of plan.now.groups group }
-    ensures least { 2 ≤ result }
-    ensures most { result ≤ 256 }
-{
-    plan.groups()[group as usize].floor as u16
-}
+use transcript_log::{floor_of, members};
 
 // The page with which a round begins.
 fn first_page(plan: &Plan, group: u16, round: u32) -> Page
     requires { IsTrue (is_round plan.now group round) }
     ensures { result ≡ first_page plan.now group round }
 {
-    let members = members_of(plan, group, round);
-    Page::new(members, floor_of(plan, group))
+    Page::new(members(plan, group, round), floor_of(plan, group))
 }
 
 // The page of a round by its number.

@@ -13,7 +13,7 @@ use Rattle.transcript_log.specs.declared.Line.{Line}
 use Rattle.transcript_log.specs.declared.Line.TheVariants.{Send as SendLine, Take as TakeLine, Close as CloseLine, End as EndLine}
 use Rattle.transcript_log.specs.declared.Entry.{Entry}
 use Rattle.transcript_log.specs.Events.{event_of, events_of}
-use Rattle.transcript_text.specs.Transcripts.{TranscriptView, FitsLine, Fits, IsTranscript}
+use Rattle.transcript_log.specs.Transcripts.{TranscriptView, FitsLine, Fits, IsTranscript}
 use Rattle.group_book.specs.Books.{BookView, past, posted, posted_in}
 use Rattle.transcript_log.specs.Journal.{past_of}
 use Rattle.ideal_masks.specs.Replaying.{IsOfBook, IsBlank, MakesEvent, HasEvents}
@@ -29,33 +29,28 @@ none_posted : (tag : Tag) (f : Frame) → posted_in tag [] ≡ Some f → ⊥
 unfolding posted
 none_posted tag f h = cc h
 
-pub replaying-none : (x : ReadingsView) (entries items : List Entry) (made room : BookView) → items ≡ entries → made.presence ≡ presence_of x → made.journal ≡ [] → room.presence ≡ made.presence → room.journal ≡ made.journal
-    → length items ≤ room.spare → Replaying x entries 0 room
-replaying-none x entries items made room same presence journal presence_kept journal_kept spare = record {
+pub replaying-none : (x : ReadingsView) (entries : List Entry) (made room : BookView) → made.presence ≡ presence_of x → made.journal ≡ [] → room.presence ≡ made.presence → room.journal ≡ made.journal
+    → length entries ≤ room.spare → Replaying x entries 0 room
+replaying-none x entries made room presence journal presence_kept journal_kept spare = record {
   presence = presence_kept ∙ presence;
   past = ap past_of (journal_kept ∙ journal);
-  spare = rw (← same) (omega (arith, spare));
+  spare = omega (arith, spare);
   blank = λ tag f h. absurd (none_posted tag f (sym (ap (posted_in tag) (journal_kept ∙ journal)) ∙ h));
 }
 
 events-push : (xs : List Entry) (e : Entry) → reverse (events_of (xs ++ e ∷ [])) ≡ event_of e.line ∷ reverse (events_of xs)
 events-push xs e = ap reverse (map-append (λ (z : Entry). event_of z.line) xs (e ∷ [])) ∙ reverse-append (events_of xs) (event_of e.line ∷ [])
 
-pub replaying-more : (x : ReadingsView) (entries items : List Entry) (k : ℕ) (e : Entry) (event : Event) (b c : BookView) → items ≡ entries → e ≡ get_or items k e → k < length items → event ≡ event_of e.line
+pub replaying-more : (x : ReadingsView) (entries : List Entry) (k : ℕ) (e : Entry) (event : Event) (b c : BookView) → e ≡ get_or entries k e → k < length entries → event ≡ event_of e.line
     → Replaying x entries k b → MakesEvent b event c → Replaying x entries (k + 1) c
-replaying-more x entries items k e event b c same is lt of before makes =
-    let lt_entries : k < length entries = rw (← same) lt in
-    let read : get_or entries k e ≡ e = rw (← same) (sym is) in
-    let at : take (k + 1) entries ≡ take k entries ++ e ∷ [] = take_more entries k e lt_entries ∙ ap (λ z. take k entries ++ z ∷ []) read in
+replaying-more x entries k e event b c is lt of before makes =
+    let at : take (k + 1) entries ≡ take k entries ++ e ∷ [] = take_more entries k e lt ∙ ap (λ z. take k entries ++ z ∷ []) (sym is) in
     record {
       presence = makes.presence ∙ before.presence;
       past = makes.past ∙ ap (λ z. z ∷ past b) of ∙ ap (λ p. event_of e.line ∷ p) before.past ∙ sym (ap (λ l. reverse (events_of l)) at ∙ events-push (take k entries) e);
       spare = let room = before.spare in let kept = makes.spare in omega arith;
       blank = makes.blank;
     }
-
-pub replaying-spare : (x : ReadingsView) (entries items : List Entry) (k : ℕ) (b : BookView) → items ≡ entries → k < length items → Replaying x entries k b → 0 < b.spare
-replaying-spare x entries items k b same lt before = let room = before.spare in let lt_entries : k < length entries = rw (← same) lt in omega arith
 
 -- an entry that fits the plan is of an event of the book
 of_book : (plan : PlanView) (fate : List ℕ) (l : Line) (b : BookView) → b.presence.plan ≡ plan → FitsLine plan fate l → IsOfBook b (event_of l)
@@ -65,16 +60,14 @@ of_book plan fate (TakeLine tag v) b same fits = rw same fits.0
 of_book plan fate (CloseLine g r closing) b same fits = rw same (and_from (nat_lt g (length plan.groups)) (nat_lt r plan.rounds) (lt-ltb g (length plan.groups) fits.0.group) (lt-ltb r plan.rounds fits.0.round))
 of_book plan fate (EndLine g r ending) b same fits = rw same (and_from (nat_lt g (length plan.groups)) (nat_lt r plan.rounds) (lt-ltb g (length plan.groups) fits.0.group) (lt-ltb r plan.rounds fits.0.round))
 
-pub replaying-event : (x : ReadingsView) (t : TranscriptView) (items : List Entry) (k : ℕ) (e : Entry) (event : Event) (b : BookView) → IsTranscript t → t.plan ≡ x.plan → items ≡ t.entries → e ≡ get_or items k e → k < length items → event ≡ event_of e.line
+pub replaying-event : (x : ReadingsView) (t : TranscriptView) (k : ℕ) (e : Entry) (event : Event) (b : BookView) → IsTranscript t → t.plan ≡ x.plan → e ≡ get_or t.entries k e → k < length t.entries → event ≡ event_of e.line
     → Replaying x t.entries k b → IsOfBook b event
-replaying-event x t items k e event b fits plan same is lt of before =
-    let lt_entries : k < length t.entries = rw (← same) lt in
-    let read : get_or t.entries k e ≡ e = rw (← same) (sym is) in
-    let here : Fits t.plan e = rw read at (All-get_or (Fits t.plan) t.entries k e lt_entries fits.fit) in
+replaying-event x t k e event b fits plan is lt of before =
+    let here : Fits t.plan e = rw (sym is) at (All-get_or (Fits t.plan) t.entries k e lt fits.fit) in
     rw of (of_book t.plan e.fate e.line b (ap (λ p. p.plan) before.presence ∙ sym plan) here)
 
-pub replayed : (x : ReadingsView) (entries items : List Entry) (k : ℕ) (b : BookView) → items ≡ entries → length items ≤ k → Replaying x entries k b → HasEvents x (events_of entries) b
-replayed x entries items k b same past_end made = record {
+pub replayed : (x : ReadingsView) (entries : List Entry) (k : ℕ) (b : BookView) → length entries ≤ k → Replaying x entries k b → HasEvents x (events_of entries) b
+replayed x entries k b past_end made = record {
   presence = made.presence;
-  past = made.past ∙ ap (λ l. reverse (events_of l)) (take_all k entries (rw (← same) past_end));
+  past = made.past ∙ ap (λ l. reverse (events_of l)) (take_all k entries past_end);
 }

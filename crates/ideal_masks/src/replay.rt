@@ -13,8 +13,7 @@ use meter_frames::Frame;
 use missing_round::MeterSet;
 use mod_word::Word;
 use std::alloc::{AllocError, Global};
-use transcript_log::Event;
-use transcript_text::Transcript;
+use transcript_log::{Event, Transcript};
 
 // The announced set of a round, and the empty one where it isn't announced.
 fn announced_set(book: &Book, group: u16, round: u32) -> MeterSet
@@ -81,9 +80,10 @@ pub(crate) fn replay(
 {
     let presence = Presence::of(alloc, readings)?;
     let mut book = Book::new(alloc, readings.plan(), &presence)?;
-    let entries = transcript.entries();
-    book.reserve(entries.len() as u64)?;
-    for entry in entries {
+    let len = transcript.len();
+    book.reserve(len as u64)?;
+    for at in 0..len {
+        let entry = transcript.entry(at);
         make_event(&mut book, &entry.line.event());
     }
     Ok(book)

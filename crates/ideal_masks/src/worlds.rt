@@ -16,7 +16,7 @@ use crate::{Differ, Offset, Offsets};
 use group_book::Book;
 use group_plan::Readings;
 use std::alloc::{AllocError, Global};
-use transcript_text::Transcript;
+use transcript_log::Transcript;
 
 // Adds the words of a group that move, by round.
 fn add_group(

@@ -22,12 +22,13 @@ fn three_meters_total_60(rt: HostRuntime) -> Result<(), Fail> {
         return Err(Fail::new("want of memory"));
     };
     // 9 Sends, 9 Takes, a Close and an End.
-    assert_eq!(&rt; done.transcript.entries().len(), 20);
+    assert_eq!(&rt; done.transcript.len(), 20);
     assert_eq!(&rt; rack.posts().len(), 9);
     let mut total = None;
-    for line in done.book.journal() {
-        if let Line::End { ending, .. } = line {
-            total = Some(*ending);
+    let lines = done.book.journal();
+    for at in 0..lines.len() {
+        if let Line::End { ending, .. } = lines.at(at) {
+            total = Some(ending);
         }
     }
     assert!(&rt; total == Some(Ending::Total(60)));

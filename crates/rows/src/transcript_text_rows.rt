@@ -6,8 +6,8 @@ use round_machine::Verdict;
 use row_fixtures::{PLAIN, plan_of_north, reading_tag, with_line};
 use std::alloc::Global;
 use std::test::Fail;
-use transcript_log::{Entry, Line};
-use transcript_text::{ReadError, Transcript, line_text, members, read, read_old, write};
+use transcript_log::{Entry, Line, Transcript, members};
+use transcript_text::{ReadError, line_text, read, read_old, write};
 
 /// The plain case in version 1.
 const OLD: &str = "\
@@ -58,7 +58,7 @@ fn texts_written_again(rt: HostRuntime) -> Result<(), Fail> {
         let Ok(transcript) = read_back else {
             panic!(rt; "refused")
         };
-        assert_eq!(rt; transcript.entries().len(), 20);
+        assert_eq!(rt; transcript.len(), 20);
         let text = write(rt.alloc(), &transcript)?;
         assert!(&rt; text.as_slice() == PLAIN.as_bytes());
     }

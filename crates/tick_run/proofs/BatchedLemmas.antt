@@ -12,7 +12,7 @@ use Rattle.transcript_log.specs.declared.Line.{Line}
 use Rattle.transcript_log.specs.declared.Entry.{Entry}
 use Rattle.transcript_log.specs.Events.{event_of}
 use Rattle.run_rows.specs.Ticks.{Clock, clock_of, phase, posts_of}
-use Rattle.transcript_text.specs.Transcripts.{TranscriptView, last_tick_from}
+use Rattle.transcript_log.specs.Transcripts.{TranscriptView, last_tick_from}
 use Rattle.group_book.specs.Books.{BookView}
 use Rattle.tick_run.specs.Running.{Stage, emptied, taken, closed, run_shape, IsRunning, HaveCome, KeepCopies, HaveEvents, quiet, calls_due}
 use Rattle.tick_run.specs.OnTheWay.{frames_in, tags_of, IsOfSend}

@@ -17,7 +17,7 @@ use Rattle.transcript_log.specs.Transcript.{transcript, lines_after, contents_of
 use Rattle.transcript_log.specs.Journal.{IsJournalAfter, HasFramesOf}
 use Rattle.transcript_log.proofs.JournalLemmas.{journal_is}
 use Rattle.run_rows.specs.Ticks.{Clock, clock_of, last_tick}
-use Rattle.transcript_text.specs.Transcripts.{TranscriptView, no_entries}
+use Rattle.transcript_log.specs.Transcripts.{TranscriptView, no_entries}
 use Rattle.group_book.specs.Books.{BookView, shape_of}
 use Rattle.tick_run.specs.Running.{starting, run_shape, run_contents, IsRunning}
 use Rattle.tick_run.specs.Sending.{KeptFates}

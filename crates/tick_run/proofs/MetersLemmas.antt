@@ -24,7 +24,7 @@ use Rattle.transcript_log.specs.Journal.{past_of}
 use Rattle.group_book.specs.Books.{BookView, shape_of, past}
 use Rattle.tick_run.specs.declared.meters.Meters.{Meters}
 use Rattle.lossy_link.specs.Arrivals.{Arrival}
-use Rattle.transcript_text.specs.Transcripts.{TranscriptView}
+use Rattle.transcript_log.specs.Transcripts.{TranscriptView}
 use Rattle.tick_run.specs.Progress.{KeepSets, past_of_entries}
 use Rattle.tick_run.specs.Running.{Stage, run_shape, IsRunning}
 use Rattle.tick_run.specs.Batches.{Batched}

@@ -24,7 +24,7 @@ use Rattle.transcript_log.specs.Transcript.{Contents, ending}
 use Rattle.transcript_log.specs.Frames.{contents_of_lines}
 use Rattle.transcript_log.specs.Journal.{past_of, core_line, IsJournalAfter}
 use Rattle.run_rows.specs.Ticks.{Clock}
-use Rattle.transcript_text.specs.Transcripts.{HasRound, FitsClosing, FitsEnding, FitsLine}
+use Rattle.transcript_log.specs.Transcripts.{HasRound, FitsClosing, FitsEnding, FitsLine}
 use Rattle.group_book.specs.declared.answers.TakeError.TheVariants.{Unknown, Forged}
 use Rattle.group_book.specs.Books.{BookView, shape_of, posted_of}
 use Rattle.group_book.specs.Places.{is_round}

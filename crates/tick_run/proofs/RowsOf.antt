@@ -10,7 +10,7 @@ use Rattle.transcript_log.specs.Events.{lines_of}
 use Rattle.transcript_log.specs.Frames.{contents_of_lines}
 use Rattle.transcript_log.specs.Journal.{past_of}
 use Rattle.transcript_log.specs.Schedule.{shape_of_presence}
-use Rattle.transcript_text.specs.Transcripts.{TranscriptView}
+use Rattle.transcript_log.specs.Transcripts.{TranscriptView}
 use Rattle.run_rows.specs.Ticks.{clock_of, posts_of}
 use Rattle.run_rows.specs.Report.{fate_at, outcome_row, row}
 use Rattle.run_rows.proofs.FateLemmas.{rows_by_posts}

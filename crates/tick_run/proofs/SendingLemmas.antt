@@ -19,7 +19,7 @@ use Rattle.transcript_log.specs.Schedule.{Shape, shape_of_presence}
 use Rattle.transcript_log.specs.Transcript.{Contents, frame}
 use Rattle.transcript_log.specs.Journal.{past_of, core_line, HasFramesOf}
 use Rattle.run_rows.specs.Ticks.{Clock, clock_of, posts_of, sent_at}
-use Rattle.transcript_text.specs.Transcripts.{TranscriptView}
+use Rattle.transcript_log.specs.Transcripts.{TranscriptView}
 use Rattle.group_book.specs.Books.{BookView, shape_of, past, knows}
 use Rattle.tick_run.specs.Progress.{past_of_entries, sending}
 use Rattle.tick_run.specs.TickFrames.{IsDue}

@@ -9,7 +9,7 @@ use Rattle.link_lanes.specs.Lanes.{Slot}
 use Rattle.lossy_link.specs.Arrivals.{Arrival}
 use Rattle.meter_frames.specs.declared.Frame.{Frame}
 use Rattle.transcript_log.specs.declared.Entry.{Entry}
-use Rattle.transcript_text.specs.Transcripts.{TranscriptView, last_tick_from}
+use Rattle.transcript_log.specs.Transcripts.{TranscriptView, last_tick_from}
 use Rattle.group_book.specs.Books.{BookView}
 use Rattle.tick_run.specs.Progress.{past_of_entries, sending}
 use Rattle.run_rows.specs.Ticks.{clock_of}

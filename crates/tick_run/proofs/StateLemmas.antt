@@ -25,7 +25,7 @@ use Rattle.transcript_log.specs.Transcript.{Contents, frame}
 use Rattle.transcript_log.specs.Journal.{HasFramesOf}
 use Rattle.transcript_log.proofs.ListLemmas.{sum_by-map}
 use Rattle.run_rows.specs.Ticks.{Clock, clock_of, phase, tag_of, takes_at, copies, sent_at, due_of}
-use Rattle.transcript_text.specs.Transcripts.{TranscriptView, no_entries}
+use Rattle.transcript_log.specs.Transcripts.{TranscriptView, no_entries}
 use Rattle.group_book.specs.Books.{BookView}
 use Rattle.tick_run.specs.OnTheWay.{same_tag, is_copy, tag_in, frames_in, tags_of, IsOfSend}
 use Rattle.tick_run.specs.Progress.{IsDelay, RunsTo, IsBatch, past_of_entries, sending}

@@ -20,7 +20,7 @@ use Rattle.group_plan.specs.declared.Kind.{Kind}
 use Rattle.group_plan.specs.declared.Kind.TheVariants.{Reading, Announcement, Answer}
 use Rattle.transcript_log.proofs.EventLemmas.{is_send-itself}
 use Rattle.run_rows.specs.Ticks.{Clock, clock_of, moment, copies}
-use Rattle.transcript_text.specs.Transcripts.{TranscriptView, last_tick_from}
+use Rattle.transcript_log.specs.Transcripts.{TranscriptView, last_tick_from}
 use Rattle.group_book.specs.Books.{BookView, knows, past, posted_in}
 use Rattle.tick_run.specs.OnTheWay.{same_tag, frame_in, tag_in, frames_in, tags_of, IsSpelling, IsOfSend}
 use Rattle.tick_run.specs.Progress.{RunsTo}

@@ -20,7 +20,7 @@ use Rattle.transcript_log.specs.Transcript.{Contents}
 use Rattle.transcript_log.specs.Journal.{past_of}
 use Rattle.transcript_log.proofs.ListLemmas.{flat_map_same}
 use Rattle.run_rows.specs.Ticks.{Clock, clock_of, sent_at, due_of}
-use Rattle.transcript_text.specs.Transcripts.{TranscriptView, last_tick_from}
+use Rattle.transcript_log.specs.Transcripts.{TranscriptView, last_tick_from}
 use Rattle.group_book.specs.Books.{BookView, past}
 use Rattle.tick_run.specs.Progress.{past_of_entries}
 use Rattle.tick_run.specs.TickFrames.{frames_due, AreHeard, IsDue}

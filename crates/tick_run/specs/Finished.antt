@@ -12,7 +12,7 @@ use Rattle.transcript_log.specs.Schedule.{shape_of_presence}
 use Rattle.transcript_log.specs.Transcript.{transcript}
 use Rattle.run_rows.specs.Report.{fate_at, outcome_row, row}
 use Rattle.run_rows.specs.Ticks.{clock_of, HaveDelays, IsTickRun, posts_of}
-use Rattle.transcript_text.specs.Transcripts.{TranscriptView}
+use Rattle.transcript_log.specs.Transcripts.{TranscriptView}
 use Rattle.group_book.specs.Books.{BookView, has_round, past, shape_of}
 
 -- the entries are a tick run whose lines are the transcript of its events under the stream words of the keys; the book has these lines

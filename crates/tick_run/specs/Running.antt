@@ -14,7 +14,7 @@ use Rattle.transcript_log.specs.Schedule.{Shape, shape_of_presence}
 use Rattle.transcript_log.specs.Transcript.{Contents, contents_of_tables}
 use Rattle.transcript_log.specs.Journal.{HasFramesOf}
 use Rattle.run_rows.specs.Ticks.{Clock, clock_of, copies}
-use Rattle.transcript_text.specs.Transcripts.{TranscriptView}
+use Rattle.transcript_log.specs.Transcripts.{TranscriptView}
 use Rattle.group_book.specs.Books.{BookView}
 use Rattle.shared_book.specs.declared.parcel.Parcel.{Parcel}
 use Rattle.shared_book.specs.declared.parcel.Parcel.TheVariants.{Close as CloseParcel, End as EndParcel}

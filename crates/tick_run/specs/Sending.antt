@@ -12,7 +12,7 @@ use Rattle.meter_frames.specs.declared.Frame.{Frame}
 use Rattle.meter_frames.specs.Frames.{spelling, IsFrame, FitsKind}
 use Rattle.transcript_log.specs.declared.Entry.{Entry}
 use Rattle.run_rows.specs.Ticks.{clock_of, sent_at, due_of, posts_of}
-use Rattle.transcript_text.specs.Transcripts.{TranscriptView}
+use Rattle.transcript_log.specs.Transcripts.{TranscriptView}
 use Rattle.group_book.specs.declared.answers.SendAnswer.{SendAnswer}
 use Rattle.group_book.specs.Books.{BookView, SendEnds}
 use Rattle.tick_run.specs.OnTheWay.{AreLanesAt}

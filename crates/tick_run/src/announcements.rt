@@ -15,7 +15,7 @@ use meter_frames::Frame;
 use missing_round::MeterSet;
 use mod_word::Word;
 use std::alloc::{AllocError, Global};
-use transcript_text::members;
+use transcript_log::members;
 
 /// Adds the announcement of a missing set to each other member.
 fn add_announcements(

@@ -1,9 +1,9 @@
 //! The head end's two batches of a tick: its Takes, and its Closes and Ends.
 
-ghost use Rattle.std.specs.Prelude.{◌≡◌, ◌++◌, ◌-◌, ◌≤◌, ◌<◌, List, [], ◌∷◌, length, map, All, Some, None, IfOk, OnOk, if◌then◌else◌};
+ghost use Rattle.std.specs.Prelude.{◌≡◌, ◌++◌, ◌-◌, ◌≤◌, ◌<◌, List, [], ◌∷◌, length, map, drop, All, Some, None, IfOk, OnOk, if◌then◌else◌};
 ghost use Rattle.transcript_log.specs.declared.Event.{Event};
 ghost use Rattle.transcript_log.specs.declared.Event.TheVariants.{Take};
-ghost use Rattle.transcript_text.specs.Transcripts.{last_tick_from, FitsLine};
+ghost use Rattle.transcript_log.specs.Transcripts.{last_tick_from, FitsLine};
 ghost use Rattle.tick_run.specs.Batches.{CanTake, Batched};
 ghost use Rattle.tick_run.specs.OnTheWay.{frames_in, tags_of};
 ghost use Rattle.tick_run.specs.Running.{Ask, quiet, is_due, calls_due, parcels_of, parcels_due};
@@ -20,8 +20,7 @@ use shared_book::Parcel;
 use std::alloc::{AllocError, Global};
 use std::sync::Wait;
 use std::thread::Threads;
-use transcript_log::{Entry, Line};
-use transcript_text::Transcript;
+use transcript_log::{Entry, Lines, Transcript};
 
 /// The copies as parcels, in order.
 fn parcels_in(alloc: Global, copies: &[[u8; 52]]) -> Result<Vec<Parcel>, AllocError>
@@ -44,17 +43,23 @@ fn no_copies() -> Fate
     }
 }
 
-/// Adds lines at a tick to the transcript.
-fn push_lines(transcript: &mut Transcript, lines: &[Line], tick: u32) -> Result<(), AllocError>
+/// Adds the lines of a journal, from a place on, at a tick to the transcript.
+fn push_lines(
+    transcript: &mut Transcript,
+    journal: &Lines,
+    from: usize,
+    tick: u32,
+) -> Result<(), AllocError>
     requires later { last_tick_from 0 transcript.old.entries ≤ tick }
-    requires lines { All (FitsLine transcript.old.plan []) lines.now }
-    ensures { OnOk result (transcript.new ≡ record transcript.old { entries = transcript.old.entries ++ map (quiet tick) lines.now }) }
+    requires within { from ≤ length journal.now.items }
+    requires lines { All (FitsLine transcript.old.plan []) (drop from journal.now.items) }
+    ensures { OnOk result (transcript.new ≡ record transcript.old { entries = transcript.old.entries ++ map (quiet tick) (drop from journal.now.items) }) }
 {
-    for line in lines {
+    for at in from..journal.len() {
         transcript.push(Entry {
             tick,
             fate: no_copies(),
-            line: *line,
+            line: journal.at(at),
         })?;
     }
     Ok(())
@@ -85,7 +90,7 @@ fn commit_batch<R: Threads + Wait + Sync, G: Gate>(
         Err(_) => Err(RunError::Memory),
         Ok(collected) => {
             let Collected { book, replies: _ } = collected;
-            push_lines(&mut transcript, &book.journal()[before..], tick)?;
+            push_lines(&mut transcript, book.journal(), before, tick)?;
             Ok(Running {
                 book,
                 transcript,

@@ -24,7 +24,7 @@ use meter_frames::Frame;
 use missing_round::MeterSet;
 use mod_word::Word;
 use std::alloc::AllocError;
-use transcript_text::members;
+use transcript_log::members;
 
 /// Whether it is an announcement to this meter of the round.
 fn is_announcement_for(tag: Tag, group: u16, round: u32, meter: u8) -> bool

@@ -17,7 +17,7 @@ use group_plan::{Kind, Tag};
 use meter_frames::Frame;
 use missing_round::MeterSet;
 use std::alloc::{AllocError, Global};
-use transcript_text::members;
+use transcript_log::members;
 
 /// What the meters of a group send at a tick.
 #[derive(Drop)]

@@ -13,7 +13,7 @@ use mod_word::Word;
 use rayon::prelude::*;
 use std::alloc::{AllocError, Global};
 use std::thread::Threads;
-use transcript_text::members;
+use transcript_log::members;
 
 /// The word of each reading of a plan, hidden under the words of its keys, and 0 where there is no reading. Each row is
 /// that of a group in a round. Rounds follow one another, and in each the groups.

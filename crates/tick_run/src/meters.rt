@@ -1,33 +1,23 @@
 //! The meters of a run: each reads its rounds, and answers at most one missing set in each.
 
 ghost use Rattle.std.specs.Prelude.{◌≡◌, ◌+◌, ◌<◌, ◌≤◌, ◌++◌, ◌∷◌, [], ℕ, true, All, IfOk, OnOk, IsTrue, is_some, length};
-ghost use Rattle.group_plan.specs.Plans.{floor_of, is_place, is_member};
+ghost use Rattle.group_plan.specs.Plans.{is_place, is_member};
 ghost use Rattle.group_plan.specs.Tables.{reading};
 ghost use Rattle.group_book.specs.Books.{BookView};
 ghost use Rattle.meter_frames.specs.declared.Frame.{Frame};
 ghost use Rattle.tick_run.specs.OnTheWay.{frame_in, frames_in, IsSpelling};
 ghost use Rattle.tick_run.specs.Meters.{AreOfGroup, AreMeters, book_of, CanRead, CanReadGroup, is_answer, is_announcement, announcements, IsTold, AreTold, CanHear, CanHearAll, HasKept, HaveHeard};
 
-use group_plan::{Kind, Plan, Readings, Tag};
+use group_plan::{Kind, Readings, Tag};
 use meter_core::{Heard, Meter};
 use meter_frames::{Frame, decode};
 use std::alloc::{AllocError, Global};
-use transcript_text::members;
+use transcript_log::{floor_of, members};
 
 /// The meters of a plan, by group and meter.
 #[derive(Drop)]
 pub(crate) struct Meters {
     groups: Vec<Vec<Meter>>,
-}
-
-/// The floor of a group.
-fn floor_of(plan: &Plan, group: u16) -> u16
-    requires { group < length plan.now.groups }
-    ensures floor { result ≡ floor_of plan.now.groups group }
-    ensures least { 2 ≤ result }
-    ensures most { result ≤ 256 }
-{
-    plan.groups()[group as usize].floor as u16
 }
 
 /// The meters of a group, before they read or hear anything.

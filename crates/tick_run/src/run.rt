@@ -33,7 +33,7 @@ use pair_keys::KeyTable;
 use std::alloc::{AllocError, Global};
 use std::sync::Wait;
 use std::thread::Threads;
-use transcript_text::Transcript;
+use transcript_log::Transcript;
 
 /// What a run that is over has made: its book, and its transcript.
 #[derive(Drop)]

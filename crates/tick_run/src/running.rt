@@ -2,7 +2,7 @@
 
 use group_book::Book;
 use lossy_link::Link;
-use transcript_text::Transcript;
+use transcript_log::Transcript;
 
 /// The book, the transcript and the link of a run that goes on.
 #[derive(Drop)]

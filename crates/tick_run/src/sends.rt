@@ -5,7 +5,7 @@ ghost use Rattle.missing_round.specs.Masks.{Masks};
 ghost use Rattle.group_plan.specs.Tables.{ReadingsView};
 ghost use Rattle.link_lanes.specs.Lanes.{Slot};
 ghost use Rattle.link_lanes.specs.Racks.{slots, posts_of, spare_of, HasRoom};
-ghost use Rattle.transcript_text.specs.Transcripts.{last_tick_from};
+ghost use Rattle.transcript_log.specs.Transcripts.{last_tick_from};
 ghost use Rattle.tick_run.specs.Progress.{IsDelay};
 ghost use Rattle.tick_run.specs.Running.{IsRunning, sending_at};
 ghost use Rattle.tick_run.specs.Sending.{IsOfPlan, SendsOne, KeepsFates, GoesOn, AreDue};

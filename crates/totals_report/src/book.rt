@@ -11,7 +11,7 @@ use crate::row::{Report, ReportRow, RowOutcome};
 use crate::writing::{rows_text, summary_line};
 use group_book::{Book, OutcomeState};
 use std::alloc::{AllocError, Global};
-use transcript_text::members;
+use transcript_log::members;
 
 /// How a round stands in a report. A report does not say whose answers were lacking.
 fn outcome_of_state(state: OutcomeState) -> RowOutcome

@@ -4,7 +4,7 @@ ghost use Rattle.run_rows.specs.Summary.{is_sending, is_taking};
 ghost use Rattle.totals_report.specs.Counts.{is_total, is_lacking, is_thin};
 
 use crate::row::{ReportRow, RowOutcome};
-use transcript_log::Line;
+use transcript_log::{Line, Lines};
 
 /// How many rounds there are, how many of each outcome, how many Sends with a frame, and how many Takes.
 #[derive(Drop)]
@@ -48,14 +48,14 @@ pub(crate) fn count_outcomes(rows: &[ReportRow]) -> OutcomeCounts
 }
 
 /// Counts the Sends with a frame, and the Takes.
-pub(crate) fn count_lines(lines: &[Line]) -> (u64, u64)
-    ensures sends { result.0 ≡ count_by is_sending lines.now }
-    ensures takes { result.1 ≡ count_by is_taking lines.now }
+pub(crate) fn count_lines(lines: &Lines) -> (u64, u64)
+    ensures sends { result.0 ≡ count_by is_sending lines.now.items }
+    ensures takes { result.1 ≡ count_by is_taking lines.now.items }
 {
     let mut sends = 0u64;
     let mut takes = 0u64;
-    for line in lines {
-        match *line {
+    for at in 0..lines.len() {
+        match lines.at(at) {
             Line::Send { frame: Some(_), .. } => sends += 1,
             Line::Take { .. } => takes += 1,
             _ => {}

@@ -6,3 +6,7 @@ pub mod Frames
 pub mod Journal
 pub mod Statements
 pub mod Rows
+pub mod Lines
+pub mod SmallLines
+pub mod Transcripts
+pub mod Stamps

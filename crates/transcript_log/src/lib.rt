@@ -4,10 +4,18 @@
 ghost use Rattle.std.specs.Prelude.{◌≡◌};
 ghost use Rattle.transcript_log.specs.Events.{event_of};
 
+mod lines;
+mod round_members;
+mod small;
+mod transcript;
+
 use group_plan::Tag;
+pub use lines::Lines;
 use link_lanes::Fate;
 use meter_frames::Frame;
 use round_machine::{Closing, Ending, Verdict};
+pub use round_members::{floor_of, members};
+pub use transcript::Transcript;
 
 /// One step of the protocol: a frame is sent under its tag, one of its copies is taken, or a round is closed or ended.
 #[derive(Clone, Copy, Debug, PartialEq, Eq)]

@@ -14,7 +14,7 @@ use Rattle.transcript_text.specs.declared.fault.RowFault.{RowFault}
 use Rattle.transcript_text.specs.declared.fault.ReadError.{ReadError}
 use Rattle.transcript_text.specs.declared.fault.ReadError.TheVariants as fault
 use Rattle.field_texts.specs.Parts.{parts}
-use Rattle.transcript_text.specs.Transcripts.{Fits, IsEntry, NeverFalls}
+use Rattle.transcript_log.specs.Transcripts.{Fits, IsEntry, NeverFalls}
 use Rattle.transcript_text.specs.Spelling.{ended, entries_text, entry_text, fields_of}
 use Rattle.transcript_text.specs.Reading.{after_row, before, entries_from, is_done, row_of}
 use Rattle.field_texts.proofs.TextLaws.{joined_parts}

@@ -26,7 +26,7 @@ use Rattle.transcript_text.specs.declared.fault.RowFault.{RowFault}
 use Rattle.transcript_text.specs.declared.fault.RowFault.TheVariants.{Field}
 use Rattle.field_texts.specs.Numbers.{number_of, within}
 use Rattle.transcript_text.specs.Parts.{at}
-use Rattle.transcript_text.specs.Transcripts.{Fits, FitsClosing, FitsEnding, FitsLine, HasPlace, IsEntry, IsFate, IsLine, IsWithin}
+use Rattle.transcript_log.specs.Transcripts.{Fits, FitsClosing, FitsEnding, FitsLine, HasPlace, IsEntry, IsFate, IsLine, IsWithin}
 use Rattle.field_texts.specs.Sets.{numbers_text}
 use Rattle.transcript_text.specs.Spelling.{closing_fields, ending_fields, fields_of, frame_bytes, kind_text, sent_fields, verdict_text}
 use Rattle.field_texts.specs.Sets.{set_of}

@@ -14,7 +14,7 @@ use Rattle.transcript_text.specs.declared.fault.RowFault.{RowFault}
 use Rattle.transcript_text.specs.declared.fault.RowFault.TheVariants as row_fault
 use Rattle.transcript_text.specs.declared.fault.ReadError.{ReadError}
 use Rattle.transcript_text.specs.declared.fault.ReadError.TheVariants as fault
-use Rattle.transcript_text.specs.Transcripts.{TranscriptView}
+use Rattle.transcript_log.specs.Transcripts.{TranscriptView}
 use Rattle.transcript_text.specs.Spelling.{ended}
 use Rattle.transcript_text.specs.Reading.{◌>>=◌, after_row, before, entries_from, in_line, is_done, row_of}
 use Rattle.transcript_text.specs.Faults.{fault_line}

@@ -11,7 +11,12 @@ use Rattle.transcript_text.specs.declared.fault.ReadError.{ReadError}
 use Rattle.transcript_text.specs.declared.fault.ReadError.TheVariants as fault
 use Rattle.field_texts.specs.Parts.{parts}
 use Rattle.transcript_text.specs.Reading.{after_row, before, entries_from, in_line, is_done, row_of}
+use Rattle.transcript_log.specs.Transcripts.{last_tick_from}
 use Rattle.field_texts.proofs.Cutting.{parts_some}
+
+pub last-push : (last : ℕ) (es : List Entry) (e : Entry) → last_tick_from last (es ++ e ∷ []) ≡ e.tick
+last-push last [] e = refl
+last-push last (x ∷ es) e = last-push x.tick es e
 
 pub opens : (version : Version) (plan : PlanView) (n last count : ℕ) (line : List ℕ) (next : List (List ℕ)) → 0 < length next
     → entries_from version plan n last count (line ∷ next) ≡ after_row n count next (λ e. entries_from version plan (n + 1) e.tick (count + 1) next) (row_of version plan last (parts 44 line))

@@ -8,7 +8,7 @@ use Rattle.field_texts.proofs.TextLaws.{AllClean, joined_parts, parts_at, parts_
 use Rattle.transcript_text.specs.declared.version.Version.{Version}
 use Rattle.transcript_text.specs.declared.fault.ReadError.{ReadError}
 use Rattle.transcript_text.specs.declared.fault.ReadError.TheVariants as fault
-use Rattle.transcript_text.specs.Transcripts.{TranscriptView}
+use Rattle.transcript_log.specs.Transcripts.{TranscriptView}
 use Rattle.transcript_text.specs.ReadBack.{HasText}
 use Rattle.transcript_text.specs.Spelling.{ended, text_of}
 use Rattle.transcript_text.specs.Reading.{◌>>=◌, Gives, before, entries_from}

@@ -1,5 +1,4 @@
-mod Pushing
-mod MemberLemmas
+mod Writable
 mod SpanLemmas
 mod SpanText
 mod Cutting

@@ -6,7 +6,7 @@ use Rattle.transcript_log.specs.declared.Entry.{Entry}
 use Rattle.transcript_text.specs.declared.version.Version.{Version}
 use Rattle.transcript_text.specs.declared.version.Version.TheVariants.{One, Two}
 use Rattle.field_texts.specs.Parts.{parts}
-use Rattle.transcript_text.specs.Transcripts.{TranscriptView, IsTranscript}
+use Rattle.transcript_log.specs.Transcripts.{TranscriptView, IsTranscript}
 use Rattle.transcript_text.specs.Spelling.{entries_text, head_text, stated_spans, text_of, transcript_text}
 use Rattle.transcript_text.specs.Reading.{entries_from}
 use Rattle.transcript_text.specs.Heads.{HeadRead, has_version, head_of, read_of}

@@ -1,4 +1,3 @@
-pub mod Transcripts
 pub mod Spelling
 pub mod Writing
 pub mod Parts

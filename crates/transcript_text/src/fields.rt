@@ -6,7 +6,7 @@ ghost use Rattle.transcript_text.specs.declared.version.Version.TheVariants.{One
 ghost use Rattle.transcript_text.specs.declared.fault.RowFault.TheVariants.{Field};
 ghost use Rattle.field_texts.specs.Numbers.{number_of, within};
 ghost use Rattle.field_texts.specs.Parts.{parts};
-ghost use Rattle.transcript_text.specs.Transcripts.{IsFate};
+ghost use Rattle.transcript_log.specs.Transcripts.{IsFate};
 ghost use Rattle.field_texts.specs.Sets.{ahead, set_of};
 ghost use Rattle.transcript_text.specs.Reading.{kind_of, verdict_of, dash_of, fate_of, delays_from, bytes_of, frame_of_bytes, frame_of, is_within, fitting, sent_of, closing_of, ending_of};
 

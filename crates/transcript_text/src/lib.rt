@@ -1,4 +1,4 @@
-//! Transcripts, and their text.
+//! The texts of transcripts.
 #![tactic(auto)]
 
 mod cut;
@@ -9,9 +9,7 @@ mod head;
 mod head_writing;
 mod lines;
 mod reader;
-mod round_members;
 mod rows;
-mod transcript;
 mod version;
 mod writer;
 mod writing;
@@ -19,8 +17,6 @@ mod writing;
 pub use entry_lines::entry_line;
 pub use fault::ReadError;
 pub use reader::{read, read_old};
-pub use round_members::members;
-pub use transcript::Transcript;
 pub use version::Version;
 pub use writer::write;
 pub use writing::line_text;

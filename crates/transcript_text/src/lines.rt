@@ -1,6 +1,7 @@
 //! The entries of a transcript, line by line.
-ghost use Rattle.std.specs.Prelude.{◌≡◌, ◌+◌, ◌-◌, ◌<◌, ◌^◌, length};
+ghost use Rattle.std.specs.Prelude.{◌≡◌, ◌+◌, ◌-◌, ◌<◌, ◌^◌, length, IfOk};
 ghost use Rattle.field_texts.specs.Parts.{parts};
+ghost use Rattle.transcript_log.specs.Transcripts.{IsTranscript};
 ghost use Rattle.transcript_text.specs.Reading.{Gives, in_line, entries_from};
 
 use crate::fault::{ReadError, Row, RowFault};
@@ -8,10 +9,8 @@ use crate::rows::row;
 use crate::version::Version;
 use field_texts::cut_far;
 use group_plan::Plan;
-use meter_frames::Frame;
-use round_machine::{Closing, Ending, Verdict};
 use std::alloc::Global;
-use transcript_log::{Entry, Line};
+use transcript_log::Transcript;
 
 /// The fault of a row, as one of line `n`.
 fn in_line(n: u64, fault: RowFault) -> ReadError
@@ -26,28 +25,21 @@ fn in_line(n: u64, fault: RowFault) -> ReadError
 /// About as many bytes as a line has: room is made by it, so that what grows need not be moved.
 pub(crate) const BYTES_A_LINE: usize = 72;
 
-// What an entry is made of. A function that keeps an entry has to name these types.
-type Parts = (
-    Option<Frame>,
-    Option<Verdict>,
-    Option<Closing>,
-    Option<Ending>,
-    Option<Line>,
-);
-
-/// The entries of the lines from line `first` on.
+/// The transcript of a plan and the entries of the lines from line `first` on.
 pub(crate) fn entries(
     alloc: Global,
     version: Version,
     plan: &Plan,
     first: u64,
     bytes: &[u8],
-) -> Result<Vec<Entry>, ReadError>
+) -> Result<Transcript, ReadError>
     requires { first + length bytes.now < 2 ^ 64 - 1 }
-    ensures { Gives (λ v. v.items) result (entries_from version plan.now first 0 0 (parts 10 bytes.now)) }
+    ensures entries { Gives (λ t. t.entries) result (entries_from version plan.now first 0 0 (parts 10 bytes.now)) }
+    ensures plan { IfOk result (λ t. t.plan ≡ plan.now) }
+    ensures sound { IfOk result (λ t. IsTranscript t) }
 {
-    let _parts: Parts = (None, None, None, None, None);
-    let mut entries = Vec::with_capacity(alloc, bytes.len() / BYTES_A_LINE)?;
+    let _groups = plan.groups();
+    let mut transcript = Transcript::with_room(alloc, plan, bytes.len() / BYTES_A_LINE)?;
     let mut rest = bytes;
     let mut last = 0u32;
     let mut n = first;
@@ -55,18 +47,18 @@ pub(crate) fn entries(
         match row(version, plan, last, line) {
             Ok(Row::Entry(entry)) => {
                 last = entry.tick;
-                entries.push(entry)?;
+                transcript.push(entry)?;
                 n += 1;
                 rest = after;
             }
             Ok(Row::Last(count)) => {
-                if count != entries.len() as u64 {
+                if count != transcript.len() as u64 {
                     return Err(ReadError::Count(n));
                 }
                 if !after.is_empty() {
                     return Err(ReadError::After(n + 1));
                 }
-                return Ok(entries);
+                return Ok(transcript);
             }
             Err(fault) => return Err(in_line(n, fault)),
         }

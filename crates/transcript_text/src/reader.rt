@@ -2,19 +2,19 @@
 
 ghost use Rattle.std.specs.Prelude.{◌≡◌, IfOk};
 ghost use Rattle.transcript_text.specs.declared.version.Version.TheVariants.{One, Two};
-ghost use Rattle.transcript_text.specs.Transcripts.{IsTranscript};
+ghost use Rattle.transcript_log.specs.Transcripts.{IsTranscript};
 ghost use Rattle.transcript_text.specs.Spelling.{transcript_text, text_of};
 ghost use Rattle.transcript_text.specs.Reading.{Gives};
 ghost use Rattle.transcript_text.specs.Heads.{read_of};
 ghost use Rattle.transcript_text.specs.ReadBack.{HasHead, IsOldPlan, ReadsEach};
 ghost use Rattle.transcript_text.specs.Faults.{StopsAt};
 
-use crate::Transcript;
 use crate::fault::ReadError;
 use crate::head::read_head;
 use crate::lines::entries;
 use crate::version::Version;
 use std::alloc::Global;
+use transcript_log::Transcript;
 
 /// The transcript whose text of this version the bytes are, or the first fault.
 #[tactic(auto, unfolding(crate::specs::Heads::read_of))]
@@ -28,12 +28,7 @@ fn read_version(alloc: Global, version: Version, bytes: &[u8]) -> Result<Transcr
         Ok(head) => head,
         Err(fault) => return Err(fault),
     };
-    let _groups = head.plan.groups();
-    let entries = match entries(alloc, version, &head.plan, head.line, head.rest) {
-        Ok(entries) => entries,
-        Err(fault) => return Err(fault),
-    };
-    Ok(Transcript::with_entries(head.plan, entries))
+    entries(alloc, version, &head.plan, head.line, head.rest)
 }
 
 /// The transcript whose text of version 2 the bytes are, or the first fault.

@@ -14,7 +14,7 @@ use meter_frames::{Frame, encode};
 use missing_round::MeterSet;
 use round_machine::{Closing, Ending, Verdict};
 use std::alloc::{AllocError, Global};
-use transcript_log::{Entry, Line};
+use transcript_log::{Entry, Line, Transcript};
 
 /// The delays joined by `+`, or `-` where there is none.
 fn put_fate(out: &mut Vec<u8>, fate: Fate) -> Result<(), AllocError>
@@ -186,16 +186,18 @@ pub fn line_text(alloc: Global, entry: &Entry) -> Result<Vec<u8>, AllocError>
 
 /// The lines of all entries, and the `end` line with their number.
 #[tactic(auto, unfolding(crate::specs::Spelling::entries_text))]
-pub(crate) fn put_entries(out: &mut Vec<u8>, entries: &[Entry]) -> Result<(), AllocError>
-    requires { All (λ e. IsWritable e.line) entries.now }
-    ensures { OnOk result (out.new.items ≡ out.old.items ++ entries_text Two 0 entries.now) }
+pub(crate) fn put_entries(out: &mut Vec<u8>, transcript: &Transcript) -> Result<(), AllocError>
+    requires { All (λ e. IsWritable e.line) transcript.now.entries }
+    ensures { OnOk result (out.new.items ≡ out.old.items ++ entries_text Two 0 transcript.now.entries) }
 {
-    for entry in entries {
-        put_entry(out, entry)?;
+    let entries = transcript.len();
+    for at in 0..entries {
+        let entry = transcript.entry(at);
+        put_entry(out, &entry)?;
         out.push(b'\n')?;
     }
     out.extend_from_slice(b"end,")?;
-    put_number(out, entries.len() as u64)?;
+    put_number(out, entries as u64)?;
     out.push(b'\n')?;
     Ok(())
 }

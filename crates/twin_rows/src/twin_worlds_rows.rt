@@ -6,8 +6,8 @@ use ideal_masks::Differ;
 use row_fixtures::{PLAIN, group, keys_of_north, plan_of_north, table, with_line};
 use std::alloc::Global;
 use std::test::Fail;
-use transcript_log::Entry;
-use transcript_text::{ReadError, Transcript, line_text, write};
+use transcript_log::{Entry, Transcript};
+use transcript_text::{ReadError, line_text, write};
 use twin_worlds::{MovedWords, TwinError, moved_text, twin};
 
 // ---- files

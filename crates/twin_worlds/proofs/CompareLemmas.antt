@@ -17,16 +17,17 @@ use Rattle.transcript_log.specs.Schedule.{Shape, may_send}
 use Rattle.transcript_log.specs.Tables.{Masks}
 use Rattle.transcript_log.specs.Transcript.{Contents, set_sent, word_sent, frame, line, lines_after}
 use Rattle.transcript_log.proofs.EventLemmas.{events-lines}
-use Rattle.transcript_text.specs.Transcripts.{TranscriptView}
+use Rattle.transcript_log.specs.Transcripts.{TranscriptView}
 use Rattle.transcript_text.specs.Writing.{IsWritable}
 use Rattle.twin_worlds.specs.Comparing.{DifferAt}
 use Rattle.twin_worlds.specs.Twins.{lines_under, IsFirstOther}
 
 -- one line more is the same
-pub same-more : (entries : List Entry) (lines : List Line) (at : ℕ) (e : Entry) (l : Line) → at < length entries → length lines ≡ length entries → l ≡ get_or lines at l → (get_or entries at e).line ≡ l
+pub same-more : (entries : List Entry) (lines : List Line) (at : ℕ) (e : Entry) (l : Line) → at < length entries → length lines ≡ length entries → e ≡ get_or entries at e → l ≡ get_or lines at l → e.line ≡ l
     → take at (lines_of entries) ≡ take at lines → take (at + 1) (lines_of entries) ≡ take (at + 1) lines
-same-more entries lines at e l lt long is same before =
-    take_more_same (lines_of entries) lines at l (rw (length-map entries (λ (z : Entry). z.line)) lt) (rw long lt) before (get_or-map (λ (z : Entry). z.line) entries at e l lt ∙ same ∙ is)
+same-more entries lines at e l lt long here is same before =
+    take_more_same (lines_of entries) lines at l (rw (length-map entries (λ (z : Entry). z.line)) lt) (rw long lt) before
+    (get_or-map (λ (z : Entry). z.line) entries at e l lt ∙ ap (λ (z : Entry). z.line) (sym here) ∙ same ∙ is)
 
 -- ---- how many there are
 
@@ -71,22 +72,33 @@ get-map f [] k x is = absurd (cc is)
 get-map f (y ∷ xs) zero x is = let one : y ≡ x = cc is in ap (λ z. Some (f z)) one
 get-map f (y ∷ xs) (suc k) x is = get-map f xs k x is
 
-pub within-lines : (x : ReadingsView) (m : Masks) (t : TranscriptView) (items : List Entry) (lines : List Line) (k : ℕ) → items ≡ t.entries → lines ≡ lines_under x m t → DifferAt (lines_of items) lines (Some k) → k < length lines
-within-lines x m t items lines k entries_are lines_are differ =
-    let lt = differ.0 in
-    rw lines_are (rw (lines-long x m t) (subst (λ n. k < n) (length-map items (λ e. e.line) ∙ ap length entries_are) lt))
+-- one line is another
+pub other-at : (entries : List Entry) (lines : List Line) (at : ℕ) (e : Entry) (l : Line) → at < length entries → length lines ≡ length entries → e ≡ get_or entries at e → l ≡ get_or lines at l → (¬ (e.line ≡ l))
+    → take at (lines_of entries) ≡ take at lines → DifferAt (lines_of entries) lines (Some at)
+other-at entries lines at e l lt long here due other before =
+    let found : slice_get (lines_of entries) at ≡ Some e.line = get-map (λ (z : Entry). z.line) entries at e (found-at entries at e lt here) in
+    let expected : slice_get lines at ≡ Some l = found-at lines at l (rw long lt) due in (
+      rw (length-map entries (λ (z : Entry). z.line)) lt,
+      before,
+      λ same. let both : Some e.line ≡ Some l = sym found ∙ same ∙ expected in other (cc both),
+    )
 
-pub first-other : (x : ReadingsView) (m : Masks) (t : TranscriptView) (items : List Entry) (lines : List Line) (k : ℕ) (e : Entry) (l : Line) → items ≡ t.entries → lines ≡ lines_under x m t → DifferAt (lines_of items) lines (Some k)
-    → e ≡ get_or items k e → l ≡ get_or lines k l → IsFirstOther m x t k l e.line e.tick e.fate
-first-other x m t items lines k e l entries_are lines_are differ here due =
-    let lt = differ.0 in
-    let entry : slice_get items k ≡ Some e = found-at items k e (subst (λ n. k < n) (length-map items (λ z. z.line)) lt) here in
-    let found : slice_get (lines_of items) k ≡ Some e.line = get-map (λ (z : Entry). z.line) items k e entry in
-    let expected : slice_get lines k ≡ Some l = found-at lines k l (within-lines x m t items lines k entries_are lines_are differ) due in
+pub within-entries : (entries : List Entry) (lines : List Line) (k : ℕ) → DifferAt (lines_of entries) lines (Some k) → k < length entries
+within-entries entries lines k differ = subst (λ n. k < n) (length-map entries (λ e. e.line)) differ.0
+
+pub within-lines : (x : ReadingsView) (m : Masks) (t : TranscriptView) (lines : List Line) (k : ℕ) → lines ≡ lines_under x m t → DifferAt (lines_of t.entries) lines (Some k) → k < length lines
+within-lines x m t lines k lines_are differ = rw lines_are (rw (lines-long x m t) (within-entries t.entries lines k differ))
+
+pub first-other : (x : ReadingsView) (m : Masks) (t : TranscriptView) (lines : List Line) (k : ℕ) (e : Entry) (l : Line) → lines ≡ lines_under x m t → DifferAt (lines_of t.entries) lines (Some k)
+    → e ≡ get_or t.entries k e → l ≡ get_or lines k l → IsFirstOther m x t k l e.line e.tick e.fate
+first-other x m t lines k e l lines_are differ here due =
+    let entry : slice_get t.entries k ≡ Some e = found-at t.entries k e (within-entries t.entries lines k differ) here in
+    let found : slice_get (lines_of t.entries) k ≡ Some e.line = get-map (λ (z : Entry). z.line) t.entries k e entry in
+    let expected : slice_get lines k ≡ Some l = found-at lines k l (within-lines x m t lines k lines_are differ) due in
     let given : slice_get (lines_under x m t) k ≡ Some l = ap (λ ls. slice_get ls k) (sym lines_are) ∙ expected in
     record {
-      entry = ap (λ es. slice_get es k) (sym entries_are) ∙ entry;
-      before = ap (λ es. take k (lines_of es)) (sym entries_are) ∙ differ.1 ∙ ap (take k) lines_are;
+      entry = entry;
+      before = differ.1 ∙ ap (take k) lines_are;
       expected_is = given;
       other = λ same. differ.2 (found ∙ ap Some (sym same) ∙ sym expected);
       writable = each-writable _ _ [] (events_of t.entries) k l given;

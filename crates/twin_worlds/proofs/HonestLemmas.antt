@@ -7,7 +7,7 @@ use Rattle.transcript_log.specs.declared.Line.{Line}
 use Rattle.transcript_log.specs.Events.{lines_of, events_of}
 use Rattle.transcript_log.specs.Tables.{Masks}
 use Rattle.transcript_text.specs.declared.fault.ReadError.{ReadError}
-use Rattle.transcript_text.specs.Transcripts.{TranscriptView}
+use Rattle.transcript_log.specs.Transcripts.{TranscriptView}
 use Rattle.transcript_text.proofs.ReadAgain.{read_back}
 use Rattle.ideal_masks.specs.declared.Differ.{Differ}
 use Rattle.ideal_masks.specs.declared.Differ.TheVariants as differ

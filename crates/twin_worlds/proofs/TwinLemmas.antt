@@ -10,7 +10,7 @@ use Rattle.transcript_log.specs.Events.{lines_of, events_of}
 use Rattle.transcript_log.specs.Tables.{Masks, IsMasks}
 use Rattle.transcript_log.specs.Transcript.{transcript}
 use Rattle.transcript_log.proofs.ScheduleLemmas.{after-reverse}
-use Rattle.transcript_text.specs.Transcripts.{TranscriptView}
+use Rattle.transcript_log.specs.Transcripts.{TranscriptView}
 use Rattle.ideal_masks.specs.declared.Offset.{Offset}
 use Rattle.ideal_masks.specs.ListTables.{MaskTable, masks_in, mask_table_of}
 use Rattle.ideal_masks.specs.Offsets.{Agree, offsets}

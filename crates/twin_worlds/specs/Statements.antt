@@ -4,7 +4,7 @@ use Rattle.group_plan.specs.Tables.{ReadingsView, reading}
 use Rattle.transcript_log.specs.Events.{lines_of, events_of}
 use Rattle.transcript_log.specs.Tables.{Masks}
 use Rattle.transcript_text.specs.Spelling.{transcript_text}
-use Rattle.transcript_text.specs.Transcripts.{TranscriptView, IsTranscript}
+use Rattle.transcript_log.specs.Transcripts.{TranscriptView, IsTranscript}
 use Rattle.ideal_masks.specs.Offsets.{Agree}
 use Rattle.twin_worlds.specs.declared.rows.MovedRow.{MovedRow}
 use Rattle.twin_worlds.specs.declared.answers.TwinError.{TwinError}

@@ -7,7 +7,7 @@ use Rattle.transcript_log.specs.Tables.{Masks}
 use Rattle.transcript_log.specs.Transcript.{transcript}
 use Rattle.transcript_text.specs.declared.version.Version.TheVariants.{Two}
 use Rattle.transcript_text.specs.declared.fault.ReadError.TheVariants as fault
-use Rattle.transcript_text.specs.Transcripts.{TranscriptView, IsTranscript}
+use Rattle.transcript_log.specs.Transcripts.{TranscriptView, IsTranscript}
 use Rattle.transcript_text.specs.Spelling.{transcript_text}
 use Rattle.transcript_text.specs.EntryLines.{entry_line}
 use Rattle.transcript_text.specs.Heads.{read_of}

@@ -1,6 +1,6 @@
 //! The lines of a transcript, compared with those that a table of readings gives.
 
-ghost use Rattle.std.specs.Prelude.{◌≡◌, length};
+ghost use Rattle.std.specs.Prelude.{◌≡◌, ◌<◌, ◌^◌, length, IfSome};
 ghost use Rattle.transcript_log.specs.Events.{lines_of};
 ghost use Rattle.twin_worlds.specs.Comparing.{Decides, DifferAt};
 ghost use Rattle.twin_worlds.specs.Ends.{LinesEnd};
@@ -10,8 +10,8 @@ use crate::TwinError;
 use crate::replay::replay;
 use crate::world::World;
 use std::alloc::Global;
-use transcript_log::{Entry, Line};
-use transcript_text::{Transcript, entry_line};
+use transcript_log::{Line, Lines, Transcript};
+use transcript_text::entry_line;
 
 fn is_same(one: &Line, other: &Line) -> bool
     ensures { Decides (one.now ≡ other.now) result }
@@ -20,12 +20,14 @@ fn is_same(one: &Line, other: &Line) -> bool
 }
 
 // The first entry whose line is another than the one at its place, where there is one.
-fn first_other(entries: &[Entry], lines: &[Line]) -> Option<usize>
-    requires { length lines.now ≡ length entries.now }
-    ensures { DifferAt (lines_of entries.now) lines.now result }
+fn first_other(transcript: &Transcript, lines: &Lines) -> Option<usize>
+    requires { length lines.now.items ≡ length transcript.now.entries }
+    ensures place { DifferAt (lines_of transcript.now.entries) lines.now.items result }
+    ensures few { IfSome result (λ at. at < 2 ^ 63) }
 {
-    for at in 0..entries.len() {
-        if !is_same(&entries[at].line, &lines[at]) {
+    for at in 0..transcript.len() {
+        let entry = transcript.entry(at);
+        if !is_same(&entry.line, &lines.at(at)) {
             return Some(at);
         }
     }
@@ -43,15 +45,14 @@ pub(crate) fn confirm(
     ensures { LinesEnd (words_of world.now) world.now.readings.now transcript.now result }
 {
     let book = replay(alloc, world, transcript)?;
-    let entries = transcript.entries();
     let lines = book.journal();
-    match first_other(entries, lines) {
+    match first_other(transcript, lines) {
         None => Ok(()),
         Some(at) => {
-            let entry = &entries[at];
+            let entry = transcript.entry(at);
             Err(TwinError::NotThis {
                 line: entry_line(transcript.plan(), at as u64),
-                expected: lines[at],
+                expected: lines.at(at),
                 found: entry.line,
                 tick: entry.tick,
                 fate: entry.fate,

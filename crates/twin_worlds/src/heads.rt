@@ -2,14 +2,15 @@
 
 ghost use Rattle.std.specs.Prelude.{◌≡◌, IfOk, Ok};
 ghost use Rattle.transcript_text.specs.declared.version.Version.TheVariants.{Two};
-ghost use Rattle.transcript_text.specs.Transcripts.{no_entries};
+ghost use Rattle.transcript_log.specs.Transcripts.{no_entries};
 ghost use Rattle.transcript_text.specs.Spelling.{transcript_text};
 ghost use Rattle.transcript_text.specs.Heads.{read_of};
 ghost use Rattle.twin_worlds.specs.Comparing.{Decides};
 
 use group_plan::Plan;
 use std::alloc::{AllocError, Global};
-use transcript_text::{Transcript, write};
+use transcript_log::Transcript;
+use transcript_text::write;
 
 // The text of a transcript of the plan, before its first entry.
 fn head_text(alloc: Global, plan: &Plan) -> Result<Vec<u8>, AllocError>

@@ -15,8 +15,7 @@ use meter_frames::Frame;
 use missing_round::MeterSet;
 use mod_word::Word;
 use std::alloc::{AllocError, Global};
-use transcript_log::Event;
-use transcript_text::Transcript;
+use transcript_log::{Event, Transcript};
 
 // Sends the frame of a tag.
 fn send(book: &mut Book, world: &World, tag: Tag)
@@ -90,9 +89,10 @@ pub(crate) fn replay(
     let readings = world.readings;
     let presence = Presence::of(alloc, readings)?;
     let mut book = Book::new(alloc, readings.plan(), &presence)?;
-    let entries = transcript.entries();
-    book.reserve(entries.len() as u64)?;
-    for entry in entries {
+    let len = transcript.len();
+    book.reserve(len as u64)?;
+    for at in 0..len {
+        let entry = transcript.entry(at);
         make_event(&mut book, world, &entry.line.event());
     }
     let _lines = book.journal();

@@ -16,7 +16,8 @@ use ideal_masks::{Differ, MaskTable, Offsets, offsets};
 use mask_stream::ChaMasks;
 use pair_keys::KeyTable;
 use std::alloc::Global;
-use transcript_text::{ReadError, Transcript, read};
+use transcript_log::Transcript;
+use transcript_text::{ReadError, read};
 
 // The transcript of a text.
 fn transcript_of(alloc: Global, text: &[u8]) -> Result<Transcript, TwinError>

@@ -19,7 +19,7 @@ use ideal_masks::MaskTable;
 use meter_frames::Frame;
 use missing_round::MeterSet;
 use mod_word::Word;
-use transcript_text::members;
+use transcript_log::members;
 
 /// A table of readings, and the mask words that hide them.
 #[derive(Clone, Copy)]

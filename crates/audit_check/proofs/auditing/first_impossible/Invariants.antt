@@ -1,4 +1,4 @@
-use Rattle.std.proofs.Common.{◌≡◌, ◌≤◌, ◌+◌, ◌-◌, length, take}
+use Rattle.std.proofs.Common.{◌≡◌, ◌≤◌, ◌+◌, length, take}
 use Rattle.transcript_log.specs.Events.{lines_of}
 use Rattle.transcript_log.specs.Frames.{IsPossible}
 use Rattle.audit_check.specs.Replays.{AreAnswered}
@@ -7,12 +7,8 @@ use Rattle.audit_check.proofs.auditing.first_impossible.Given as goal
 abbrev pub invariant-loop-at : goal.invariant-loop-at
 invariant-loop-at l = record {
   presence : l.replay.book.presence ≡ l.fn.replay.book.presence;
-  journal : l.replay.book.journal ≡ take l.at (lines_of l.entries);
-  possible : IsPossible l.plan.groups (take l.at (lines_of l.entries));
+  journal : l.replay.book.journal ≡ take l.at (lines_of l.transcript.entries);
+  possible : IsPossible l.transcript.plan.groups (take l.at (lines_of l.transcript.entries));
   answered : AreAnswered l.replay.book.presence.plan l.replay.book.journal l.replay.answered.items;
-  room : length l.entries ≤ l.replay.book.spare + l.at;
-  within : l.at ≤ length l.entries;
+  room : length l.transcript.entries ≤ l.replay.book.spare + l.at;
 }
-
-abbrev pub decreases-loop-at : goal.decreases-loop-at
-decreases-loop-at l = length l.entries - l.at

@@ -5,8 +5,8 @@ use Rattle.audit_check.proofs.presence.presence_of_frames.Given as goal
 
 abbrev pub invariant-loop-at : goal.invariant-loop-at
 invariant-loop-at l = record {
-  noted : IsNoted l.plan (lines_of (drop l.at l.entries)) l.readings;
-  within : l.at ≤ length l.entries;
+  noted : IsNoted l.transcript.plan (lines_of (drop l.at l.transcript.entries)) l.readings;
+  within : l.at ≤ length l.transcript.entries;
 }
 
 abbrev pub decreases-loop-at : goal.decreases-loop-at

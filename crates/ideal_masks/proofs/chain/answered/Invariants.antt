@@ -1,11 +1,10 @@
-use Rattle.std.proofs.Common.{◌≡◌, ◌&&◌}
+use Rattle.std.proofs.Common.{◌≡◌, ◌&&◌, filter}
 use Rattle.missing_round.specs.Sets.{is_member}
-use Rattle.group_plan.specs.Plans.{size}
+use Rattle.missing_round.specs.Words.{group}
 use Rattle.transcript_log.specs.Schedule.{is_answer_sent}
 use Rattle.group_book.specs.Books.{shape_of, past}
-use Rattle.group_book.proofs.StartLemmas.{passed}
 use Rattle.ideal_masks.proofs.chain.answered.Given as goal
 
 abbrev pub invariant-loop-meter : goal.invariant-loop-meter
 invariant-loop-meter l =
-    l.answered ≡ passed (λ i. is_member i l.survivors && is_answer_sent (shape_of l.book) l.group l.round i (past l.book)) l.meter (size l.book.presence.plan.groups l.group)
+    l.answered ≡ filter (λ i. is_member i l.survivors && is_answer_sent (shape_of l.book) l.group l.round i (past l.book)) (group l.meter)

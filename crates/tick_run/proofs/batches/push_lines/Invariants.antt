@@ -1,5 +1,9 @@
+use Rattle.std.proofs.Common.{◌≤◌, ◌-◌, drop}
 use Rattle.tick_run.proofs.PushLemmas.{Pushed}
 use Rattle.tick_run.proofs.batches.push_lines.Given as goal
 
-abbrev pub invariant-loop-line : goal.invariant-loop-line
-invariant-loop-line l = Pushed l.tick l.line-index l.lines l.fn.transcript l.transcript
+abbrev pub invariant-loop-at : goal.invariant-loop-at
+invariant-loop-at l = record {
+  low : l.from ≤ l.at;
+  pushed : Pushed l.tick (l.at - l.from) (drop l.from l.journal.items) l.fn.transcript l.transcript;
+}

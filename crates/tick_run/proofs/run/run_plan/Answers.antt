@@ -4,7 +4,7 @@ use Rattle.group_plan.specs.Tables.{IsPresenceTable, PresenceView}
 use Rattle.pair_keys.specs.Keys.{table_of}
 use Rattle.mask_stream.specs.ChaMaskTables.{words_of}
 use Rattle.lossy_link.specs.Arrivals.{Arrival}
-use Rattle.transcript_text.specs.Transcripts.{TranscriptView, no_entries}
+use Rattle.transcript_log.specs.Transcripts.{TranscriptView, no_entries}
 use Rattle.tick_run.specs.Running.{IsRunning, starting}
 use Rattle.tick_run.specs.Meters.{AreMeters}
 use Rattle.tick_run.proofs.StateLemmas.{starts}

@@ -1,19 +1,22 @@
-use Rattle.std.proofs.Common.{◌∙◌, sym, ap}
+use Rattle.std.proofs.Common.{◌∙◌, ap}
 use Rattle.std.specs.Prelude.{length}
 use Rattle.transcript_text.specs.EntryLines.{entry_line}
 use Rattle.twin_worlds.specs.Worlds.{words_of}
-use Rattle.twin_worlds.proofs.CompareLemmas.{lines-long, within-lines, first-other}
+use Rattle.twin_worlds.proofs.CompareLemmas.{lines-long, within-entries, within-lines, first-other}
 use Rattle.twin_worlds.proofs.comparing.confirm.Goals as goal
 
 pub first_other-requires : goal.first_other-requires
 first_other-requires c =
     let w = c.args.world.now in
-    ap length (c.journal-lines.ensures.lines ∙ c.in_ok-book.ensures) ∙ lines-long w.readings.now (words_of w) c.args.transcript.now ∙ ap length (sym c.entries-entries.ensures.entries)
+    ap length (c.journal-lines.ensures.lines ∙ c.in_ok-book.ensures) ∙ lines-long w.readings.now (words_of w) c.args.transcript.now
 
-pub bounds-lines-at : goal.bounds-lines-at
-bounds-lines-at c =
+pub entry-entry-requires : goal.entry-entry-requires
+entry-entry-requires c = within-entries c.args.transcript.now.entries c.journal-lines.result.now.items c.in-Some.at c.in-Some.ensures.place
+
+pub at-requires : goal.at-requires
+at-requires c =
     let w = c.args.world.now in
-    within-lines w.readings.now (words_of w) c.args.transcript.now c.entries-entries.result.now c.journal-lines.result.now c.in-Some.at c.entries-entries.ensures.entries (c.journal-lines.ensures.lines ∙ c.in_ok-book.ensures) c.in-Some.ensures
+    within-lines w.readings.now (words_of w) c.args.transcript.now c.journal-lines.result.now.items c.in-Some.at (c.journal-lines.ensures.lines ∙ c.in_ok-book.ensures) c.in-Some.ensures.place
 
 pub returns : goal.returns
 returns c =
@@ -21,6 +24,6 @@ returns c =
     let t = c.args.transcript.now in (
       c.in-Some.at,
       c.entry_line.ensures.number ∙ ap (λ p. entry_line p c.in-Some.at) c.plan.ensures,
-      first-other w.readings.now (words_of w) t c.entries-entries.result.now c.journal-lines.result.now c.in-Some.at c.index-entries-at.result c.index-lines-at.result
-          c.entries-entries.ensures.entries (c.journal-lines.ensures.lines ∙ c.in_ok-book.ensures) c.in-Some.ensures c.index-entries-at.is c.index-lines-at.is,
+      first-other w.readings.now (words_of w) t c.journal-lines.result.now.items c.in-Some.at c.entry-entry.result c.at.result
+          (c.journal-lines.ensures.lines ∙ c.in_ok-book.ensures) c.in-Some.ensures.place c.entry-entry.ensures c.at.ensures,
     )

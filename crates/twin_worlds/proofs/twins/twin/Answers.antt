@@ -16,7 +16,7 @@ returns-in_err-confirm c =
     let t = c.in_ok-transcript.transcript in
     let words = c.in_ok-masks.ensures.words ∙ ap (λ p. mask_table_of p (words_of c.new.result)) (sym c.requires.first) ∙ ap (mask_table_of x.plan) c.new.ensures.words in
     let e : TwinError = c.in_err-confirm.field-0.0 in
-    let answered : Err e ≡ c.from_residual-in_err-confirm.result = search rules in
+    let answered : Err e ≡ c.from_residual-in_err-confirm.result = search (rules, c.from_residual-in_err-confirm.ensures) in
     subst (TwinEnds m x c.args.second.now c.args.text.now) answered
     (lines-refused m x c.args.second.now c.args.text.now c.in_ok-masks.masks.words t e c.plan-plan.ensures.table words c.in_ok-transcript.ensures.0 (c.in_ok-transcript.ensures.1 ∙ sym c.requires.first) c.in_err-confirm.ensures)
 
@@ -27,10 +27,13 @@ returns-in_err-offsets c =
     let t = c.in_ok-transcript.transcript in
     let words = c.in_ok-masks.ensures.words ∙ ap (λ p. mask_table_of p (words_of c.new.result)) (sym c.requires.first) ∙ ap (mask_table_of x.plan) c.new.ensures.words in
     let e : TwinError = c.in_err-offsets.field-0.0 in
-    let answered : Err e ≡ c.from_residual-in_err-offsets.result = search rules in
+    let answered : Err e ≡ c.from_residual-in_err-offsets.result = search (rules, c.from_residual-in_err-offsets.ensures) in
     subst (TwinEnds m x c.args.second.now c.args.text.now) answered
     (tables-refused m x c.args.second.now c.args.text.now t e
     (record-of m x c.args.text.now c.in_ok-masks.masks.words t c.plan-plan.ensures.table words c.in_ok-transcript.ensures.0 (c.in_ok-transcript.ensures.1 ∙ sym c.requires.first) c.in_ok-confirm.ensures) c.in_err-offsets.ensures)
+
+pub returns-in_err-moved_words : goal.returns-in_err-moved_words
+returns-in_err-moved_words c = search (rules, c.from_residual-in_err-moved_words.ensures)
 
 pub returns : goal.returns
 returns c =

@@ -1,34 +1,45 @@
 //! Transcripts: a plan and entries that fit it.
 
-ghost use Rattle.std.specs.Prelude.{◌≡◌, ◌≤◌, ◌^◌, ◌<◌, [], ◌∷◌, ◌++◌, IfOk, OnOk, OnErr};
+ghost use Rattle.std.specs.Prelude.{◌≡◌, ◌≤◌, ◌^◌, ◌<◌, [], ◌∷◌, ◌++◌, length, slice_index_or, IfOk, OnOk, OnErr};
 ghost use Rattle.missing_round.specs.Sets.{IsSet};
 ghost use Rattle.transcript_log.specs.declared.Line.TheVariants.{Send, Close, End};
-ghost use Rattle.transcript_text.specs.Transcripts.{IsEntry, IsFate, IsLine, IsTranscript, Fits, Pushes, last_tick_from, no_entries};
+ghost use Rattle.transcript_log.specs.Lines.{HasOwnTag};
+ghost use Rattle.transcript_log.specs.Transcripts.{IsEntry, IsFate, IsLine, IsTranscript, Fits, Pushes, last_tick_from, no_entries};
 
+use crate::{Entry, Line, Lines};
 use group_plan::{Plan, Tag};
 use link_lanes::Fate;
 use meter_frames::Frame;
 use missing_round::MeterSet;
-use round_machine::{Closing, Ending, Verdict};
+use round_machine::{Closing, Ending};
 use std::alloc::{AllocError, Global};
 use std::marker::Model;
-use transcript_log::{Entry, Line};
+
+/// When a line was written, and the fate of its frame.
+#[derive(Clone, Copy, Debug, PartialEq, Eq)]
+struct Stamp {
+    tick: u32,
+    fate: Fate,
+}
 
 /// A plan, and the entries of a run of it. Their ticks never fall.
 #[derive(Debug, Drop)]
 pub struct Transcript {
     plan: Plan,
-    entries: Vec<Entry>,
+    stamps: Vec<Stamp>,
+    lines: Lines,
 }
 
 impl Model for Transcript {
-    ghost use Rattle.transcript_text.specs.Transcripts.{TranscriptView, IsTranscript};
+    ghost use Rattle.transcript_log.specs.Transcripts.{TranscriptView};
 
     ghost Value = { TranscriptView };
 
-    ghost view = { λ t. record { plan = t.plan; entries = t.entries.items } };
+    ghost use Rattle.transcript_log.specs.Stamps.{entries_of, IsStamped};
 
-    ghost invariant = { λ t. IsTranscript (record { plan = t.plan; entries = t.entries.items }) };
+    ghost view = { λ t. record { plan = t.plan; entries = entries_of t.stamps.items t.lines.items } };
+
+    ghost invariant = { λ t. IsStamped t.plan t.stamps.items t.lines.items };
 }
 
 /// What the type says of a set. The functions below say it of the parts of a line, up to the whole entry.
@@ -118,22 +129,20 @@ fn entry_is(entry: &Entry)
     line_is(&entry.line);
 }
 
-// What an entry is made of. A function that keeps an entry has to name these types.
-type Parts = (
-    Option<Frame>,
-    Option<Verdict>,
-    Option<Closing>,
-    Option<Ending>,
-    Option<Line>,
-);
-
-/// Adds an entry at the end.
-fn add(entries: &mut Vec<Entry>, entry: Entry) -> Result<(), AllocError>
-    ensures ok { OnOk result (entries.new.items ≡ entries.old.items ++ entry ∷ []) }
-    ensures err { OnErr result (entries.new.items ≡ entries.old.items) }
+/// Adds a stamp and a line at the end, or neither.
+fn add(stamps: &mut Vec<Stamp>, lines: &mut Lines, entry: &Entry) -> Result<(), AllocError>
+    requires { HasOwnTag entry.now.line }
+    ensures stamps { OnOk result (stamps.new.items ≡ stamps.old.items ++ record { tick = entry.now.tick; fate = entry.now.fate } ∷ []) }
+    ensures lines { OnOk result (lines.new.items ≡ lines.old.items ++ entry.now.line ∷ []) }
+    ensures no_stamp { OnErr result (stamps.new.items ≡ stamps.old.items) }
+    ensures no_line { OnErr result (lines.new.items ≡ lines.old.items) }
 {
-    let _parts: Parts = (None, None, None, None, None);
-    entries.push(entry)?;
+    stamps.reserve(1)?;
+    lines.push(&entry.line)?;
+    stamps.push_reserved(Stamp {
+        tick: entry.tick,
+        fate: entry.fate,
+    });
     Ok(())
 }
 
@@ -152,16 +161,9 @@ impl Transcript {
         let _groups = plan.groups();
         Ok(Transcript {
             plan: plan.try_copy()?,
-            entries: Vec::with_capacity(alloc, entries)?,
+            stamps: Vec::with_capacity(alloc, entries)?,
+            lines: Lines::with_room(alloc, entries)?,
         })
-    }
-
-    /// The transcript of a plan and entries that fit it.
-    pub(crate) fn with_entries(plan: Plan, entries: Vec<Entry>) -> Transcript
-        requires { IsTranscript (record { plan = plan; entries = entries.items }) }
-        ensures { result ≡ record { plan = plan; entries = entries.items } }
-    {
-        Transcript { plan, entries }
     }
 
     /// Adds an entry at the end.
@@ -171,7 +173,7 @@ impl Transcript {
         ensures { Pushes self.old entry result self.new }
     {
         entry_is(&entry);
-        add(&mut self.entries, entry)
+        add(&mut self.stamps, &mut self.lines, &entry)
     }
 
     /// The plan.
@@ -181,11 +183,25 @@ impl Transcript {
         &self.plan
     }
 
-    /// The entries, in order.
-    pub fn entries(&self) -> &[Entry]
-        ensures entries { result.now ≡ self.now.entries }
+    /// How many entries there are.
+    pub fn len(&self) -> usize
+        ensures len { result ≡ length self.now.entries }
+        ensures few { result < 2 ^ 63 }
         ensures sound { IsTranscript self.now }
     {
-        self.entries.as_slice()
+        self.lines.len()
+    }
+
+    /// The entry at a place, counted from 0.
+    pub fn entry(&self, at: usize) -> Entry
+        requires { at < length self.now.entries }
+        ensures { result ≡ slice_index_or self.now.entries at result }
+    {
+        let stamp = self.stamps[at];
+        Entry {
+            tick: stamp.tick,
+            fate: stamp.fate,
+            line: self.lines.at(at),
+        }
     }
 }

@@ -1,7 +1,7 @@
 use Rattle.std.proofs.Common.{ap, ◌∙◌, arith}
 use Rattle.std.specs.Prelude.{slice_index_or}
-use Rattle.group_book.proofs.StartLemmas.{floor-is}
-use Rattle.group_book.proofs.start.floor_of.Goals as goal
+use Rattle.transcript_log.proofs.RoundMembers.{floor-is}
+use Rattle.transcript_log.proofs.round_members.floor_of.Goals as goal
 
 pub overflow_cast-result-2 : goal.overflow_cast-result-2
 overflow_cast-result-2 c =

@@ -1,8 +1,8 @@
 use Rattle.std.proofs.Common.{◌∙◌, sym}
 use Rattle.group_plan.specs.Plans.{is_member}
-use Rattle.transcript_text.proofs.MemberLemmas.{one_more, one_less}
-use Rattle.transcript_text.proofs.round_members.members.Goals.{then-is_member, else-is_member}
-use Rattle.transcript_text.proofs.round_members.members.Goals as goal
+use Rattle.transcript_log.proofs.RoundMembers.{one_more, one_less}
+use Rattle.transcript_log.proofs.round_members.members.Goals.{then-is_member, else-is_member}
+use Rattle.transcript_log.proofs.round_members.members.Goals as goal
 
 pub loop-meter-preserved : goal.loop-meter-preserved
 loop-meter-preserved c =

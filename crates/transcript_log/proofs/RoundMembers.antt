@@ -1,9 +1,13 @@
--- The members of a round, meter by meter.
-use Rattle.std.proofs.Common.{◌≡◌, ◌∙◌, ◌≤◌, ◌+◌, ◌==◌, ℕ, zero, suc, Bool, true, false, cond, nat_lt, List, [], ◌∷◌, ◌++◌, filter, refl, sym, ap, arith, append-nil}
+-- The members of a round, meter by meter, and the floor of a group.
+use Rattle.std.proofs.Common.{◌≡◌, ◌∙◌, ◌≤◌, ◌<◌, ◌+◌, ◌==◌, ℕ, zero, suc, Bool, true, false, cond, nat_lt, List, [], ◌∷◌, ◌++◌, length, map, filter, refl, sym, ap, arith, append-nil}
+use Rattle.std.specs.Prelude.{slice_index_or}
 use Rattle.std.specs.List.{range_with_len}
 use Rattle.std.proofs.lemmas.Bool.Decides.{nat_tests}
 use Rattle.std.proofs.lemmas.List.Elements.{filter-append}
 use Rattle.missing_round.specs.Sets.{joined}
+use Rattle.group_plan.specs.declared.plan.GroupPlan.{GroupPlan}
+use Rattle.group_plan.specs.Plans.{Group, floor_of}
+use Rattle.group_plan.specs.NewPlans.{stated}
 
 pub range_last : (a n j : ℕ) → a + n ≡ j → range_with_len a (suc n) ≡ range_with_len a n ++ j ∷ []
 range_last a zero j h = let e : a ≡ j = omega arith in ap (λ q. q ∷ []) e
@@ -37,3 +41,8 @@ pub one_less : (p : ℕ → Bool) (n : ℕ) (set : List ℕ) → set ≡ filter 
 one_less p n set is t =
     let last : filter p (n ∷ []) ≡ [] = rw t refl in
     is ∙ sym (filter_more p n ∙ ap (λ q. filter p (range_with_len 0 n) ++ q) last ∙ append-nil (filter p (range_with_len 0 n)))
+
+pub floor-is : (groups : List Group) (g : ℕ) (d : GroupPlan) → g < length groups → (slice_index_or (map stated groups) g d).floor ≡ floor_of groups g
+floor-is [] g d lt = absurd (omega (arith, lt))
+floor-is (x ∷ groups) zero d lt = refl
+floor-is (x ∷ groups) (suc g) d lt = floor-is groups g d (omega (arith, lt))

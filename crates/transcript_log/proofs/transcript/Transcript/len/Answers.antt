@@ -1,0 +1,9 @@
+use Rattle.std.proofs.Common.{length, sym, ap, ◌∙◌}
+use Rattle.transcript_log.specs.Transcripts.{TranscriptView}
+use Rattle.transcript_log.proofs.StampLemmas.{length-entries_of}
+use Rattle.transcript_log.proofs.transcript.Transcript.len.Goals as goal
+
+pub returns-clause-len : goal.returns-clause-len
+returns-clause-len c =
+    c.len.ensures.len ∙ sym (length-entries_of c.self.inside.stamps.items c.self.inside.lines.items c.self.invariant.long)
+    ∙ ap (λ (v : TranscriptView). length v.entries) c.self.view_is
