@@ -1,13 +1,16 @@
 //! The words of all readings of a plan, made before the first tick.
 
-ghost use Rattle.std.specs.Prelude.{◌≡◌, ◌*◌, ◌<◌, length, IfOk};
+ghost use Rattle.std.specs.Prelude.{◌≡◌, ℕ, ◌+◌, ◌*◌, ◌/◌, ◌<◌, ◌≤◌, ◌^◌, IsTrue, None, length, slice_index_or, IfOk};
+ghost use Rattle.group_plan.specs.Plans.{is_place, members};
+ghost use Rattle.group_plan.specs.Tables.{reading};
+ghost use Rattle.blind_core.specs.Columns.{column};
 ghost use Rattle.mask_stream.specs.ChaMaskTables.{plan_of, words_of};
 ghost use Rattle.tick_run.specs.TickFrames.{IsRow};
-ghost use Rattle.tick_run.specs.Hidden.{Hide, HideAt, CanHide, AreHidden, HasRow, words_in};
+ghost use Rattle.tick_run.specs.Hidden.{Hide, HideRounds, HideBlock, CanHide, AreColumns, AreHidden, HasRow, words_in, blocks_in};
 
 use crate::pieces::items_a_piece;
-use blind_core::masked_group;
-use group_plan::{GroupPlan, Readings};
+use blind_core::{masked_group, masked_rounds};
+use group_plan::{GroupPlan, Plan, Readings};
 use mask_stream::ChaMasks;
 use mod_word::Word;
 use rayon::prelude::*;
@@ -15,12 +18,13 @@ use std::alloc::{AllocError, Global};
 use std::thread::Threads;
 use transcript_log::members;
 
-/// The word of each reading of a plan, hidden under the words of its keys, and 0 where there is no reading. Each row is
-/// that of a group in a round. Rounds follow one another, and in each the groups.
+/// The word of each reading of a plan, hidden under the words of its keys, and 0 where there is no reading. Each block
+/// has the rows of a group in eight rounds, or in those that are left at the end of the plan. The groups of the first
+/// eight rounds come first, then those of the next eight.
 #[derive(Drop)]
 pub(crate) struct HiddenReadings {
     groups: usize,
-    rows: Vec<Vec<Word>>,
+    blocks: Vec<Vec<Vec<Word>>>,
 }
 
 /// The readings of a group in a round.
@@ -58,34 +62,172 @@ fn words_of_round(
     masked_group(alloc, masks, group, &members, round, &row)
 }
 
-/// The words of the row at a place.
+/// The words of a group in so many rounds from the first on, one round after another.
+fn words_one_by_one(
+    alloc: Global,
+    readings: &Readings,
+    masks: &ChaMasks,
+    group: u16,
+    first: u32,
+    count: u32,
+) -> Result<Vec<Vec<Word>>, AllocError>
+    requires masks { plan_of masks.now ≡ readings.now.plan }
+    requires group { group < length readings.now.plan.groups }
+    requires fits { first + count < 2 ^ 32 }
+    requires rounds { first + count ≤ readings.now.plan.rounds }
+    ensures { IfOk result (λ rows. HideRounds readings.now (words_of masks.now) group first count rows.items) }
+{
+    let mut rows = Vec::new(alloc);
+    for later in 0..count {
+        rows.push(words_of_round(alloc, readings, masks, group, first + later)?)?;
+    }
+    Ok(rows)
+}
+
+/// The readings of a meter in eight rounds.
+fn readings_of_meter(readings: &Readings, group: u16, first: u32, meter: u8) -> [Option<u64>; 8]
+    requires fits { first + 7 < 2 ^ 32 }
+    requires place { IsTrue (is_place readings.now.plan group (first + 7) meter) }
+    ensures { (j : ℕ) → j < 8 → slice_index_or result j None ≡ reading readings.now.table group (first + j) meter }
+{
+    let mut row = [None; 8];
+    for later in 0..8u32 {
+        row[later as usize] = readings.get(group, first + later, meter);
+    }
+    row
+}
+
+/// The readings of a group in eight rounds, by meter.
+fn readings_by_meter(
+    alloc: Global,
+    readings: &Readings,
+    group: u16,
+    first: u32,
+) -> Result<Vec<[Option<u64>; 8]>, AllocError>
+    requires fits { first + 7 < 2 ^ 32 }
+    requires rounds { first + 7 < readings.now.plan.rounds }
+    ensures { IfOk result (λ rows. (j : ℕ) → j < 8 → IsRow readings.now group (first + j) (column None j rows.items)) }
+{
+    let mut rows = Vec::new(alloc);
+    for meter in 0..readings.plan().meters(group) {
+        rows.push(readings_of_meter(readings, group, first, meter as u8))?;
+    }
+    Ok(rows)
+}
+
+/// The words of all meters in one of eight rounds.
+fn words_in_round(alloc: Global, words: &[[u64; 8]], later: usize) -> Result<Vec<Word>, AllocError>
+    requires { later < 8 }
+    ensures { IfOk result (λ row. row.items ≡ column 0 later words.now) }
+{
+    let mut row = Vec::new(alloc);
+    for word in words {
+        row.push(Word(word[later]))?;
+    }
+    Ok(row)
+}
+
+/// The words of all meters in eight rounds, round by round.
+fn words_by_round(alloc: Global, words: &[[u64; 8]]) -> Result<Vec<Vec<Word>>, AllocError>
+    ensures { IfOk result (λ rows. AreColumns words.now 8 rows.items) }
+{
+    let mut rows = Vec::new(alloc);
+    for later in 0..8 {
+        rows.push(words_in_round(alloc, words, later)?)?;
+    }
+    Ok(rows)
+}
+
+/// Whether a group has the same members in eight rounds.
+fn have_same_members(plan: &Plan, group: u16, first: u32) -> bool
+    requires group { group < length plan.now.groups }
+    requires fits { first + 7 < 2 ^ 32 }
+    requires rounds { first + 7 < plan.now.rounds }
+    ensures { IsTrue result → (j : ℕ) → j < 8 → members plan.now.groups group (first + j) ≡ members plan.now.groups group first }
+{
+    let here = members(plan, group, first);
+    for later in 1..8u32 {
+        if members(plan, group, first + later) != here {
+            return false;
+        }
+    }
+    true
+}
+
+/// The words of a group in eight rounds that have the same members.
+fn words_at_once(
+    alloc: Global,
+    readings: &Readings,
+    masks: &ChaMasks,
+    group: u16,
+    first: u32,
+) -> Result<Vec<Vec<Word>>, AllocError>
+    requires masks { plan_of masks.now ≡ readings.now.plan }
+    requires group { group < length readings.now.plan.groups }
+    requires fits { first + 7 < 2 ^ 32 }
+    requires rounds { first + 7 < readings.now.plan.rounds }
+    requires same { (j : ℕ) → j < 8 → members readings.now.plan.groups group (first + j) ≡ members readings.now.plan.groups group first }
+    ensures { IfOk result (λ rows. HideRounds readings.now (words_of masks.now) group first 8 rows.items) }
+{
+    let members = members(readings.plan(), group, first);
+    let rows = readings_by_meter(alloc, readings, group, first)?;
+    let words = masked_rounds(alloc, masks, group, &members, first, &rows)?;
+    words_by_round(alloc, &words)
+}
+
+/// The words of a group in a block of rounds: all at once where they are eight that have the same members.
+fn words_of_block(
+    alloc: Global,
+    readings: &Readings,
+    masks: &ChaMasks,
+    group: u16,
+    first: u32,
+    count: u32,
+) -> Result<Vec<Vec<Word>>, AllocError>
+    requires masks { plan_of masks.now ≡ readings.now.plan }
+    requires group { group < length readings.now.plan.groups }
+    requires fits { first + count < 2 ^ 32 }
+    requires rounds { first + count ≤ readings.now.plan.rounds }
+    ensures { IfOk result (λ rows. HideRounds readings.now (words_of masks.now) group first count rows.items) }
+{
+    if count == 8 && have_same_members(readings.plan(), group, first) {
+        words_at_once(alloc, readings, masks, group, first)
+    } else {
+        words_one_by_one(alloc, readings, masks, group, first, count)
+    }
+}
+
+/// The words of the block at a place.
 fn words_at(
     alloc: Global,
     readings: &Readings,
     masks: &ChaMasks,
     place: usize,
-) -> Result<Vec<Word>, AllocError>
+) -> Result<Vec<Vec<Word>>, AllocError>
     requires masks { plan_of masks.now ≡ readings.now.plan }
-    requires place { place < readings.now.plan.rounds * length readings.now.plan.groups }
-    ensures { IfOk result (λ words. HideAt readings.now (words_of masks.now) place words.items) }
+    requires place { place < blocks_in readings.now.plan.rounds * length readings.now.plan.groups }
+    ensures { IfOk result (λ rows. HideBlock readings.now (words_of masks.now) place rows.items) }
 {
     let groups = readings.plan().groups().len();
-    let round = (place / groups) as u32;
-    words_of_round(alloc, readings, masks, (place % groups) as u16, round)
+    let group = (place % groups) as u16;
+    let first = (place / groups * 8) as u32;
+    let count = (readings.plan().rounds() - first).min(8);
+    words_of_block(alloc, readings, masks, group, first, count)
 }
 
-/// How many mask words the readings of all groups take in a round, where each meter is a member and has a reading.
-fn words_a_round(groups: &[GroupPlan]) -> usize {
+/// How many mask words the readings of all groups take in a block of eight rounds, where each meter is a member and has
+/// a reading.
+fn words_a_block(groups: &[GroupPlan]) -> usize {
     let mut words = 0usize;
     for group in groups {
         let meters = group.meters as usize;
         words = words.saturating_add(meters * (meters + 1) / 2);
     }
-    words
+    words.saturating_mul(8)
 }
 
 impl HiddenReadings {
-    /// Hides all readings of a plan, its groups and rounds side by side.
+    /// Hides all readings of a plan, its groups and blocks of rounds side by side.
     pub(crate) fn new(
         rt: &(impl Threads + Sync),
         alloc: Global,
@@ -96,20 +238,20 @@ impl HiddenReadings {
         ensures { IfOk result (AreHidden readings.now (words_of masks.now)) }
     {
         let groups = readings.plan().groups();
-        let places = readings.plan().rounds() as usize * groups.len();
-        let rows = (0..places)
+        let places = (readings.plan().rounds() as usize + 7) / 8 * groups.len();
+        let words = (0..places)
             .into_par_iter()
-            .with_min_len(items_a_piece(words_a_round(groups), groups.len()))
+            .with_min_len(items_a_piece(words_a_block(groups), groups.len()))
             .map(
-                |place: usize| -> Result<Vec<Word>, AllocError>
+                |place: usize| -> Result<Vec<Vec<Word>>, AllocError>
                     requires { CanHide readings.now (plan_of masks.now) place }
-                    ensures { IfOk result (λ words. HideAt readings.entry.now (words_of masks.entry.now) place words.items) }
+                    ensures { IfOk result (λ rows. HideBlock readings.entry.now (words_of masks.entry.now) place rows.items) }
                 { words_at(alloc, readings, masks, place) },
             )
-            .collect::<Result<Vec<Vec<Word>>, AllocError>>(rt, alloc)??;
+            .collect::<Result<Vec<Vec<Vec<Word>>>, AllocError>>(rt, alloc)??;
         Ok(HiddenReadings {
             groups: groups.len(),
-            rows,
+            blocks: words,
         })
     }
 
@@ -118,7 +260,7 @@ impl HiddenReadings {
         requires { HasRow self.now group round }
         ensures { result.now ≡ words_in self.now group round }
     {
-        let place = round as usize * self.groups + group as usize;
-        &self.rows[place]
+        let block = &self.blocks[round as usize / 8 * self.groups + group as usize];
+        &block[round as usize % 8]
     }
 }
