@@ -9,7 +9,8 @@ use mod_word::Word;
 use std::sync::atomic::{AtomicU32, Ordering};
 use std::test::Fail;
 
-// The masks of one round of up to three meters: the own words, and the words of the pairs 0 1, 0 2 and 1 2.
+// The masks of up to three meters, the same in each of eight rounds: the own words, and the words of the pairs 0 1, 0 2 and
+// 1 2.
 #[derive(Clone, Copy)]
 struct Listed {
     own: [u64; 3],
@@ -17,7 +18,7 @@ struct Listed {
 }
 
 impl Masks for Listed {
-    ghost plan = { λ s. record { groups = record { name = []; floor = 2; spans = replicate 3 (record { from = 0; until = 1 }) } ∷ []; rounds = 1; w1 = 1; w2 = 2 } };
+    ghost plan = { λ s. record { groups = record { name = []; floor = 2; spans = replicate 3 (record { from = 0; until = 8 }) } ∷ []; rounds = 8; w1 = 1; w2 = 2 } };
 
     ghost table = { λ s. record { own = λ g r i. slice_index_or s.own i 0; pair = λ g r i j. slice_index_or s.pair (i + j - 1) 0 } };
 
