@@ -14,15 +14,16 @@ use Rattle.round_machine.specs.Rounds.{missing as missing_in, is_announced as ro
 use Rattle.transcript_log.specs.declared.Event.{Event}
 use Rattle.transcript_log.specs.declared.Line.{Line}
 use Rattle.transcript_log.specs.Schedule.{Shape, shape_of_presence, is_sent, may_send, is_taken, missing, is_announced, is_reading_taken}
+use Rattle.transcript_log.specs.Transcript.{set_sent}
 use Rattle.transcript_log.specs.Frames.{word_or_zero, first_word}
 use Rattle.transcript_log.specs.Journal.{past_of, core_line}
-use Rattle.transcript_log.proofs.ScheduleLemmas.{is_announced-from_sent, is_announcement_sent-from_taken}
+use Rattle.transcript_log.proofs.ScheduleLemmas.{is_announced-from_sent, is_announced-from_answer, is_announcement_sent-from_taken}
 use Rattle.transcript_log.proofs.ListLemmas.{and_first}
 use Rattle.group_book.specs.Places.{page_at}
 use Rattle.group_book.specs.Pages.{PageView, taken_in, announced_in, PageTakes}
 use Rattle.group_book.specs.Books.{BookView, shape_of, past, posted_of, was_sent, allows, missing_of, Adds, IsFree, HasSet, IsPosted, IsAnnounced}
-use Rattle.group_book.specs.BookParts.{HasSetOf, IsOtherSet}
-use Rattle.group_book.specs.Replay.{IsPage, Replays}
+use Rattle.group_book.specs.BookParts.{HasWord, set_carried, HasSetOf, IsOtherSet}
+use Rattle.group_book.specs.Replay.{IsPage, IsWord, Replays}
 use Rattle.group_book.proofs.LineLemmas.{first_word-posted}
 use Rattle.group_book.proofs.PageLemmas.{is_announced-is, announced-is, Took}
 use Rattle.group_book.proofs.PlaceLemmas.{is_round-from_place}
@@ -82,6 +83,29 @@ adds_line b0 b c e given l same presence journal spare is =
 
 -- ---- the posted frame
 
+pub word_now : (b : BookView) (tag : Tag) (found : Option ℕ) → IsWord (shape_of b) tag.group tag.round tag.meter tag.kind found b.journal → is_some (posted_of b tag) ≡ was_sent b tag → HasWord b tag found
+word_now b tag None is framed = (sym is, sym framed ∙ sym (ap is_some is))
+word_now b tag (Some w) is framed = (sym is, sym framed ∙ sym (ap is_some is))
+
+-- the set that a frame carries, where one was sent
+carried : (b : BookView) (tag : Tag) (found : Option (List ℕ)) → IsAnnounced b tag.group tag.round found → was_sent b tag ≡ true
+    → set_carried tag.kind found ≡ set_sent (shape_of b) tag.kind tag.group tag.round (past b)
+carried b tag = by_kind tag.kind
+  where
+    by_kind : (k : Kind) (found : Option (List ℕ)) → IsAnnounced b tag.group tag.round found → is_sent (shape_of b) k tag.group tag.round tag.meter (past b) ≡ true
+        → set_carried k found ≡ set_sent (shape_of b) k tag.group tag.round (past b)
+    by_kind Reading found is sent = refl
+    by_kind Announcement (Some set) is sent = is.1
+    by_kind Announcement None none sent = absurd (false≢true (sym none ∙ is_announced-from_sent (shape_of b) tag.group tag.round tag.meter (past b) sent))
+    by_kind Answer (Some set) is sent = is.1
+    by_kind Answer None none sent = absurd (false≢true (sym none ∙ is_announced-from_answer (shape_of b) tag.group tag.round tag.meter (past b) sent))
+
+-- the frame that is put together of the kept word and the announced set
+pub posted_now : (b : BookView) (tag : Tag) (w : ℕ) (set : List ℕ) (found : Option (List ℕ)) → HasWord b tag (Some w) → IsAnnounced b tag.group tag.round found → set ≡ set_carried tag.kind found
+    → IsPosted b tag (Some (record { tag = tag; missing = set; word = w }))
+posted_now b tag w set found is announced set_is =
+    (is.0 ∙ ap (λ x. Some (record { tag = tag; missing = x; word = w })) (sym (set_is ∙ carried b tag found announced is.1)), is.1)
+
 pub posted_is : (b : BookView) (tag : Tag) (found : Option Frame) → IsPosted b tag found → posted_of b tag ≡ found
 posted_is b tag None is = is.0
 posted_is b tag (Some p) is = is.0
@@ -105,19 +129,19 @@ unknown_now b tag (Some p) is none = absurd (false≢true (sym none))
 -- ---- a Take of a posted frame
 
 -- what the book holds where the frame is taken
-pub record Finds (p : PresenceView) (pages : List PageView) (frames : List (Option Frame)) (j : List Line) (f : Frame) (held : PageView) : Type 0 where
-  pub replays : Replays p pages frames j
+pub record Finds (p : PresenceView) (pages : List PageView) (words : List (Option ℕ)) (j : List Line) (f : Frame) (held : PageView) : Type 0 where
+  pub replays : Replays p pages words j
   pub place : is_place p.plan f.tag.group f.tag.round f.tag.meter ≡ true
   pub sent : is_sent (shape_of_presence p) f.tag.kind f.tag.group f.tag.round f.tag.meter (past_of j) ≡ true
   pub word : f.word ≡ first_word f.tag.group f.tag.round f.tag.meter f.tag.kind j
   pub page : IsPage (shape_of_presence p) f.tag.group f.tag.round held j
 
-pub finds : (b0 b : BookView) (pages : List PageView) (frames : List (Option Frame)) (f : Frame) (found : Option Frame) (held : PlanView) (known : Bool) (asked : PlanView) (at : ℕ) (page : PageView) → b0 ≡ b
-    → Replays b0.presence pages frames b0.journal → held ≡ b.presence.plan → known ≡ is_place held f.tag.group f.tag.round f.tag.meter → known ≡ true
+pub finds : (b0 b : BookView) (pages : List PageView) (words : List (Option ℕ)) (f : Frame) (found : Option Frame) (held : PlanView) (known : Bool) (asked : PlanView) (at : ℕ) (page : PageView) → b0 ≡ b
+    → Replays b0.presence pages words b0.journal → held ≡ b.presence.plan → known ≡ is_place held f.tag.group f.tag.round f.tag.meter → known ≡ true
     → IsPosted b f.tag found → IsFree found f → is_some found ≡ true
     → asked ≡ b.presence.plan → at ≡ page_at asked f.tag.group f.tag.round → page ≡ slice_index_or pages at page
-    → Finds b0.presence pages frames b0.journal f page
-finds b0 b pages frames f found held known asked at page same rep held_is known_is is_known posted free some asked_is at_is page_is =
+    → Finds b0.presence pages words b0.journal f page
+finds b0 b pages words f found held known asked at page same rep held_is known_is is_known posted free some asked_is at_is page_is =
     let place : is_place b0.presence.plan f.tag.group f.tag.round f.tag.meter ≡ true
     = ap (λ x. is_place x.presence.plan f.tag.group f.tag.round f.tag.meter) same ∙ ap (λ q. is_place q f.tag.group f.tag.round f.tag.meter) (sym held_is) ∙ sym known_is ∙ is_known in
     let is : IsKnown b0 f = subst (λ x. IsKnown x f) (sym same) (known_now b f found posted free some) in
@@ -126,10 +150,10 @@ finds b0 b pages frames f found held known asked at page same rep held_is known_
       place = place;
       sent = is.sent;
       word = is.word;
-      page = page_of b0.presence pages frames b0.journal f.tag.group f.tag.round at page rep (is_round-from_place b0.presence.plan f.tag.group f.tag.round f.tag.meter place)
+      page = page_of b0.presence pages words b0.journal f.tag.group f.tag.round at page rep (is_round-from_place b0.presence.plan f.tag.group f.tag.round f.tag.meter place)
           (at_is ∙ ap (λ q. page_at q f.tag.group f.tag.round) asked_is ∙ ap (λ x. page_at x.presence.plan f.tag.group f.tag.round) (sym same)) page_is;
     }
 
-pub took : (p : PresenceView) (pages : List PageView) (frames : List (Option Frame)) (j : List Line) (f : Frame) (page new : PageView) (v : Verdict) → Finds p pages frames j f page
+pub took : (p : PresenceView) (pages : List PageView) (words : List (Option ℕ)) (j : List Line) (f : Frame) (page new : PageView) (v : Verdict) → Finds p pages words j f page
     → PageTakes page f.tag.kind f.tag.meter f.word v new → Took (shape_of_presence p) f.tag v new j
-took p pages frames j f page new v h takes = took_now p pages frames j f.tag v f.word page new h.replays h.place h.sent h.word h.page takes
+took p pages words j f page new v h takes = took_now p pages words j f.tag v f.word page new h.replays h.place h.sent h.word h.page takes

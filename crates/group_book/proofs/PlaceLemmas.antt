@@ -1,4 +1,4 @@
--- Where rounds and frames are kept: within the room for them, and no two at one place.
+-- Where rounds and words are kept: within the room for them, and no two at one place.
 use Rattle.std.proofs.Common.{◌≡◌, ℕ, ◌<◌, ◌/◌, ◌%◌, true, false, List, length, set, refl, sym, ap, ◌∙◌, subst, inl, inr, arith, get_or-set_same, get_or-set_other}
 use Rattle.std.specs.Prelude.{◌==◌, ◌&&◌, nat_lt, if◌then◌else◌, slice_index_or, Option}
 use Rattle.std.proofs.lemmas.Nat.{div-mul-add, mod-mul-add, mul-add-lt}
@@ -10,8 +10,7 @@ use Rattle.group_plan.specs.Plans.{PlanView, is_place}
 use Rattle.group_plan.specs.Places.{place_at, places}
 use Rattle.group_plan.proofs.MeterNumbers.{group-lt, in_place, place_at-lt, same_place}
 use Rattle.transcript_log.specs.Events.{is_tag}
-use Rattle.meter_frames.specs.declared.Frame.{Frame}
-use Rattle.group_book.specs.Places.{is_round, all_rounds, page_at, kind_number, all_tags, frame_at}
+use Rattle.group_book.specs.Places.{is_round, all_rounds, page_at, kind_number, all_tags, word_at}
 use Rattle.group_book.specs.Pages.{PageView}
 use Rattle.group_book.proofs.Tags.{everywhere, is_tag-itself}
 
@@ -70,14 +69,14 @@ kind_of-number Reading = refl
 kind_of-number Announcement = refl
 kind_of-number Answer = refl
 
-pub frame_at-lt : (plan : PlanView) (g r i : ℕ) (k : Kind) → is_place plan g r i ≡ true → frame_at plan g r i k < all_tags plan
-frame_at-lt plan g r i k is =
+pub word_at-lt : (plan : PlanView) (g r i : ℕ) (k : Kind) → is_place plan g r i ≡ true → word_at plan g r i k < all_tags plan
+word_at-lt plan g r i k is =
     let both = in_place plan g r i is in
     mul-add-lt (kind_number k) (places plan) (place_at plan g r i) 3 (kind_number-lt k) (place_at-lt plan g r i both.0 both.1)
 
 -- no two tags at one number
 same_tag : (plan : PlanView) (tag : Tag) (g r i : ℕ) (k : Kind) → is_place plan tag.group tag.round tag.meter ≡ true → is_place plan g r i ≡ true
-    → frame_at plan tag.group tag.round tag.meter tag.kind ≡ frame_at plan g r i k → is_tag g r i k tag ≡ true
+    → word_at plan tag.group tag.round tag.meter tag.kind ≡ word_at plan g r i k → is_tag g r i k tag ≡ true
 same_tag plan tag g r i k inside there e =
     let h = in_place plan tag.group tag.round tag.meter inside in
     let t = in_place plan g r i there in
@@ -93,18 +92,18 @@ same_tag plan tag g r i k inside there e =
     subst (λ x. is_tag x r i k tag ≡ true) one.group (subst (λ x. is_tag tag.group x i k tag ≡ true) one.round (subst (λ x. is_tag tag.group tag.round x k tag ≡ true) one.meter
     (subst (λ x. is_tag tag.group tag.round tag.meter x tag ≡ true) kinds (is_tag-itself tag))))
 
--- after the frame of one tag was set
-pub frames_after : (plan : PlanView) (frames : List (Option Frame)) (tag : Tag) (new : Option Frame) (P : ℕ → ℕ → ℕ → Kind → Option Frame → Type 0)
-    → is_place plan tag.group tag.round tag.meter ≡ true → length frames ≡ all_tags plan → P tag.group tag.round tag.meter tag.kind new
-    → ((g r i : ℕ) (k : Kind) (d : Option Frame) → is_place plan g r i ≡ true → is_tag g r i k tag ≡ false → P g r i k (slice_index_or frames (frame_at plan g r i k) d))
-    → (g r i : ℕ) (k : Kind) (d : Option Frame) → is_place plan g r i ≡ true
-    → P g r i k (slice_index_or (set frames (frame_at plan tag.group tag.round tag.meter tag.kind) new) (frame_at plan g r i k) d)
-frames_after plan frames tag new P inside long here others =
+-- after the word of one tag was set
+pub words_after : (plan : PlanView) (words : List (Option ℕ)) (tag : Tag) (new : Option ℕ) (P : ℕ → ℕ → ℕ → Kind → Option ℕ → Type 0)
+    → is_place plan tag.group tag.round tag.meter ≡ true → length words ≡ all_tags plan → P tag.group tag.round tag.meter tag.kind new
+    → ((g r i : ℕ) (k : Kind) (d : Option ℕ) → is_place plan g r i ≡ true → is_tag g r i k tag ≡ false → P g r i k (slice_index_or words (word_at plan g r i k) d))
+    → (g r i : ℕ) (k : Kind) (d : Option ℕ) → is_place plan g r i ≡ true
+    → P g r i k (slice_index_or (set words (word_at plan tag.group tag.round tag.meter tag.kind) new) (word_at plan g r i k) d)
+words_after plan words tag new P inside long here others =
     everywhere tag
-    (λ g r i k. (d : Option Frame) → is_place plan g r i ≡ true → P g r i k (slice_index_or (set frames (frame_at plan tag.group tag.round tag.meter tag.kind) new) (frame_at plan g r i k) d))
+    (λ g r i k. (d : Option ℕ) → is_place plan g r i ≡ true → P g r i k (slice_index_or (set words (word_at plan tag.group tag.round tag.meter tag.kind) new) (word_at plan g r i k) d))
     (λ d is.
-    let lt : frame_at plan tag.group tag.round tag.meter tag.kind < length frames = rw long (frame_at-lt plan tag.group tag.round tag.meter tag.kind inside) in
-    subst (P tag.group tag.round tag.meter tag.kind) (sym (get_or-set_same frames (frame_at plan tag.group tag.round tag.meter tag.kind) new d lt)) here)
+    let lt : word_at plan tag.group tag.round tag.meter tag.kind < length words = rw long (word_at-lt plan tag.group tag.round tag.meter tag.kind inside) in
+    subst (P tag.group tag.round tag.meter tag.kind) (sym (get_or-set_same words (word_at plan tag.group tag.round tag.meter tag.kind) new d lt)) here)
     (λ g r i k differs d is.
-    subst (P g r i k) (sym (get_or-set_other frames (frame_at plan tag.group tag.round tag.meter tag.kind) (frame_at plan g r i k) new d (λ e. false≢true (sym differs ∙ same_tag plan tag g r i k inside is (sym e)))))
+    subst (P g r i k) (sym (get_or-set_other words (word_at plan tag.group tag.round tag.meter tag.kind) (word_at plan g r i k) new d (λ e. false≢true (sym differs ∙ same_tag plan tag g r i k inside is (sym e)))))
     (others g r i k d is differs))

@@ -1,4 +1,4 @@
--- A book with no line: every round as it begins, and no frame.
+-- A book with no line: every round as it begins, and no word.
 use Rattle.std.proofs.Common.{◌≡◌, ℕ, ◌<◌, ◌%◌, Bool, false, List, [], ◌∷◌, length, map, replicate, refl, sym, ap, ◌∙◌, arith, subst}
 use Rattle.std.specs.Prelude.{filter, slice_index_or, if◌then◌else◌, Option, None, is_some}
 use Rattle.std.specs.List.{range_with_len}
@@ -9,15 +9,14 @@ use Rattle.group_plan.specs.declared.Kind.{Kind}
 use Rattle.group_plan.specs.declared.Kind.TheVariants.{Reading, Announcement, Answer}
 use Rattle.group_plan.specs.Plans.{PlanView, members, IsWithinLimits}
 use Rattle.group_plan.specs.Tables.{PresenceView, IsPresenceTable}
-use Rattle.meter_frames.specs.declared.Frame.{Frame}
 use Rattle.transcript_log.specs.Events.{once}
 use Rattle.transcript_log.specs.Schedule.{Shape, shape_of_presence, is_sent, is_taken}
-use Rattle.group_book.specs.Places.{all_rounds, page_at, all_tags, frame_at}
+use Rattle.group_book.specs.Places.{all_rounds, page_at, all_tags, word_at}
 use Rattle.group_book.specs.Pages.{PageView, taken_in}
 use Rattle.group_book.specs.Start.{first_page, first_page_at}
 use Rattle.group_book.specs.Books.{posted}
-use Rattle.group_book.specs.Replay.{IsPage, Replays}
-use Rattle.group_book.proofs.PlaceLemmas.{frame_at-lt}
+use Rattle.group_book.specs.Replay.{IsPage, IsWord, Replays}
+use Rattle.group_book.proofs.PlaceLemmas.{word_at-lt}
 
 nothing_passes : (test : ℕ → Bool) (xs : List ℕ) → ((i : ℕ) → test i ≡ false) → filter test xs ≡ []
 nothing_passes test [] none = refl
@@ -63,6 +62,9 @@ none_posted : (g r i : ℕ) (k : Kind) → posted g r i k [] ≡ None
 unfolding posted
 none_posted g r i k = refl
 
+no_word : (s : Shape) (g r i : ℕ) (k : Kind) (w : Option ℕ) → w ≡ None → IsWord s g r i k w []
+no_word s g r i k w none = subst (λ x. IsWord s g r i k x []) (sym none) (sym (none_posted g r i k))
+
 pub replays_none : (p : PresenceView) → IsWithinLimits p.plan → IsPresenceTable p.plan p.table
     → Replays p (map (first_page_at p.plan) (range_with_len 0 (all_rounds p.plan))) (replicate (all_tags p.plan) None) []
 replays_none p limits table = record {
@@ -70,16 +72,17 @@ replays_none p limits table = record {
   table = table;
   journal = record { lines = tt; frames = tt };
   pages_long = length-map-range_with_len (first_page_at p.plan) 0 (all_rounds p.plan);
-  frames_long = length-replicate (all_tags p.plan) None;
+  words_long = length-replicate (all_tags p.plan) None;
   framed = λ g r i k. ap is_some (none_posted g r i k) ∙ sym (not_sent (shape_of_presence p) k g r i);
   page = λ g r d hg hr. subst (λ x. IsPage (shape_of_presence p) g r x []) (sym (page_at-first p.plan g r d hg hr)) (page_first p g r);
-  frame = λ g r i k d is. get_or-replicate (all_tags p.plan) (frame_at p.plan g r i k) None d (frame_at-lt p.plan g r i k is) ∙ sym (none_posted g r i k);
+  word = λ g r i k d is. no_word (shape_of_presence p) g r i k (slice_index_or (replicate (all_tags p.plan) None) (word_at p.plan g r i k) d)
+      (get_or-replicate (all_tags p.plan) (word_at p.plan g r i k) None d (word_at-lt p.plan g r i k is));
 }
 
-pub replays_start : (p copy : PresenceView) (plan : PlanView) (pages : List PageView) (frames : List (Option Frame)) → copy ≡ p → p.plan ≡ plan → IsWithinLimits plan → IsPresenceTable p.plan p.table
-    → pages ≡ map (first_page_at plan) (range_with_len 0 (all_rounds plan)) → frames ≡ replicate (all_tags plan) None → Replays copy pages frames []
-replays_start p copy plan pages frames copied same limits table pages_are frames_are =
-    subst (λ x. Replays x pages frames []) (sym copied)
-    (subst (λ x. Replays p x frames []) (sym (pages_are ∙ ap (λ q. map (first_page_at q) (range_with_len 0 (all_rounds q))) (sym same)))
-    (subst (λ x. Replays p (map (first_page_at p.plan) (range_with_len 0 (all_rounds p.plan))) x []) (sym (frames_are ∙ ap (λ q. replicate (all_tags q) None) (sym same)))
+pub replays_start : (p copy : PresenceView) (plan : PlanView) (pages : List PageView) (words : List (Option ℕ)) → copy ≡ p → p.plan ≡ plan → IsWithinLimits plan → IsPresenceTable p.plan p.table
+    → pages ≡ map (first_page_at plan) (range_with_len 0 (all_rounds plan)) → words ≡ replicate (all_tags plan) None → Replays copy pages words []
+replays_start p copy plan pages words copied same limits table pages_are words_are =
+    subst (λ x. Replays x pages words []) (sym copied)
+    (subst (λ x. Replays p x words []) (sym (pages_are ∙ ap (λ q. map (first_page_at q) (range_with_len 0 (all_rounds q))) (sym same)))
+    (subst (λ x. Replays p (map (first_page_at p.plan) (range_with_len 0 (all_rounds p.plan))) x []) (sym (words_are ∙ ap (λ q. replicate (all_tags q) None) (sym same)))
     (replays_none p (subst IsWithinLimits (sym same) limits) table)))

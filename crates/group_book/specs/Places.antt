@@ -1,4 +1,4 @@
--- Where a book keeps its rounds, one after another by groups, and the frames of its tags, one kind after another.
+-- Where a book keeps its rounds, one after another by groups, and the words of its tags, one kind after another.
 use Rattle.std.specs.Prelude.{ℕ, ◌+◌, ◌*◌, nat_lt, Bool, ◌&&◌, length}
 use Rattle.group_plan.specs.declared.Kind.{Kind}
 use Rattle.group_plan.specs.declared.Kind.TheVariants.{Reading, Announcement, Answer}
@@ -28,5 +28,5 @@ abbrev pub all_tags : PlanView → ℕ
 all_tags plan = places plan * 3
 
 -- the number of a tag
-abbrev pub frame_at : PlanView → ℕ → ℕ → ℕ → Kind → ℕ
-frame_at plan g r i k = kind_number k * places plan + place_at plan g r i
+abbrev pub word_at : PlanView → ℕ → ℕ → ℕ → Kind → ℕ
+word_at plan g r i k = kind_number k * places plan + place_at plan g r i

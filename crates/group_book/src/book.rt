@@ -1,4 +1,4 @@
-//! The book: every round of a plan, the frame posted under each tag, and the journal.
+//! The book: every round of a plan, the word posted under each tag, and the journal.
 
 ghost use Rattle.std.specs.Prelude.{◌≡◌, ◌<◌, ◌≤◌, ℕ, [], IsTrue, IfOk, OnOk};
 ghost use Rattle.missing_round.specs.Sets.{is_member};
@@ -9,32 +9,33 @@ ghost use Rattle.group_book.specs.Pages.{taken_in};
 ghost use Rattle.group_book.specs.Books.{shape_of, past, knows, has_round, allows, HasOtherSet, HasSet, missing_of, IsFree, SendEnds, TakeEnds, CloseEnds, EndEnds, IsPosted, IsAnnounced, outcome_of};
 ghost use Rattle.group_book.specs.Replay.{IsJournal, IsPage};
 ghost use Rattle.group_book.specs.Tables.{IsTranscriptUnder, IsOutcomeUnder};
-ghost use Rattle.group_book.specs.BookParts.{IsOther, IsOtherSet, HasSetOf};
+ghost use Rattle.group_book.specs.BookParts.{HasWord, set_carried, IsOther, IsOtherSet, HasSetOf};
 
-use crate::copies::{copy_of_frames, copy_of_pages};
+use crate::copies::{copy_of_pages, copy_of_words};
 use crate::lines::{add_close, add_end, add_send, add_take};
 use crate::page::Page;
-use crate::places::{frame_at, is_round, page_at};
-use crate::start::{first_pages, no_frames};
+use crate::places::{is_round, page_at, word_at};
+use crate::start::{first_pages, no_words};
 use crate::{Outcome, SendAnswer, TakeError};
 use group_plan::{Kind, Plan, Presence, Tag};
 use meter_frames::Frame;
 use missing_round::MeterSet;
+use mod_word::Word;
 use round_machine::{Closing, Ending, Verdict};
 use std::alloc::{AllocError, Global};
 use std::marker::Model;
 use transcript_log::Lines;
 
-/// All rounds of a plan and who has a reading, the frame posted under each tag, who took its announcement, and the journal:
-/// the list of lines so far. What it keeps is always what the journal says.
+/// All rounds of a plan and who has a reading, the word of the frame posted under each tag, who took its announcement, and
+/// the journal: the list of lines so far. What it keeps is always what the journal says.
 #[derive(Drop)]
 pub struct Book {
     alloc: Global,
     presence: Presence,
     /// The rounds, one after another by groups.
     pages: Vec<Page>,
-    /// The posted frames, one kind after another and in each by places.
-    frames: Vec<Option<Frame>>,
+    /// The words of the posted frames, one kind after another and in each by places. The tag and the round give the rest.
+    words: Vec<Option<Word>>,
     journal: Lines,
 }
 
@@ -46,7 +47,7 @@ impl Model for Book {
 
     ghost view = { λ b. record { presence = b.presence; journal = b.journal.items; spare = b.journal.spare } };
 
-    ghost invariant = { λ b. Replays b.presence b.pages.items b.frames.items b.journal.items };
+    ghost invariant = { λ b. Replays b.presence b.pages.items b.words.items b.journal.items };
 }
 
 impl Book {
@@ -59,7 +60,7 @@ impl Book {
         Ok(Book {
             alloc,
             pages: first_pages(alloc, plan)?,
-            frames: no_frames(alloc, plan)?,
+            words: no_words(alloc, plan)?,
             presence: presence.try_copy()?,
             journal: Lines::new(alloc),
         })
@@ -114,7 +115,7 @@ impl Book {
             alloc: self.alloc,
             presence: self.presence.try_copy()?,
             pages: copy_of_pages(self.alloc, &self.pages)?,
-            frames: copy_of_frames(self.alloc, &self.frames)?,
+            words: copy_of_words(self.alloc, &self.words)?,
             journal: self.journal.try_copy()?,
         })
     }
@@ -138,11 +139,12 @@ impl Book {
     pub fn posted(&self, tag: Tag) -> Option<Frame>
         ensures { IsPosted self.now tag result }
     {
-        let plan = self.presence.plan();
-        if !plan.holds(tag) {
+        if !self.presence.plan().holds(tag) {
             return None;
         }
-        self.frames[frame_at(plan, tag)]
+        let word = self.word(tag)?;
+        let missing = set_carried(tag.kind, self.announced(tag.group, tag.round));
+        Some(Frame { tag, missing, word })
     }
 
     /// Sends a frame. It is posted under its tag where the Send has effect; a Send without effect has a line too.
@@ -165,8 +167,8 @@ impl Book {
         if let Some(posted) = other_frame(&self.posted(tag), &frame) {
             return SendAnswer::Differs { posted };
         }
-        let at = frame_at(self.plan(), tag);
-        self.frames[at] = Some(frame);
+        let at = word_at(self.plan(), tag);
+        self.words[at] = Some(frame.word);
         add_send(&mut self.journal, tag, Some(frame));
         SendAnswer::Sent
     }
@@ -243,6 +245,14 @@ impl Book {
         &self.pages[page_at(self.presence.plan(), group, round)]
     }
 
+    // The word of the frame that is posted under a tag of the plan.
+    fn word(&self, tag: Tag) -> Option<Word>
+        requires { IsTrue (knows self.now tag) }
+        ensures { HasWord self.now tag result }
+    {
+        self.words[word_at(self.presence.plan(), tag)]
+    }
+
     // Whether a Send of the tag has effect now.
     fn allows(&self, tag: Tag) -> bool
         requires { IsTrue (knows self.now tag) }
@@ -266,6 +276,16 @@ impl Book {
     {
         let announced = self.announced(frame.tag.group, frame.tag.round);
         other_set(announced, frame)
+    }
+}
+
+// The missing set that a frame of this kind carries: the announced one, and none in a reading.
+fn set_carried(kind: Kind, announced: Option<MeterSet>) -> MeterSet
+    ensures { result ≡ set_carried kind announced }
+{
+    match kind {
+        Kind::Reading => MeterSet::empty(),
+        Kind::Announcement | Kind::Answer => announced.unwrap_or(MeterSet::empty()),
     }
 }
 

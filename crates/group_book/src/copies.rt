@@ -3,7 +3,7 @@
 ghost use Rattle.std.specs.Prelude.{◌≡◌, IfOk};
 
 use crate::page::Page;
-use meter_frames::Frame;
+use mod_word::Word;
 use std::alloc::{AllocError, Global};
 
 pub(crate) fn copy_of_pages(alloc: Global, pages: &[Page]) -> Result<Vec<Page>, AllocError>
@@ -12,11 +12,11 @@ pub(crate) fn copy_of_pages(alloc: Global, pages: &[Page]) -> Result<Vec<Page>, 
     pages.to_vec(alloc)
 }
 
-pub(crate) fn copy_of_frames(
+pub(crate) fn copy_of_words(
     alloc: Global,
-    frames: &[Option<Frame>],
-) -> Result<Vec<Option<Frame>>, AllocError>
-    ensures { IfOk result (λ copy. copy.items ≡ frames.now) }
+    words: &[Option<Word>],
+) -> Result<Vec<Option<Word>>, AllocError>
+    ensures { IfOk result (λ copy. copy.items ≡ words.now) }
 {
-    frames.to_vec(alloc)
+    words.to_vec(alloc)
 }

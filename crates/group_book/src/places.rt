@@ -1,8 +1,8 @@
-//! Where a book keeps its rounds and the frames of its tags.
+//! Where a book keeps its rounds and the words of its tags.
 
 ghost use Rattle.std.specs.Prelude.{◌≡◌, ◌<◌, ◌*◌, IsTrue};
 ghost use Rattle.group_plan.specs.Plans.{is_place};
-ghost use Rattle.group_book.specs.Places.{is_round, all_rounds, page_at, kind_number, all_tags, frame_at};
+ghost use Rattle.group_book.specs.Places.{is_round, all_rounds, page_at, kind_number, all_tags, word_at};
 
 use group_plan::{Kind, Plan, Tag};
 
@@ -22,7 +22,7 @@ pub(crate) fn page_at(plan: &Plan, group: u16, round: u32) -> usize
     group as usize * plan.rounds() as usize + round as usize
 }
 
-// The order in which frames are kept: readings, announcements, answers.
+// The order in which words are kept: readings, announcements, answers.
 fn kind_number(kind: Kind) -> usize
     ensures number { result ≡ kind_number kind }
     ensures within { result < 3 }
@@ -34,10 +34,10 @@ fn kind_number(kind: Kind) -> usize
     }
 }
 
-/// The place of a tag's frame, counted from 0: kinds one after another, and in each by places.
-pub(crate) fn frame_at(plan: &Plan, tag: Tag) -> usize
+/// The place of a tag's word, counted from 0: kinds one after another, and in each by places.
+pub(crate) fn word_at(plan: &Plan, tag: Tag) -> usize
     requires { IsTrue (is_place plan.now tag.group tag.round tag.meter) }
-    ensures at { result ≡ frame_at plan.now tag.group tag.round tag.meter tag.kind }
+    ensures at { result ≡ word_at plan.now tag.group tag.round tag.meter tag.kind }
     ensures within { result < all_tags plan.now }
 {
     kind_number(tag.kind) * plan.places() + plan.place_at(tag.group, tag.round, tag.meter)

@@ -1,4 +1,4 @@
-//! What a book begins with: every round with its members, and no frame.
+//! What a book begins with: every round with its members, and no word.
 
 ghost use Rattle.std.specs.Prelude.{◌≡◌, ◌<◌, IsTrue, IfOk, OnOk, None, map, replicate};
 ghost use Rattle.std.specs.List.{range_with_len};
@@ -8,7 +8,7 @@ ghost use Rattle.group_book.specs.Start.{first_page, first_page_at};
 
 use crate::page::Page;
 use group_plan::Plan;
-use meter_frames::Frame;
+use mod_word::Word;
 use std::alloc::{AllocError, Global};
 use transcript_log::{floor_of, members};
 
@@ -42,16 +42,16 @@ pub(crate) fn first_pages(alloc: Global, plan: &Plan) -> Result<Vec<Page>, Alloc
     Ok(pages)
 }
 
-// No frame for so many tags.
-fn no_frames_of(alloc: Global, tags: usize) -> Result<Vec<Option<Frame>>, AllocError>
-    ensures { IfOk result (λ frames. frames.items ≡ replicate tags None) }
+// No word for so many tags.
+fn no_words_of(alloc: Global, tags: usize) -> Result<Vec<Option<Word>>, AllocError>
+    ensures { IfOk result (λ words. words.items ≡ replicate tags None) }
 {
     vec![in alloc; None; tags]
 }
 
-/// No frame under any tag of the plan.
-pub(crate) fn no_frames(alloc: Global, plan: &Plan) -> Result<Vec<Option<Frame>>, AllocError>
-    ensures { IfOk result (λ frames. frames.items ≡ replicate (all_tags plan.now) None) }
+/// No word under any tag of the plan.
+pub(crate) fn no_words(alloc: Global, plan: &Plan) -> Result<Vec<Option<Word>>, AllocError>
+    ensures { IfOk result (λ words. words.items ≡ replicate (all_tags plan.now) None) }
 {
-    no_frames_of(alloc, plan.places() * 3)
+    no_words_of(alloc, plan.places() * 3)
 }
