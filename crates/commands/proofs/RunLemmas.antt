@@ -42,7 +42,10 @@ use Rattle.plan_files.specs.Readings.{ReadingsEnd, readings_of, readings_by, row
 use Rattle.plan_files.specs.PlanFiles.{PlanFileView, plan_of}
 use Rattle.group_book.specs.Books.{BookView}
 use Rattle.transcript_log.specs.Transcripts.{TranscriptView, IsTranscript}
+use Rattle.transcript_text.specs.declared.version.Version.TheVariants.{Two}
+use Rattle.transcript_text.specs.Heads.{read_of}
 use Rattle.transcript_text.specs.Spelling.{transcript_text}
+use Rattle.transcript_text.proofs.ReadAgain.{read_again}
 use Rattle.totals_report.specs.Books.{row_in as book_row, summary_in as book_summary}
 use Rattle.tick_run.specs.Finished.{IsFinished}
 use Rattle.commands.specs.Runs.{Values, plan_in, readings_in, shape_in, clock_in, AreValues, AreSound, IsRunOf, row_in, Texts, AreTexts, Makes, IsOnly}
@@ -152,6 +155,12 @@ unfolding report_rows
 same_report plan f h same =
     flat_map_same (length plan.groups) 0 (group_rows plan f) (group_rows plan h)
     (λ g from to. map_same plan.rounds 0 _ _ (λ r from' to'. ap (report_row plan g r) (same g r (omega arith) (omega arith))))
+
+-- ---- the text of a transcript
+
+-- it is read back
+pub text_is_read : (t : TranscriptView) → IsTranscript t → length t.entries < 2 ^ 63 → read_of Two (transcript_text t) ≡ Ok t
+text_is_read t is few = read_again Two t (record { transcript = is; head = tt }) (omega (arith, few))
 
 -- ---- a finished run
 

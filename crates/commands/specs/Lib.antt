@@ -1,6 +1,7 @@
 pub mod Words
 pub mod Commands
 pub mod Calls
+pub mod Sources
 pub mod Causes
 pub mod Outcomes
 pub mod Runs

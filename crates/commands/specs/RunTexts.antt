@@ -16,9 +16,9 @@ use Rattle.commands.specs.declared.texts.Refusal.TheVariants.{Plan, Lane, Readin
 use Rattle.commands.specs.Runs.{Texts, Makes}
 use Rattle.commands.specs.Ends.{RefusesLane, RefusesReadings}
 
--- the texts that are kept
+-- the texts that are kept, that of the transcript as its value
 abbrev pub texts_of : RunTexts → Texts
-texts_of kept = record { transcript = kept.transcript.items; report = kept.report.items; summary = kept.summary.items }
+texts_of kept = record { transcript = transcript_text kept.transcript; report = kept.report.items; summary = kept.summary.items }
 
 -- the texts are those of a transcript and of a book's outcomes
 pub record AreTextsOf (book : BookView) (t : TranscriptView) (texts : Texts) : Type 0 where

@@ -7,10 +7,11 @@ ghost use Rattle.commands.specs.Outcomes.{IsFault};
 
 use crate::desk_calls::{NewFile, fetch, put_one};
 use crate::outcome::Outcome;
+use crate::source::Source;
 use crate::words::ConvertFiles;
 use desk_outside::Desk;
 use std::alloc::{AllocError, Global};
-use transcript_text::{ReadError, read_old, write};
+use transcript_text::{ReadError, read_old};
 
 // The line that says how many entries the transcript has.
 #[tactic(auto, unfolding(crate::specs::Ends::converted_line))]
@@ -35,15 +36,12 @@ pub fn convert<'a, D: Desk>(alloc: Global, files: ConvertFiles<'a>, desk: &mut D
         Err(ReadError::Memory) => return Outcome::NoMemory,
         Err(fault) => return Outcome::BadTranscript(files.old, fault),
     };
-    let Ok(text) = write(alloc, &transcript) else {
-        return Outcome::NoMemory;
-    };
     let Ok(line) = converted_line(alloc, transcript.len()) else {
         return Outcome::NoMemory;
     };
     let file = NewFile {
         name: files.transcript,
-        bytes: text.as_slice(),
+        source: Source::Transcript(&transcript),
     };
     put_one(file, line.as_bytes(), desk)
 }

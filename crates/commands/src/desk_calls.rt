@@ -1,13 +1,16 @@
 //! The calls of a command on the desk: fetches at its beginning, puts and a said line at its end.
 
-ghost use Rattle.std.specs.Prelude.{◌≤◌, [], ◌∷◌, IfErr};
-ghost use Rattle.desk_outside.specs.Desk.{Rose};
+ghost use Rattle.std.specs.Prelude.{◌≡◌, ◌≤◌, ◌++◌, [], ◌∷◌, IfErr, OnOk, IsErrOf};
+ghost use Rattle.desk_outside.specs.Desk.{Rose, PutEnds};
 ghost use Rattle.commands.specs.Calls.{OneFetched, TwoFetched, putting, PutsEnd};
 ghost use Rattle.commands.specs.Outcomes.{IsFault};
+ghost use Rattle.commands.specs.Sources.{source_bytes};
 
 use crate::outcome::Outcome;
+use crate::source::{Source, TranscriptPieces};
 use desk_outside::{Desk, DeskError, FetchError};
 use std::alloc::Global;
+use transcript_text::TextPieces;
 
 /// The most bytes that a file may have.
 const MOST_BYTES: u64 = 1 << 28;
@@ -68,20 +71,37 @@ pub fn say<'a, D: Desk>(line: &[u8], desk: &mut D) -> Outcome<'a>
     }
 }
 
-/// A file to put: its name and its bytes.
+/// A file to put: its name, and where its bytes come from.
 #[derive(Clone, Copy)]
 pub struct NewFile<'a, 'b> {
     pub name: &'a str,
-    pub bytes: &'b [u8],
+    pub source: Source<'b>,
+}
+
+/// Puts a file.
+fn put<D: Desk>(file: NewFile<'_, '_>, desk: &mut D) -> Result<(), DeskError>
+    ensures ends { PutEnds file.entry.name.now (source_bytes file.entry.source) (D.view desk.old) (D.view desk.new) result }
+    ensures later { D.faults desk.old ≤ D.faults desk.new }
+    ensures cause { IsErrOf result DeskError.Failed → Rose (D.faults desk.old) (D.faults desk.new) }
+{
+    match file.source {
+        Source::Bytes(bytes) => desk.put(file.name, bytes),
+        Source::Transcript(transcript) => {
+            let mut pieces = TranscriptPieces {
+                text: TextPieces::new(transcript),
+            };
+            desk.put_pieces(file.name, &mut pieces)
+        }
+    }
 }
 
 /// Puts a file and then says a line.
 pub fn put_one<'a, D: Desk>(file: NewFile<'a, '_>, line: &[u8], desk: &mut D) -> Outcome<'a>
-    ensures ends { PutsEnd (putting file.entry.name.now file.entry.bytes.now ∷ []) line.now (D.view desk.old) (D.view desk.new) result }
+    ensures ends { PutsEnd (putting file.entry.name.now (source_bytes file.entry.source) ∷ []) line.now (D.view desk.old) (D.view desk.new) result }
     ensures later { D.faults desk.old ≤ D.faults desk.new }
     ensures cause { IsFault result → Rose (D.faults desk.old) (D.faults desk.new) }
 {
-    match desk.put(file.name, file.bytes) {
+    match put(file, desk) {
         Ok(()) => {}
         Err(DeskError::Failed) => return Outcome::CannotWrite(file.name),
         Err(DeskError::Memory) => return Outcome::NoMemory,
@@ -100,16 +120,16 @@ pub fn put_two<'a, D: Desk>(
     line: &[u8],
     desk: &mut D,
 ) -> Outcome<'a>
-    ensures ends { PutsEnd (putting first.entry.name.now first.entry.bytes.now ∷ putting second.entry.name.now second.entry.bytes.now ∷ []) line.now (D.view desk.old) (D.view desk.new) result }
+    ensures ends { PutsEnd (putting first.entry.name.now (source_bytes first.entry.source) ∷ putting second.entry.name.now (source_bytes second.entry.source) ∷ []) line.now (D.view desk.old) (D.view desk.new) result }
     ensures later { D.faults desk.old ≤ D.faults desk.new }
     ensures cause { IsFault result → Rose (D.faults desk.old) (D.faults desk.new) }
 {
-    match desk.put(first.name, first.bytes) {
+    match put(first, desk) {
         Ok(()) => {}
         Err(DeskError::Failed) => return Outcome::CannotWrite(first.name),
         Err(DeskError::Memory) => return Outcome::NoMemory,
     }
-    match desk.put(second.name, second.bytes) {
+    match put(second, desk) {
         Ok(()) => {}
         Err(DeskError::Failed) => return Outcome::CannotWrite(second.name),
         Err(DeskError::Memory) => return Outcome::NoMemory,

@@ -11,6 +11,7 @@ mod make;
 mod outcome;
 mod program;
 mod run;
+mod source;
 mod texts;
 mod twin;
 mod usage;

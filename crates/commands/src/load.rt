@@ -9,6 +9,7 @@ ghost use Rattle.commands.specs.Outcomes.{IsFault};
 
 use crate::desk_calls::{NewFile, put_one, say};
 use crate::outcome::Outcome;
+use crate::source::Source;
 use crate::texts::{Refusal, run_texts};
 use crate::words::LoadWords;
 use collector_workers::Gate;
@@ -61,7 +62,7 @@ pub fn load<'a, R: Threads + Wait + Sync, D: Desk, G: Gate>(
         Some(name) => {
             let transcript = NewFile {
                 name,
-                bytes: texts.transcript.as_slice(),
+                source: Source::Transcript(&texts.transcript),
             };
             put_one(transcript, texts.summary.as_slice(), desk)
         }

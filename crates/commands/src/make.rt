@@ -9,6 +9,7 @@ ghost use Rattle.commands.specs.Outcomes.{IsFault};
 
 use crate::desk_calls::{NewFile, put_two};
 use crate::outcome::Outcome;
+use crate::source::Source;
 use crate::words::MakeWords;
 use desk_outside::Desk;
 use load_maker::{MakeError, make as make_files};
@@ -40,11 +41,11 @@ pub fn make<'a, D: Desk>(alloc: Global, words: MakeWords<'a>, desk: &mut D) -> O
     };
     let plan = NewFile {
         name: words.plan,
-        bytes: made.plan.as_slice(),
+        source: Source::Bytes(made.plan.as_slice()),
     };
     let readings = NewFile {
         name: words.readings,
-        bytes: made.readings.as_slice(),
+        source: Source::Bytes(made.readings.as_slice()),
     };
     put_two(plan, readings, line.as_bytes(), desk)
 }

@@ -8,6 +8,7 @@ ghost use Rattle.commands.specs.Outcomes.{IsFault};
 
 use crate::desk_calls::{NewFile, fetch_two, put_two};
 use crate::outcome::Outcome;
+use crate::source::Source;
 use crate::texts::{Refusal, run_texts};
 use crate::words::RunWords;
 use collector_workers::Gate;
@@ -41,11 +42,11 @@ pub fn run<'a, R: Threads + Wait + Sync, D: Desk, G: Gate>(
         Ok(texts) => {
             let transcript = NewFile {
                 name: files.transcript,
-                bytes: texts.transcript.as_slice(),
+                source: Source::Transcript(&texts.transcript),
             };
             let report = NewFile {
                 name: files.report,
-                bytes: texts.report.as_slice(),
+                source: Source::Bytes(texts.report.as_slice()),
             };
             put_two(transcript, report, texts.summary.as_slice(), desk)
         }

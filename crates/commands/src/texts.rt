@@ -11,12 +11,12 @@ use std::sync::Wait;
 use std::thread::Threads;
 use tick_run::{Finished, RunError, run_plan};
 use totals_report::{report, summary};
-use transcript_text::write;
+use transcript_log::Transcript;
 
-/// The texts of a run.
+/// The texts of a run. That of the transcript is long, and made only as it is put.
 #[derive(Debug, Drop)]
 pub struct RunTexts {
-    pub transcript: Vec<u8>,
+    pub transcript: Transcript,
     pub report: Vec<u8>,
     pub summary: Vec<u8>,
 }
@@ -34,16 +34,17 @@ pub enum Refusal {
     Memory,
 }
 
-// The texts of a finished run. The book goes before the longest text is written, so that both needn't fit.
+// The texts of a finished run. The book goes here, before the longest text is made.
+#[tactic(auto, using(crate::proofs::RunLemmas::text_is_read))]
 fn finished_texts(alloc: Global, finished: Finished) -> Result<RunTexts, AllocError>
     ensures { IfOk result (λ kept. AreTextsOf finished.book finished.transcript (texts_of kept)) }
 {
     let Finished { book, transcript } = finished;
     let report = report(alloc, &book)?;
     let summary = summary(alloc, &book)?;
-    drop(book);
+    let _entries = transcript.len();
     Ok(RunTexts {
-        transcript: write(alloc, &transcript)?,
+        transcript,
         report,
         summary,
     })

@@ -11,6 +11,7 @@ ghost use Rattle.commands.specs.Words.{TwinNames};
 
 use crate::desk_calls::{NewFile, fetch_two, put_one};
 use crate::outcome::Outcome;
+use crate::source::Source;
 use crate::words::TwinFiles;
 use desk_outside::Desk;
 use ideal_masks::Differ;
@@ -164,7 +165,7 @@ pub fn twin<'a, D: Desk>(alloc: Global, files: TwinFiles<'a>, desk: &mut D) -> O
     };
     let file = NewFile {
         name: files.masks,
-        bytes: text.as_slice(),
+        source: Source::Bytes(text.as_slice()),
     };
     put_one(file, line.as_bytes(), desk)
 }

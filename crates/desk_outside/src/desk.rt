@@ -3,6 +3,7 @@
 ghost use Rattle.std.specs.Prelude.{◌≡◌, ◌≤◌, ◌<◌, ◌^◌, ℕ, IfOk, IsErrOf};
 ghost use Rattle.desk_outside.specs.Desk.{View, FetchEnds, PutEnds, SayEnds, ComplainEnds, Rose};
 
+use crate::Pieces;
 use std::alloc::{AllocError, Global};
 use std::marker::Model;
 use thiserror::Error;
@@ -12,7 +13,7 @@ use thiserror::Error;
 pub enum DeskKind {
     /// The bytes under a name were asked for.
     Fetch,
-    /// Bytes were put under a name.
+    /// Bytes were put under a name, at once or in pieces.
     Put,
     /// Bytes were printed.
     Say,
@@ -104,6 +105,14 @@ pub trait Desk {
     /// Puts the bytes under the name, in place of what it held.
     fn put(&mut self, name: &str, bytes: &[u8]) -> Result<(), DeskError>
         ensures ends { PutEnds name.now bytes.now (view self.old) (view self.new) result }
+        ensures later { faults self.old ≤ faults self.new }
+        ensures cause { IsErrOf result DeskError.Failed
+            → Rose (faults self.old) (faults self.new) };
+
+    /// Puts the bytes that are still to come under the name, in place of what it held, and has few of them in memory at a
+    /// time. A put that was not done leaves of the pieces nothing that is known.
+    fn put_pieces<P: Pieces>(&mut self, name: &str, pieces: &mut P) -> Result<(), DeskError>
+        ensures ends { PutEnds name.now (P.rest pieces.old) (view self.old) (view self.new) result }
         ensures later { faults self.old ≤ faults self.new }
         ensures cause { IsErrOf result DeskError.Failed
             → Rose (faults self.old) (faults self.new) };

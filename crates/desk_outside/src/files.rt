@@ -3,11 +3,12 @@
 ghost use Rattle.std.specs.Prelude.{◌≡◌, ◌≤◌, ◌<◌, ◌^◌, IsErrOf};
 ghost use Rattle.desk_outside.specs.Desk.{FetchEnds, PutEnds, SayEnds, ComplainEnds, Rose, one_more, untold};
 
+use crate::pieces::{Slice, write_pieces};
 use crate::whole::{FileId, replace, without_link};
-use crate::{Desk, DeskError, FetchError};
+use crate::{Desk, DeskError, FetchError, Pieces};
 use std::alloc::Global;
 use std::fs::{OpenFile, OpenOptions};
-use std::io::{ErrorKind, Read, Write};
+use std::io::{ErrorKind, Read};
 use std::path::Path;
 use std::rt::Files;
 use std::{fs, io, str};
@@ -72,37 +73,43 @@ impl<'r, R: Files + Print + Eprint + AllocGlobal> FileDesk<'r, R> {
         }
     }
 
-    // Puts the bytes where the name leads to a file or to something else that takes bytes.
-    fn put_over(&self, mut found: R::File, name: &str, bytes: &[u8]) -> Result<(), DeskError> {
+    // Puts the pieces where the name leads to a file or to something else that takes bytes.
+    fn put_over<P: Pieces>(
+        &self,
+        mut found: R::File,
+        name: &str,
+        pieces: &mut P,
+    ) -> Result<(), DeskError> {
         let metadata = found.metadata().map_err(put_error)?;
         let file = FileId::of(&metadata);
         if metadata.is_file() && self.fetched.contains(&file) {
             return Err(DeskError::Failed);
         }
         if self.is_output(file) {
-            return Print::write_all(self.rt, bytes).map_err(|_| DeskError::Failed);
+            let mut output = io::writer(self.rt);
+            return write_pieces(self.alloc, &mut output, pieces).map_err(|_| DeskError::Failed);
         }
         if !metadata.is_file() {
-            return found.write_all(bytes).map_err(|_| DeskError::Failed);
+            return write_pieces(self.alloc, &mut found, pieces).map_err(|_| DeskError::Failed);
         }
         let path = without_link(self.rt, self.alloc, name).map_err(put_error)?;
         let permissions = Some(metadata.permissions());
-        replace(self.rt, self.alloc, path.as_path(), permissions, bytes).map_err(put_error)
+        replace(self.rt, self.alloc, path.as_path(), permissions, pieces).map_err(put_error)
     }
 
-    // Puts the bytes under a name that leads nowhere.
-    fn put_new(&self, name: &str, bytes: &[u8]) -> Result<(), DeskError> {
+    // Puts the pieces under a name that leads nowhere.
+    fn put_new<P: Pieces>(&self, name: &str, pieces: &mut P) -> Result<(), DeskError> {
         if fs::symlink_metadata(self.rt, name).is_ok() {
             return Err(DeskError::Failed);
         }
-        replace(self.rt, self.alloc, Path::new(name), None, bytes).map_err(put_error)
+        replace(self.rt, self.alloc, Path::new(name), None, pieces).map_err(put_error)
     }
 
-    // Puts the bytes and counts nothing.
-    fn put_uncounted(&self, name: &str, bytes: &[u8]) -> Result<(), DeskError> {
+    // Puts the pieces and counts nothing.
+    fn put_uncounted<P: Pieces>(&self, name: &str, pieces: &mut P) -> Result<(), DeskError> {
         match OpenOptions::new().write(true).open(self.rt, name) {
-            Ok(found) => self.put_over(found, name, bytes),
-            Err(error) if error.kind() == ErrorKind::NotFound => self.put_new(name, bytes),
+            Ok(found) => self.put_over(found, name, pieces),
+            Err(error) if error.kind() == ErrorKind::NotFound => self.put_new(name, pieces),
             Err(error) => Err(put_error(error)),
         }
     }
@@ -151,7 +158,17 @@ impl<'r, R: Files + Print + Eprint + AllocGlobal> Desk for FileDesk<'r, R> {
             → Rose (faults_of self.old) (faults_of self.new) }
         ensures count { Counts (faults_of self.old) (faults_of self.new) result }
     {
-        let put = self.put_uncounted(name, bytes);
+        self.put_pieces(name, &mut Slice { rest: bytes })
+    }
+
+    fn put_pieces<P: Pieces>(&mut self, name: &str, pieces: &mut P) -> Result<(), DeskError>
+        ensures ends { PutEnds name.now (P.rest pieces.old) untold untold result }
+        ensures later { faults_of self.old ≤ faults_of self.new }
+        ensures cause { IsErrOf result DeskError.Failed
+            → Rose (faults_of self.old) (faults_of self.new) }
+        ensures count { Counts (faults_of self.old) (faults_of self.new) result }
+    {
+        let put = self.put_uncounted(name, pieces);
         if put == Err(DeskError::Failed) {
             self.count_fault();
         }

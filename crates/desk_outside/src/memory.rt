@@ -6,7 +6,8 @@ ghost use Rattle.std.specs.Str.{bytes_eq};
 ghost use Rattle.desk_outside.specs.Parts.{held_in, is_listed};
 ghost use Rattle.desk_outside.specs.Desk.{FetchEnds, PutEnds, SayEnds, ComplainEnds, Rose, Unstored, Said, Complained, call_of, one_more};
 
-use crate::{CallName, Desk, DeskCall, DeskError, DeskKind, FetchError};
+use crate::pieces::{Slice, collected};
+use crate::{CallName, Desk, DeskCall, DeskError, DeskKind, FetchError, Pieces};
 use std::alloc::{AllocError, Global};
 use std::collections::BTreeMap;
 
@@ -81,6 +82,7 @@ impl MemoryDesk {
         ensures err { OnErr result (view_of self.new ≡ view_of self.old) }
         ensures turns { turns_of self.new ≡ turns_of self.old }
     {
+        let bytes = collected(self.alloc, &mut Slice { rest: bytes })?;
         store(self.alloc, &mut self.files, name, bytes)
     }
 
@@ -128,14 +130,13 @@ fn store(
     alloc: Global,
     files: &mut BTreeMap<String, Vec<u8>>,
     name: &str,
-    bytes: &[u8],
+    bytes: Vec<u8>,
 ) -> Result<(), AllocError>
     ensures ok { OnOk result ((other : List ℕ) → held_in files.new other
-        ≡ (if bytes_eq name.now other then Some bytes.now else held_in files.old other)) }
+        ≡ (if bytes_eq name.now other then Some bytes.items else held_in files.old other)) }
     ensures err { OnErr result (files.new.entries ≡ files.old.entries) }
 {
     let name = String::from_str(alloc, name)?;
-    let bytes = bytes.to_vec(alloc)?;
     files.insert(name, bytes)?;
     Ok(())
 }
@@ -223,6 +224,19 @@ impl Desk for MemoryDesk {
         ensures turn { turns_of self.new
             ≡ after_turn (turns_of self.old) (is_failing (turns_of self.old)) }
     {
+        self.put_pieces(name, &mut Slice { rest: bytes })
+    }
+
+    fn put_pieces<P: Pieces>(&mut self, name: &str, pieces: &mut P) -> Result<(), DeskError>
+        ensures ends { PutEnds name.now (P.rest pieces.old) (view_of self.old) (view_of self.new) result }
+        ensures later { faults_of self.old ≤ faults_of self.new }
+        ensures cause { IsErrOf result DeskError.Failed
+            → Rose (faults_of self.old) (faults_of self.new) }
+        ensures fails { Fails (is_failing (turns_of self.old)) (Unstored name.now)
+            (view_of self.old) (view_of self.new) result }
+        ensures turn { turns_of self.new
+            ≡ after_turn (turns_of self.old) (is_failing (turns_of self.old)) }
+    {
         if self.turns.take(false) {
             note(self.alloc, &mut self.calls, DeskKind::Put, name, true)?;
             return Err(DeskError::Failed);
@@ -233,6 +247,7 @@ impl Desk for MemoryDesk {
             failed: false,
         };
         self.calls.reserve(1)?;
+        let bytes = collected(self.alloc, pieces)?;
         store(self.alloc, &mut self.files, name, bytes)?;
         self.calls.push(call).unwrap();
         Ok(())

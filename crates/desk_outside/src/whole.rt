@@ -1,5 +1,7 @@
 //! Whole files: the bytes go into a new file beside the name, which takes the name once all of them are there.
 
+use crate::Pieces;
+use crate::pieces::write_pieces;
 use std::alloc::Global;
 use std::fs::{Metadata, OpenFile, OpenOptions, Permissions};
 use std::io::{ErrorKind, Write};
@@ -49,31 +51,32 @@ fn create_beside<R: Files>(
     Err(io::Error::from(ErrorKind::AlreadyExists))
 }
 
-// Writes all the bytes and has them on the disk.
-fn fill<F: Write + OpenFile + Drop>(
+// Writes all the pieces and has them on the disk.
+fn fill<F: Write + OpenFile + Drop, P: Pieces>(
+    alloc: Global,
     mut file: F,
     permissions: Option<Permissions>,
-    bytes: &[u8],
+    pieces: &mut P,
 ) -> io::Result<()> {
     if let Some(permissions) = permissions {
         file.set_permissions(permissions)?;
     }
-    file.write_all(bytes)?;
+    write_pieces(alloc, &mut file, pieces)?;
     file.sync_all()
 }
 
-// Puts a file of these bytes in place of what the path names, with these permissions or those of any new file. Where
+// Puts a file of these pieces in place of what the path names, with these permissions or those of any new file. Where
 // that fails the path names what it named, and nothing is left beside it.
-pub(crate) fn replace<R: Files>(
+pub(crate) fn replace<R: Files, P: Pieces>(
     rt: &R,
     alloc: Global,
     path: Path<'_>,
     permissions: Option<Permissions>,
-    bytes: &[u8],
+    pieces: &mut P,
 ) -> io::Result<()> {
     let mode = if permissions.is_some() { 0o600 } else { 0o666 };
     let (file, beside) = create_beside(rt, alloc, path, mode)?;
-    let renamed = match fill(file, permissions, bytes) {
+    let renamed = match fill(alloc, file, permissions, pieces) {
         Ok(()) => fs::rename(rt, &beside, path),
         Err(error) => Err(error),
     };

@@ -1,3 +1,4 @@
+mod LinesText
 mod Writable
 mod SpanLemmas
 mod SpanText

@@ -1,5 +1,6 @@
 pub mod Spelling
 pub mod Writing
+pub mod Pieces
 pub mod Parts
 pub mod Reading
 pub mod Heads

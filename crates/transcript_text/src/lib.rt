@@ -8,6 +8,7 @@ mod fields;
 mod head;
 mod head_writing;
 mod lines;
+mod pieces;
 mod reader;
 mod rows;
 mod version;
@@ -16,6 +17,7 @@ mod writing;
 
 pub use entry_lines::entry_line;
 pub use fault::ReadError;
+pub use pieces::TextPieces;
 pub use reader::{read, read_old};
 pub use version::Version;
 pub use writer::write;

@@ -1,11 +1,11 @@
 //! The lines of entries.
-ghost use Rattle.std.specs.Prelude.{◌≡◌, ◌++◌, ◌∷◌, codes, decimal, All, OnOk, IfOk, IfSome};
+ghost use Rattle.std.specs.Prelude.{◌≡◌, ◌≤◌, ◌<◌, ◌++◌, ◌∷◌, length, codes, decimal, All, OnOk, IfOk, IfSome};
 ghost use Rattle.hex.specs.Hex.{encode_lower};
 ghost use Rattle.meter_frames.specs.Frames.{spelling, FitsKind};
 ghost use Rattle.transcript_text.specs.declared.version.Version.TheVariants.{Two};
 ghost use Rattle.field_texts.specs.Sets.{numbers_text};
-ghost use Rattle.transcript_text.specs.Spelling.{joined, verdict_text, tag_fields, sent_fields, closing_fields, ending_fields, entry_text, entries_text};
-ghost use Rattle.transcript_text.specs.Writing.{IsWritable};
+ghost use Rattle.transcript_text.specs.Spelling.{ended, joined, verdict_text, tag_fields, sent_fields, closing_fields, ending_fields, entry_text, entries_text};
+ghost use Rattle.transcript_text.specs.Writing.{IsWritable, text_from};
 
 use field_texts::{put_number, put_set};
 use group_plan::{Kind, Tag};
@@ -184,20 +184,43 @@ pub fn line_text(alloc: Global, entry: &Entry) -> Result<Vec<u8>, AllocError>
     Ok(out)
 }
 
+/// The lines of the entries from one place up to another, each with its newline.
+#[tactic(auto, using(crate::proofs::LinesText::line_written))]
+pub(crate) fn put_lines(
+    out: &mut Vec<u8>,
+    transcript: &Transcript,
+    from: usize,
+    until: usize,
+) -> Result<(), AllocError>
+    requires lines { All (λ e. IsWritable e.line) transcript.now.entries }
+    requires order { from ≤ until }
+    requires within { until ≤ length transcript.now.entries }
+    ensures lines { OnOk result (out.new.items ++ text_from transcript.now.entries until ≡ out.old.items ++ text_from transcript.now.entries from) }
+    ensures some { OnOk result (from < until → 0 < length out.new.items) }
+{
+    for at in from..until {
+        let entry = transcript.entry(at);
+        put_entry(out, &entry)?;
+        out.push(b'\n')?;
+    }
+    Ok(())
+}
+
+/// The `end` line after so many entries.
+pub(crate) fn put_end(out: &mut Vec<u8>, entries: usize) -> Result<(), AllocError>
+    ensures { OnOk result (out.new.items ≡ out.old.items ++ ended (codes "end," ++ decimal entries)) }
+{
+    out.extend_from_slice(b"end,")?;
+    put_number(out, entries as u64)?;
+    out.extend_from_slice(b"\n")
+}
+
 /// The lines of all entries, and the `end` line with their number.
-#[tactic(auto, unfolding(crate::specs::Spelling::entries_text))]
 pub(crate) fn put_entries(out: &mut Vec<u8>, transcript: &Transcript) -> Result<(), AllocError>
     requires { All (λ e. IsWritable e.line) transcript.now.entries }
     ensures { OnOk result (out.new.items ≡ out.old.items ++ entries_text Two 0 transcript.now.entries) }
 {
     let entries = transcript.len();
-    for at in 0..entries {
-        let entry = transcript.entry(at);
-        put_entry(out, &entry)?;
-        out.push(b'\n')?;
-    }
-    out.extend_from_slice(b"end,")?;
-    put_number(out, entries as u64)?;
-    out.push(b'\n')?;
-    Ok(())
+    put_lines(out, transcript, 0, entries)?;
+    put_end(out, entries)
 }

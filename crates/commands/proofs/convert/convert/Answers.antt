@@ -1,4 +1,4 @@
-use Rattle.std.proofs.Common.{◌∙◌}
+use Rattle.std.proofs.Common.{refl, ◌∙◌}
 use Rattle.commands.proofs.CommandEndings.{convert_ends}
 use Rattle.commands.proofs.convert.convert.Goals as goal
 
@@ -6,5 +6,5 @@ pub returns-clause-ends : goal.returns-clause-ends
 returns-clause-ends g c =
     convert_ends _ _ _ _ _ _ _ _ _ _ _ _ c.in-Ok.ensures.ends.0 c.in-Ok.ensures.ends.1 c.deref.ensures.value
     (record { transcript = c.in-Ok-read_old.ensures.sound; head = c.in-Ok-read_old.ensures.plan }) c.in-Ok-read_old.ensures.found
-    (c.as_slice.ensures.value ∙ c.in-Ok-write.ensures.text) (c.as_bytes.ensures.value ∙ c.in-Ok-converted_line.ensures) c.len.ensures.len
+    refl (c.as_bytes.ensures.value ∙ c.in-Ok-converted_line.ensures) c.len.ensures.len
     c.put_one.ensures.ends

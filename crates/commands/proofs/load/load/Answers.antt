@@ -24,4 +24,4 @@ pub returns-clause-ends : goal.returns-clause-ends
 returns-clause-ends g c =
     load_ends _ _ _ (Some c.in-Some.name.now) _ _ (texts_of c.in-Ok-run_texts.texts) _ _ _ _ _ (ap name_in c.in-Some.is)
     (c.deref.ensures.value ∙ c.in-Ok.ensures.made.1) (c.deref-2.ensures.value ∙ c.in-Ok.ensures.made.2) c.in-Ok-run_texts.ensures
-    c.as_slice-in-Some.ensures.value c.as_slice-in-Some-2.ensures.value c.put_one.ensures.ends
+    refl c.as_slice-in-Some.ensures.value c.put_one.ensures.ends

@@ -1,3 +1,4 @@
+use Rattle.std.proofs.Common.{refl}
 use Rattle.commands.proofs.CommandEndings.{run_ends}
 use Rattle.commands.specs.RunTexts.{texts_of}
 use Rattle.commands.proofs.run.run.Goals as goal
@@ -6,4 +7,4 @@ pub returns-in-Ok-run_texts-clause-ends : goal.returns-in-Ok-run_texts-clause-en
 returns-in-Ok-run_texts-clause-ends g c =
     run_ends _ _ _ _ _ (texts_of c.in-Ok-run_texts.texts) _ _ _ _ _ _ _ _ c.in-Ok.ensures.ends.0 c.in-Ok.ensures.ends.1 c.in-Ok.ensures.ends.2
     c.deref.ensures.value c.deref-2.ensures.value c.in-Ok-run_texts.ensures
-    c.as_slice.ensures.value c.as_slice-in-Ok-run_texts.ensures.value c.as_slice-in-Ok-run_texts-2.ensures.value c.put_two.ensures.ends
+    refl c.as_slice.ensures.value c.as_slice-in-Ok-run_texts.ensures.value c.put_two.ensures.ends

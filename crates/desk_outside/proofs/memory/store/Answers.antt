@@ -14,6 +14,6 @@ bytes-cond false new rest = refl
 pub returns-clause-ok : goal.returns-clause-ok
 returns-clause-ok c = λ other.
     let sets = btree_map_updates_text (string_bytes c.in_ok-name.name) c.args.files.now c.insert.new.self _ c.in_ok-insert.ensures.updates other in
-    let picked : held_in c.insert.new.self other ≡ cond (bytes_eq (string_bytes c.in_ok-name.name) other) (Some c.in_ok-bytes.bytes.items) (held_in c.args.files.now other) =
+    let picked : held_in c.insert.new.self other ≡ cond (bytes_eq (string_bytes c.in_ok-name.name) other) (Some c.args.bytes.items) (held_in c.args.files.now other) =
     ap (option_map (λ (v : Vec ℕ Global). v.items)) sets ∙ bytes-cond _ _ _ in
-    rw (c.in_ok-name.ensures.ok, c.in_ok-bytes.ensures.items_if_clones_equal (λ x y same. same)) at picked
+    rw c.in_ok-name.ensures.ok at picked

@@ -1,0 +1,71 @@
+//! Bytes that are made a piece at a time.
+
+ghost use Rattle.std.specs.Prelude.{◌≡◌, ◌++◌, ℕ, List, [], OnOk, IfOk};
+ghost use Rattle.std.specs.Io.KnownBytes.{Appends};
+
+use std::alloc::{AllocError, Global};
+use std::io;
+use std::io::Write;
+
+/// Bytes that are made a piece at a time, so that they need not be in memory all at once.
+pub trait Pieces {
+    /// The bytes that are still to come.
+    ghost rest: { Self → List ℕ };
+
+    /// Puts the next bytes in place of what the piece held. It is empty only where none are left. After an error nothing
+    /// is known of the bytes that are still to come.
+    fn next(&mut self, piece: &mut Vec<u8>) -> Result<(), AllocError>
+        ensures next { OnOk result (rest self.old ≡ piece.new.items ++ rest self.new) }
+        ensures end { OnOk result (piece.new.items ≡ [] → rest self.new ≡ []) };
+}
+
+// The most bytes in a piece of a slice.
+const PIECE_BYTES: usize = 1 << 16;
+
+/// The bytes of a slice, in pieces of 64 KB.
+#[derive(Drop)]
+pub(crate) struct Slice<'a> {
+    pub(crate) rest: &'a [u8],
+}
+
+impl Pieces for Slice<'_> {
+    ghost rest = { λ s. s.rest.now };
+
+    #[tactic(auto, using(crate::proofs::Written::none_left))]
+    fn next(&mut self, piece: &mut Vec<u8>) -> Result<(), AllocError> {
+        let (front, after) = self.rest.split_at(self.rest.len().min(PIECE_BYTES));
+        piece.clear();
+        piece.extend_from_slice(front)?;
+        self.rest = after;
+        Ok(())
+    }
+}
+
+/// Writes all the bytes that are still to come.
+pub(crate) fn write_pieces<W: Write, P: Pieces>(
+    alloc: Global,
+    out: &mut W,
+    pieces: &mut P,
+) -> io::Result<()>
+    ensures { OnOk result (Appends (W.contents out.old) (W.contents out.new) (P.rest pieces.old)) }
+{
+    let mut piece = Vec::new(alloc);
+    loop {
+        pieces.next(&mut piece)?;
+        if piece.is_empty() {
+            return Ok(());
+        }
+        out.write_all(&piece)?;
+    }
+}
+
+/// All the bytes that are still to come.
+pub(crate) fn collected<P: Pieces>(alloc: Global, pieces: &mut P) -> Result<Vec<u8>, AllocError>
+    ensures { IfOk result (λ bytes. bytes.items ≡ P.rest pieces.old) }
+{
+    let mut bytes = Vec::new(alloc);
+    match write_pieces(alloc, &mut bytes, pieces) {
+        Ok(()) => Ok(bytes),
+        Err(_) => Err(AllocError),
+    }
+}
