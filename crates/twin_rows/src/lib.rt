@@ -1,5 +1,5 @@
-//! Worked rows of `twin_worlds`, and words over tables of ideal masks: tests alone. They stand apart from `rows` so that
-//! the tests of both are proved side by side.
+//! Worked rows of `twin_worlds`, and words over tables of ideal masks: tests alone. They stand apart from `file_rows` and
+//! `book_rows` so that the tests of the three are proved side by side.
 #![tactic(auto)]
 
 #[cfg(test)]

@@ -3,12 +3,11 @@
 use group_plan::Plan;
 use pair_keys::{KeyError, KeyId, KeyPile};
 use row_fixtures::group;
+use std::process::Abort;
 use std::test::Fail;
 
-#[test]
-fn keys_of_two_meters(rt: HostRuntime) -> Result<(), Fail> {
-    let plan = Plan::new(rt.alloc(), &[group(b"north", 2, 2)?], 1, 1, 2)?;
-    let mut pile = KeyPile::new(rt.alloc(), &plan)?;
+// Puts own keys: one of the plan, the same again, and others outside the plan.
+fn check_own(rt: &impl Abort, pile: &mut KeyPile) {
     let own = KeyId::Own { group: 0, meter: 0 };
     for (group, meter, expected) in [
         (0, 0, Ok(())),
@@ -18,11 +17,23 @@ fn keys_of_two_meters(rt: HostRuntime) -> Result<(), Fail> {
         (1, 0, Err(KeyError::Range)),
         (65536, 0, Err(KeyError::Range)),
     ] {
-        assert_eq!(&rt; pile.put_own(group, meter, [7; 32]), expected);
+        assert_eq!(rt; pile.put_own(group, meter, [7; 32]), expected);
     }
+}
+
+// Puts keys of pairs outside the plan.
+fn check_pairs(rt: &impl Abort, pile: &mut KeyPile) {
     for (low, high) in [(0, 0), (1, 0), (1, 1), (0, 2)] {
-        assert_eq!(&rt; pile.put_pair(0, low, high, [7; 32]), Err(KeyError::Range));
+        assert_eq!(rt; pile.put_pair(0, low, high, [7; 32]), Err(KeyError::Range));
     }
+}
+
+#[test]
+fn keys_of_two_meters(rt: HostRuntime) -> Result<(), Fail> {
+    let plan = Plan::new(rt.alloc(), &[group(b"north", 2, 2)?], 1, 1, 2)?;
+    let mut pile = KeyPile::new(rt.alloc(), &plan)?;
+    check_own(&rt, &mut pile);
+    check_pairs(&rt, &mut pile);
     for missing in [
         KeyId::Own { group: 0, meter: 1 },
         KeyId::Pair {

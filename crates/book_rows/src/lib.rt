@@ -1,5 +1,6 @@
-//! Worked rows and outside vectors of the crates below: tests alone, in modules that are named after the crates. Those of
-//! `twin_worlds` are in `twin_rows`.
+//! Worked rows of the book, of what feeds it and of what is made of it: mask words, the link, workers, whole runs, the report of
+//! a book, and the plain program that the book is compared with. They are tests alone, in modules that are named after the
+//! crates below; those of `twin_worlds` are in `twin_rows`, and those of plans, lanes, texts and files in `file_rows`.
 //! They stand here because a crate that has tests is proved twice, so those crates have none of their own.
 #![tactic(auto)]
 
@@ -8,34 +9,18 @@ mod blind_core_rows;
 #[cfg(test)]
 mod collector_workers_rows;
 #[cfg(test)]
-mod desk_outside_rows;
-#[cfg(test)]
 mod fixtures;
 #[cfg(test)]
 mod group_book_rows;
 #[cfg(test)]
-mod group_plan_rows;
-#[cfg(test)]
-mod link_lanes_rows;
-#[cfg(test)]
 mod lossy_link_rows;
-#[cfg(test)]
-mod pair_keys_rows;
 #[cfg(test)]
 mod plain_transcript_book_rows;
 #[cfg(test)]
 mod plain_transcript_rows;
-#[cfg(test)]
-mod plan_files_plan_rows;
-#[cfg(test)]
-mod plan_files_readings_rows;
 #[cfg(test)]
 mod shared_book_rows;
 #[cfg(test)]
 mod tick_run_rows;
 #[cfg(test)]
 mod totals_report_book_rows;
-#[cfg(test)]
-mod totals_report_rows;
-#[cfg(test)]
-mod transcript_text_rows;

@@ -1,6 +1,6 @@
 use Rattle.std.proofs.Common.{◌≤◌, ◌<◌, ◌+◌, ◌-◌, ◌^◌, length}
 use Rattle.link_lanes.specs.Racks.{posts_of, spare_of, HasRoom}
-use Rattle.rows.proofs.link_lanes_rows.pass_all.Given as goal
+use Rattle.file_rows.proofs.link_lanes_rows.pass_all.Given as goal
 
 abbrev pub invariant-loop-tick : goal.invariant-loop-tick
 invariant-loop-tick g l = record {

@@ -1,12 +1,14 @@
 //! Whole rounds of one group of three meters, call by call.
 
-use crate::fixtures::{book_of_north, reading_frame};
+use crate::fixtures::{book_of_north, is_same, reading_frame};
 use group_book::{Book, Outcome, OutcomeState, SendAnswer, TakeError};
 use group_plan::{Kind, Tag};
 use meter_frames::Frame;
 use missing_round::MeterSet;
 use mod_word::Word;
 use round_machine::{Closing, Ending, Verdict};
+use std::alloc::Global;
+use std::process::Abort;
 use std::test::Fail;
 use transcript_log::Lines;
 
@@ -169,40 +171,82 @@ fn are_same(lines: &Lines, others: &Lines) -> bool {
         return false;
     }
     for at in 0..lines.len() {
-        if lines.at(at) != others.at(at) {
+        if !is_same(&lines.at(at), &others.at(at)) {
             return false;
         }
     }
     true
 }
 
-#[test]
-fn book_copied(rt: HostRuntime) -> Result<(), Fail> {
-    let mut book = book_of_north(rt.alloc(), &[10, 10, 10], 20)?;
+fn is_sent(book: &mut Book, frame: Frame) -> Result<bool, Fail> {
     // A function that compares answers has to name all types in them.
+    let _refused: Option<TakeError> = None;
+    let _took: Option<Verdict> = None;
+    let _closed: Option<Closing> = None;
+    let _ended: Option<Ending> = None;
+    Ok(send(book, frame)? == Said::Sent(SendAnswer::Sent))
+}
+
+fn is_taken(book: &mut Book, frame: &Frame) -> Result<bool, Fail> {
+    let _sent: Option<SendAnswer> = None;
     let _refused: Option<TakeError> = None;
     let _closed: Option<Closing> = None;
     let _ended: Option<Ending> = None;
-    let none = MeterSet::empty();
-    let stages = [
-        (Kind::Reading, [122, 226, 312], Some(Call::Close)),
-        (Kind::Announcement, [0, 0, 0], None),
-        (Kind::Answer, [100, 200, 300], Some(Call::End)),
-    ];
-    for (kind, words, after) in &stages {
-        for (meter, word) in words.iter().enumerate() {
-            let sent = frame(*kind, meter as u8, none, *word);
-            assert!(rt; send(&mut book, sent)? == Said::Sent(SendAnswer::Sent));
-            assert!(rt; take(&mut book, &sent)? == Said::Took(Verdict::Fresh));
+    Ok(take(book, frame)? == Said::Took(Verdict::Fresh))
+}
+
+// Sends and takes the frames of these words, by meter; whether each was posted, and fresh.
+fn pass(book: &mut Book, kind: Kind, words: &[u64]) -> Result<bool, Fail> {
+    let mut meter = 0u8;
+    for word in words {
+        let sent = frame(kind, meter, MeterSet::empty(), *word);
+        if !is_sent(book, sent)? || !is_taken(book, &sent)? {
+            return Ok(false);
         }
-        if let Some(after) = after {
-            make(&mut book, after)?;
-        }
+        meter = meter.wrapping_add(1);
     }
-    let copy = book.try_copy()?;
-    assert_eq!(rt; copy.journal().len(), 20);
+    Ok(true)
+}
+
+// A round of three meters that ends with the total 60.
+fn ended_book(rt: &impl Abort, alloc: Global) -> Result<Book, Fail> {
+    let mut book = book_of_north(alloc, &[10, 10, 10], 20)?;
+    assert!(rt; pass(&mut book, Kind::Reading, &[122, 226, 312])?);
+    close_or_end(&mut book, true)?;
+    assert!(rt; pass(&mut book, Kind::Announcement, &[0, 0, 0])?);
+    assert!(rt; pass(&mut book, Kind::Answer, &[100, 200, 300])?);
+    close_or_end(&mut book, false)?;
+    Ok(book)
+}
+
+fn is_same_outcome(outcome: &Outcome, other: &Outcome) -> bool {
+    *outcome == *other
+}
+
+fn has_same_outcome(book: &Book, other: &Book) -> Result<bool, Fail> {
+    Ok(is_same_outcome(&outcome(book)?, &outcome(other)?))
+}
+
+fn has_lines(book: &Book, lines: usize) -> bool {
+    book.journal().len() == lines
+}
+
+fn has_total(book: &Book, total: u64) -> Result<bool, Fail> {
+    Ok(outcome(book)?.state == OutcomeState::Total(total))
+}
+
+// The copy has 20 lines, and the lines and the outcome of the book, which is the total 60.
+fn check_copy(rt: &impl Abort, copy: &Book, book: &Book) -> Result<(), Fail> {
+    assert!(rt; has_lines(copy, 20));
     assert!(rt; are_same(copy.journal(), book.journal()));
-    assert!(rt; outcome(&copy)? == outcome(&book)?);
-    assert!(rt; outcome(&copy)?.state == OutcomeState::Total(60));
+    assert!(rt; has_same_outcome(copy, book)?);
+    assert!(rt; has_total(copy, 60)?);
     Ok(())
+}
+
+#[test]
+fn book_copied(rt: HostRuntime) -> Result<(), Fail> {
+    let book = ended_book(&rt, rt.alloc())?;
+    let copy = book.try_copy()?;
+    check_copy(&rt, &copy, &book)
 }

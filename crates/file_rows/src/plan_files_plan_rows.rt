@@ -1,10 +1,12 @@
 //! Plan files: their values and their first faults.
 
-use group_plan::{PlanError, SpanError};
-use pair_keys::{KeyError, KeyId};
+use group_plan::{Plan, PlanError, SpanError};
+use link_lanes::LaneRow;
+use pair_keys::{KeyError, KeyId, KeyTable};
 use plan_files::{FileCause, FileError, PlanFile, read_plan};
 use row_fixtures::reading_tag;
 use std::alloc::{AllocError, Global};
+use std::process::Abort;
 use std::test::Fail;
 
 // The rows of the plain plan. A Z stands for 64 zeros.
@@ -380,6 +382,31 @@ fn accepted_plans(rt: HostRuntime) -> Result<(), Fail> {
     Ok(())
 }
 
+// Three rounds with windows of 4 and 5 ticks, of which the first is one without the second meter.
+fn check_plan(rt: &impl Abort, plan: &Plan) {
+    assert_eq!(rt; [plan.rounds(), plan.w1(), plan.w2()], [3, 4, 5]);
+    for (round, is_member) in [(0, false), (1, true), (2, true)] {
+        let tag = reading_tag(0, round, 1);
+        assert!(rt; plan.holds(tag) && plan.is_member(0, round, 1) == is_member);
+    }
+}
+
+// A seeded lane and a clear one.
+fn check_lanes(rt: &impl Abort, lanes: &[LaneRow]) {
+    assert_eq!(rt; lanes.len(), 2);
+    assert_eq!(rt; lanes[0].name.bytes(), b"seeded".as_slice());
+    assert_eq!(rt; lanes[0].arg.text(), "1:2:3:4");
+    assert_eq!(rt; [lanes[0].row, lanes[0].from, lanes[0].to], [6, 0, 43]);
+    assert_eq!(rt; [lanes[1].row, lanes[1].from, lanes[1].to], [10, 2, 2]);
+}
+
+// The own keys of two meters end in f1 and f2, and the key of their pair begins with 3.
+fn check_keys(rt: &impl Abort, keys: &KeyTable) {
+    let is_place = keys.plan().meters(0) == 2;
+    assert!(rt; is_place && keys.own(0, 0)[31] == 0xf1 && keys.own(0, 1)[31] == 0xf2);
+    assert!(rt; is_place && keys.pair(0, 0, 1)[0] == 3);
+}
+
 #[test]
 fn value_of_a_plan(rt: HostRuntime) -> Result<(), Fail> {
     let file = plan_file(
@@ -392,21 +419,8 @@ fn value_of_a_plan(rt: HostRuntime) -> Result<(), Fail> {
     let Ok(value) = read(rt.alloc(), file.as_slice()) else {
         panic!(rt; "refused")
     };
-    let plan = value.plan;
-    assert_eq!(rt; [plan.rounds(), plan.w1(), plan.w2()], [3, 4, 5]);
-    for (round, is_member) in [(0, false), (1, true), (2, true)] {
-        let tag = reading_tag(0, round, 1);
-        assert!(rt; plan.holds(tag) && plan.is_member(0, round, 1) == is_member);
-    }
-    let lanes = value.lanes.as_slice();
-    assert_eq!(rt; lanes.len(), 2);
-    assert_eq!(rt; lanes[0].name.bytes(), b"seeded".as_slice());
-    assert_eq!(rt; lanes[0].arg.text(), "1:2:3:4");
-    assert_eq!(rt; [lanes[0].row, lanes[0].from, lanes[0].to], [6, 0, 43]);
-    assert_eq!(rt; [lanes[1].row, lanes[1].from, lanes[1].to], [10, 2, 2]);
-    let keys = value.keys;
-    let is_place = keys.plan().meters(0) == 2;
-    assert!(rt; is_place && keys.own(0, 0)[31] == 0xf1 && keys.own(0, 1)[31] == 0xf2);
-    assert!(rt; is_place && keys.pair(0, 0, 1)[0] == 3);
+    check_plan(&rt, &value.plan);
+    check_lanes(&rt, &value.lanes);
+    check_keys(&rt, &value.keys);
     Ok(())
 }

@@ -1,4 +1,4 @@
-//! What several modules share: frames of readings, and books of the group `north`.
+//! What several modules share: frames of readings, books of the group `north`, and how lines are compared.
 
 ghost use Rattle.std.specs.Prelude.{◌≡◌, []};
 ghost use Rattle.group_plan.specs.declared.Kind.TheVariants.{Reading};
@@ -12,6 +12,7 @@ use row_fixtures::{plan_of_north, reading_tag, table};
 use shared_book::Parcel;
 use std::alloc::Global;
 use std::test::Fail;
+use transcript_log::Line;
 
 /// The frame of a reading in round 0.
 pub(crate) fn reading_frame(meter: u8, word: u64) -> Frame
@@ -44,4 +45,9 @@ pub(crate) fn send_reading(book: &mut Book, meter: u8, word: u64) -> Result<(), 
         SendAnswer::Sent => Ok(()),
         _ => Err("not sent".into()),
     }
+}
+
+/// Whether the two lines are one.
+pub(crate) fn is_same(line: &Line, other: &Line) -> bool {
+    *line == *other
 }

@@ -4,8 +4,9 @@ ghost use Rattle.std.specs.Prelude.{◌≡◌, ◌<◌, ◌≤◌, IsTrue};
 ghost use Rattle.group_book.specs.Books.{has_round};
 ghost use Rattle.meter_frames.specs.Frames.{FitsKind};
 ghost use Rattle.group_plan.specs.Plans.{members};
-ghost use Rattle.rows.specs.Streets.{streets, street_shape, street_contents, has_reading, own_word, reading_of};
+ghost use Rattle.book_rows.specs.Streets.{streets, street_shape, street_contents, has_reading, own_word, reading_of};
 
+use crate::fixtures::is_same;
 use group_book::Book;
 use group_plan::{Kind, Plan, Presence, Readings, Span, Tag};
 use meter_frames::Frame;
@@ -286,7 +287,7 @@ fn are_same(journal: &Lines, lines: &[Line]) -> bool {
         return false;
     }
     for at in 0..journal.len() {
-        if journal.at(at) != lines[at] {
+        if !is_same(&journal.at(at), &lines[at]) {
             return false;
         }
     }

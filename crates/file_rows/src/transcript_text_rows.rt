@@ -86,60 +86,63 @@ fn cut_before_each_byte(rt: HostRuntime) {
     }
 }
 
+// Numbers of lines, from 1, each with the line that stands there in place of that of `PLAIN`, and with the first fault.
+static FAULTS: [(usize, &str, Option<ReadError>); 40] = [
+    (1, "meteragg transcript 1", Some(ReadError::Head(1))),
+    (1, "meteragg transcript 2\r", Some(ReadError::Head(1))),
+    (1, "\u{feff}meteragg transcript 2", Some(ReadError::Head(1))),
+    (2, "rounds,01", Some(ReadError::Head(2))),
+    (2, "rounds,4294967296", Some(ReadError::Head(2))),
+    (2, "rounds,0", Some(ReadError::Head(5))),
+    (3, "windows,1", Some(ReadError::Head(3))),
+    (3, "windows,17,2", Some(ReadError::Head(5))),
+    (4, "group,no th,3,2", Some(ReadError::Head(4))),
+    (4, "group,north,257,2", Some(ReadError::Head(5))),
+    (4, "member,0,0,0,1", Some(ReadError::Head(4))),
+    (5, "member,0,0,0,1", Some(ReadError::Head(5))),
+    (6, "end,s", Some(ReadError::Field(6, 2))),
+    (6, "end,s,0,0,r,0,1,void", Some(ReadError::Field(6, 1))),
+    (6, "0,s,0,0,r,0,-,void", WHOLE),
+    (6, "0,s,0,0,r,0,1,void", Some(ReadError::Field(6, 8))),
+    (6, "0,s,0,0,r,0,17,void", Some(ReadError::Field(6, 7))),
+    (6, "0,s,0,0,r,0,2+1,void", Some(ReadError::Field(6, 7))),
+    (6, "0,s,0,0,r,0,1+1+1+1,void", Some(ReadError::Field(6, 7))),
+    (6, "0,x,0,0,r,0,-,void", Some(ReadError::Line(6))),
+    (6, "0,t,0,0,r,0,fresh,void", Some(ReadError::Line(6))),
+    (9, "1,t,1,0,r,0,fresh", Some(ReadError::Field(9, 3))),
+    (9, "1,t,0,1,r,0,fresh", Some(ReadError::Field(9, 4))),
+    (9, "1,t,0,0,x,0,fresh", Some(ReadError::Field(9, 5))),
+    (9, "1,t,0,0,r,3,fresh", Some(ReadError::Field(9, 6))),
+    (9, "1,t,0,0,r,0,Fresh", Some(ReadError::Field(9, 7))),
+    (10, "0,t,0,0,r,1,fresh", Some(ReadError::Field(10, 1))),
+    (
+        10,
+        "4294967296,t,0,0,r,1,fresh",
+        Some(ReadError::Field(10, 1)),
+    ),
+    (12, "1,c,0,0,announced,3", Some(ReadError::Field(12, 6))),
+    (12, "1,c,0,0,announced,2+0", Some(ReadError::Field(12, 6))),
+    (12, "1,c,0,0,thin,0+0", Some(ReadError::Field(12, 6))),
+    (12, "1,c,0,0,already,0", Some(ReadError::Field(12, 6))),
+    (12, "1,c,0,0,closed,-", Some(ReadError::Field(12, 5))),
+    (25, "3,e,0,0,none,0+2", WHOLE),
+    (25, "3,e,0,0,total,18446744073709551615", WHOLE),
+    (
+        25,
+        "3,e,0,0,total,18446744073709551616",
+        Some(ReadError::Field(25, 6)),
+    ),
+    (26, "end,19", Some(ReadError::Count(26))),
+    (26, "end,020", Some(ReadError::Field(26, 2))),
+    (26, "end,20\nx", Some(ReadError::After(27))),
+    (26, "3,t,0,0,a,2,again", Some(ReadError::NoEnd(27))),
+];
+
 #[test]
 fn first_faults(rt: HostRuntime) -> Result<(), Fail> {
-    for (number, line, expected) in [
-        (1, "meteragg transcript 1", Some(ReadError::Head(1))),
-        (1, "meteragg transcript 2\r", Some(ReadError::Head(1))),
-        (1, "\u{feff}meteragg transcript 2", Some(ReadError::Head(1))),
-        (2, "rounds,01", Some(ReadError::Head(2))),
-        (2, "rounds,4294967296", Some(ReadError::Head(2))),
-        (2, "rounds,0", Some(ReadError::Head(5))),
-        (3, "windows,1", Some(ReadError::Head(3))),
-        (3, "windows,17,2", Some(ReadError::Head(5))),
-        (4, "group,no th,3,2", Some(ReadError::Head(4))),
-        (4, "group,north,257,2", Some(ReadError::Head(5))),
-        (4, "member,0,0,0,1", Some(ReadError::Head(4))),
-        (5, "member,0,0,0,1", Some(ReadError::Head(5))),
-        (6, "end,s", Some(ReadError::Field(6, 2))),
-        (6, "end,s,0,0,r,0,1,void", Some(ReadError::Field(6, 1))),
-        (6, "0,s,0,0,r,0,-,void", WHOLE),
-        (6, "0,s,0,0,r,0,1,void", Some(ReadError::Field(6, 8))),
-        (6, "0,s,0,0,r,0,17,void", Some(ReadError::Field(6, 7))),
-        (6, "0,s,0,0,r,0,2+1,void", Some(ReadError::Field(6, 7))),
-        (6, "0,s,0,0,r,0,1+1+1+1,void", Some(ReadError::Field(6, 7))),
-        (6, "0,x,0,0,r,0,-,void", Some(ReadError::Line(6))),
-        (6, "0,t,0,0,r,0,fresh,void", Some(ReadError::Line(6))),
-        (9, "1,t,1,0,r,0,fresh", Some(ReadError::Field(9, 3))),
-        (9, "1,t,0,1,r,0,fresh", Some(ReadError::Field(9, 4))),
-        (9, "1,t,0,0,x,0,fresh", Some(ReadError::Field(9, 5))),
-        (9, "1,t,0,0,r,3,fresh", Some(ReadError::Field(9, 6))),
-        (9, "1,t,0,0,r,0,Fresh", Some(ReadError::Field(9, 7))),
-        (10, "0,t,0,0,r,1,fresh", Some(ReadError::Field(10, 1))),
-        (
-            10,
-            "4294967296,t,0,0,r,1,fresh",
-            Some(ReadError::Field(10, 1)),
-        ),
-        (12, "1,c,0,0,announced,3", Some(ReadError::Field(12, 6))),
-        (12, "1,c,0,0,announced,2+0", Some(ReadError::Field(12, 6))),
-        (12, "1,c,0,0,thin,0+0", Some(ReadError::Field(12, 6))),
-        (12, "1,c,0,0,already,0", Some(ReadError::Field(12, 6))),
-        (12, "1,c,0,0,closed,-", Some(ReadError::Field(12, 5))),
-        (25, "3,e,0,0,none,0+2", WHOLE),
-        (25, "3,e,0,0,total,18446744073709551615", WHOLE),
-        (
-            25,
-            "3,e,0,0,total,18446744073709551616",
-            Some(ReadError::Field(25, 6)),
-        ),
-        (26, "end,19", Some(ReadError::Count(26))),
-        (26, "end,020", Some(ReadError::Field(26, 2))),
-        (26, "end,20\nx", Some(ReadError::After(27))),
-        (26, "3,t,0,0,a,2,again", Some(ReadError::NoEnd(27))),
-    ] {
-        let text = with_line(rt.alloc(), PLAIN, number, line)?;
-        assert_eq!(rt; fault_of(rt.alloc(), text.as_bytes()), expected, "{line}");
+    for (number, line, expected) in FAULTS.iter() {
+        let text = with_line(rt.alloc(), PLAIN, *number, line)?;
+        assert_eq!(rt; fault_of(rt.alloc(), text.as_bytes()), *expected, "{line}");
     }
     Ok(())
 }

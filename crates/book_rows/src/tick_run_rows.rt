@@ -1,12 +1,19 @@
 //! A worked run.
 
+use crate::fixtures::is_same;
 use collector_workers::Free;
 use link_lanes::Rack;
 use round_machine::Ending;
 use row_fixtures::{keys_of_north, plan_of_north, table};
 use std::test::Fail;
 use tick_run::run_plan;
-use transcript_log::Line;
+use transcript_log::{Line, Lines};
+
+// Whether this is the last line.
+fn ends_with(lines: &Lines, last: &Line) -> bool {
+    let count = lines.len();
+    count > 0 && is_same(&lines.at(count - 1), last)
+}
 
 #[test]
 fn three_meters_total_60(rt: HostRuntime) -> Result<(), Fail> {
@@ -24,13 +31,11 @@ fn three_meters_total_60(rt: HostRuntime) -> Result<(), Fail> {
     // 9 Sends, 9 Takes, a Close and an End.
     assert_eq!(&rt; done.transcript.len(), 20);
     assert_eq!(&rt; rack.posts().len(), 9);
-    let mut total = None;
-    let lines = done.book.journal();
-    for at in 0..lines.len() {
-        if let Line::End { ending, .. } = lines.at(at) {
-            total = Some(ending);
-        }
-    }
-    assert!(&rt; total == Some(Ending::Total(60)));
+    let end = Line::End {
+        group: 0,
+        round: 0,
+        ending: Ending::Total(60),
+    };
+    assert!(&rt; ends_with(done.book.journal(), &end));
     Ok(())
 }

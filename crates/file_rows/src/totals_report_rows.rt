@@ -66,63 +66,69 @@ fn rows_read_and_written(rt: HostRuntime) -> Result<(), Fail> {
     Ok(())
 }
 
+// Texts, each with its first faulty line.
+static TEXTS: [(&str, Option<u64>); 6] = [
+    ("", Some(1)),
+    ("group,round,survivors,missing,outcome,total", Some(1)),
+    ("group,round,survivors,missing,outcome,total\r\n", Some(1)),
+    (
+        "\u{feff}group,round,survivors,missing,outcome,total\n",
+        Some(1),
+    ),
+    ("group,round,survivors,missing,outcome\n", Some(1)),
+    ("group,round,survivors,missing,outcome,total\n", None),
+];
+
+// Lines below the heading, each text of them with its first faulty line.
+static LINES: [(&str, Option<u64>); 30] = [
+    (
+        "a-b_C-d_E-f_0123,4095,256,255,total,18446744073709551615\n",
+        None,
+    ),
+    ("a,0,0,0+9+10+255,open,\nb,0,0,-,thin,\n", None),
+    ("north,0,3,-,total,60", Some(2)),
+    ("north,0,3,-,total,60\nnorth,1,3,-,total,60", Some(3)),
+    ("north,0,3,-,total,60\n\n", Some(3)),
+    ("north,0,3,-,total,60\r\n", Some(2)),
+    ("\"north\",0,3,-,total,60\n", Some(2)),
+    ("north,0,3,-,total\n", Some(2)),
+    ("north,0,3,-,total,60,\n", Some(2)),
+    (",0,3,-,total,60\n", Some(2)),
+    ("a-b_C-d_E-f_01234,0,3,-,total,60\n", Some(2)),
+    ("no rth,0,3,-,total,60\n", Some(2)),
+    ("north,4096,3,-,total,60\n", Some(2)),
+    ("north,00,3,-,total,60\n", Some(2)),
+    ("north,,3,-,total,60\n", Some(2)),
+    ("north,+1,3,-,total,60\n", Some(2)),
+    ("north,0,257,-,total,60\n", Some(2)),
+    ("north,0,3,,total,60\n", Some(2)),
+    ("north,0,3,256,total,60\n", Some(2)),
+    ("north,0,3,1+0,total,60\n", Some(2)),
+    ("north,0,3,1+1,total,60\n", Some(2)),
+    ("north,0,3,1+,total,60\n", Some(2)),
+    ("north,0,3,-+1,total,60\n", Some(2)),
+    ("north,0,3,-,Total,60\n", Some(2)),
+    ("north,0,3,-,total,\n", Some(2)),
+    ("north,0,3,-,total,060\n", Some(2)),
+    ("north,0,3,-,total,18446744073709551616\n", Some(2)),
+    ("north,0,3,-,none,0\n", Some(2)),
+    ("north,0,3,-,open,-\n", Some(2)),
+    ("north,0,3,-,lacking,\n", Some(2)),
+];
+
 #[test]
 fn first_faulty_lines(rt: HostRuntime) -> Result<(), Fail> {
     let alloc = rt.alloc();
-    for (text, line) in [
-        ("", Some(1)),
-        ("group,round,survivors,missing,outcome,total", Some(1)),
-        ("group,round,survivors,missing,outcome,total\r\n", Some(1)),
-        (
-            "\u{feff}group,round,survivors,missing,outcome,total\n",
-            Some(1),
-        ),
-        ("group,round,survivors,missing,outcome\n", Some(1)),
-        ("group,round,survivors,missing,outcome,total\n", None),
-    ] {
+    for (text, line) in TEXTS.iter() {
         assert!(&rt;
-            matches!(fault_of(alloc, text.as_bytes()), Ok(found) if found == line),
+            matches!(fault_of(alloc, text.as_bytes()), Ok(found) if found == *line),
             "{text}"
         );
     }
-    for (lines, line) in [
-        (
-            "a-b_C-d_E-f_0123,4095,256,255,total,18446744073709551615\n",
-            None,
-        ),
-        ("a,0,0,0+9+10+255,open,\nb,0,0,-,thin,\n", None),
-        ("north,0,3,-,total,60", Some(2)),
-        ("north,0,3,-,total,60\nnorth,1,3,-,total,60", Some(3)),
-        ("north,0,3,-,total,60\n\n", Some(3)),
-        ("north,0,3,-,total,60\r\n", Some(2)),
-        ("\"north\",0,3,-,total,60\n", Some(2)),
-        ("north,0,3,-,total\n", Some(2)),
-        ("north,0,3,-,total,60,\n", Some(2)),
-        (",0,3,-,total,60\n", Some(2)),
-        ("a-b_C-d_E-f_01234,0,3,-,total,60\n", Some(2)),
-        ("no rth,0,3,-,total,60\n", Some(2)),
-        ("north,4096,3,-,total,60\n", Some(2)),
-        ("north,00,3,-,total,60\n", Some(2)),
-        ("north,,3,-,total,60\n", Some(2)),
-        ("north,+1,3,-,total,60\n", Some(2)),
-        ("north,0,257,-,total,60\n", Some(2)),
-        ("north,0,3,,total,60\n", Some(2)),
-        ("north,0,3,256,total,60\n", Some(2)),
-        ("north,0,3,1+0,total,60\n", Some(2)),
-        ("north,0,3,1+1,total,60\n", Some(2)),
-        ("north,0,3,1+,total,60\n", Some(2)),
-        ("north,0,3,-+1,total,60\n", Some(2)),
-        ("north,0,3,-,Total,60\n", Some(2)),
-        ("north,0,3,-,total,\n", Some(2)),
-        ("north,0,3,-,total,060\n", Some(2)),
-        ("north,0,3,-,total,18446744073709551616\n", Some(2)),
-        ("north,0,3,-,none,0\n", Some(2)),
-        ("north,0,3,-,open,-\n", Some(2)),
-        ("north,0,3,-,lacking,\n", Some(2)),
-    ] {
+    for (lines, line) in LINES.iter() {
         let text = with_heading(alloc, lines)?;
         assert!(&rt;
-            matches!(fault_of(alloc, text.as_slice()), Ok(found) if found == line),
+            matches!(fault_of(alloc, text.as_slice()), Ok(found) if found == *line),
             "{lines}"
         );
     }

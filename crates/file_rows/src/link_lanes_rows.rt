@@ -5,7 +5,7 @@ ghost use Rattle.link_lanes.specs.Racks.{posts_of, spare_of, HasRoom};
 
 use group_plan::{Kind, Name, Tag};
 use link_lanes::{
-    Arg, ArgError, Burst, Clear, EveryNth, Fate, FateError, Lane, LaneError, LaneRow, Rack,
+    Arg, ArgError, Burst, Clear, EveryNth, Fate, FateError, Lane, LaneError, LaneRow, Post, Rack,
     RackCause, Rules, Seeded,
 };
 use row_fixtures::reading_tag;
@@ -49,111 +49,158 @@ fn many_rules(alloc: Global, count: usize) -> Result<String, Fail> {
     Ok(arg)
 }
 
-#[test]
-fn arguments_by_form(rt: HostRuntime) -> Result<(), Fail> {
-    let alloc = rt.alloc();
-    for (arg, fits) in [("", true), (" ", false), ("-", false)] {
-        assert_eq!(&rt; takes(alloc, &mut Clear::new(), arg)?, fits, "clear {arg}");
+// Arguments, and whether the lane takes them.
+static CLEAR: [(&str, bool); 3] = [("", true), (" ", false), ("-", false)];
+
+static RULES: [(&str, bool); 20] = [
+    ("*.*.*.*=-", true),
+    ("0.0.r.2=2", true),
+    (
+        "4294967295.4294967295.a.4294967295=1+3;*.0.m.*=16+16+16",
+        true,
+    ),
+    ("", false),
+    (";", false),
+    ("0.0.r.2=2;", false),
+    (";0.0.r.2=2", false),
+    ("0.0.r.2=2;;0.0.r.2=2", false),
+    ("0.0.r=2", false),
+    ("0.0.r.2.2=2", false),
+    ("0.0.r.2", false),
+    ("0.0.r.2=2=2", false),
+    ("0.0.r.2=", false),
+    ("4294967296.0.r.2=2", false),
+    ("00.0.r.2=2", false),
+    ("0.+1.r.2=2", false),
+    ("0.0.R.2=2", false),
+    ("0.0.rr.2=2", false),
+    ("0.0..2=2", false),
+    ("0.0.r.**=2", false),
+];
+
+static SEEDED: [(&str, bool); 11] = [
+    ("18446744073709551615:1000:1000:16", true),
+    ("0:0:0:1", true),
+    ("18446744073709551616:0:0:1", false),
+    (
+        "99999999999999999999999999999999999999999999999999:0:0:1",
+        false,
+    ),
+    ("0:1001:0:1", false),
+    ("0:0:1001:1", false),
+    ("0:0:0:0", false),
+    ("0:0:0:17", false),
+    ("0:0:0", false),
+    ("0:0:0:1:1", false),
+    ("0:0::1", false),
+];
+
+static EVERY: [(&str, bool); 18] = [
+    ("1:-", true),
+    ("1000000:16", true),
+    ("3:1+3", true),
+    ("3:2+2+2", true),
+    ("", false),
+    ("3", false),
+    (":1", false),
+    ("0:1", false),
+    ("1000001:1", false),
+    ("03:1", false),
+    ("3:", false),
+    ("3:0", false),
+    ("3:17", false),
+    ("3:2+1", false),
+    ("3:1+1+1+1", false),
+    ("3:1+", false),
+    ("3:-+1", false),
+    ("3:1:1", false),
+];
+
+static BURST: [(&str, bool); 10] = [
+    ("1:1", true),
+    ("1000000:1000000", true),
+    ("", false),
+    ("1", false),
+    ("0:1", false),
+    ("1:0", false),
+    ("1000001:1", false),
+    ("1:1000001", false),
+    ("1:1:1", false),
+    ("01:1", false),
+];
+
+fn check_clear(rt: &impl Abort, alloc: Global) -> Result<(), Fail> {
+    for (arg, fits) in CLEAR.iter() {
+        assert_eq!(rt; takes(alloc, &mut Clear::new(), arg)?, *fits, "clear {arg}");
     }
-    for (arg, fits) in [
-        ("*.*.*.*=-", true),
-        ("0.0.r.2=2", true),
-        (
-            "4294967295.4294967295.a.4294967295=1+3;*.0.m.*=16+16+16",
-            true,
-        ),
-        ("", false),
-        (";", false),
-        ("0.0.r.2=2;", false),
-        (";0.0.r.2=2", false),
-        ("0.0.r.2=2;;0.0.r.2=2", false),
-        ("0.0.r=2", false),
-        ("0.0.r.2.2=2", false),
-        ("0.0.r.2", false),
-        ("0.0.r.2=2=2", false),
-        ("0.0.r.2=", false),
-        ("4294967296.0.r.2=2", false),
-        ("00.0.r.2=2", false),
-        ("0.+1.r.2=2", false),
-        ("0.0.R.2=2", false),
-        ("0.0.rr.2=2", false),
-        ("0.0..2=2", false),
-        ("0.0.r.**=2", false),
-    ] {
-        assert_eq!(&rt; takes(alloc, &mut Rules::new(), arg)?, fits, "rules {arg}");
+    Ok(())
+}
+
+fn check_rules(rt: &impl Abort, alloc: Global) -> Result<(), Fail> {
+    for (arg, fits) in RULES.iter() {
+        assert_eq!(rt; takes(alloc, &mut Rules::new(), arg)?, *fits, "rules {arg}");
     }
-    let most = many_rules(alloc, 64)?;
-    assert!(&rt; takes(alloc, &mut Rules::new(), most.as_str())?);
-    let more = many_rules(alloc, 65)?;
-    assert!(&rt; !takes(alloc, &mut Rules::new(), more.as_str())?);
-    for (arg, fits) in [
-        ("18446744073709551615:1000:1000:16", true),
-        ("0:0:0:1", true),
-        ("18446744073709551616:0:0:1", false),
-        (
-            "99999999999999999999999999999999999999999999999999:0:0:1",
-            false,
-        ),
-        ("0:1001:0:1", false),
-        ("0:0:1001:1", false),
-        ("0:0:0:0", false),
-        ("0:0:0:17", false),
-        ("0:0:0", false),
-        ("0:0:0:1:1", false),
-        ("0:0::1", false),
-    ] {
-        assert_eq!(&rt;
+    Ok(())
+}
+
+fn check_seeded(rt: &impl Abort, alloc: Global) -> Result<(), Fail> {
+    for (arg, fits) in SEEDED.iter() {
+        assert_eq!(rt;
             takes(alloc, &mut Seeded::new(), arg)?,
-            fits,
+            *fits,
             "seeded {arg}"
         );
     }
-    for (arg, fits) in [
-        ("1:-", true),
-        ("1000000:16", true),
-        ("3:1+3", true),
-        ("3:2+2+2", true),
-        ("", false),
-        ("3", false),
-        (":1", false),
-        ("0:1", false),
-        ("1000001:1", false),
-        ("03:1", false),
-        ("3:", false),
-        ("3:0", false),
-        ("3:17", false),
-        ("3:2+1", false),
-        ("3:1+1+1+1", false),
-        ("3:1+", false),
-        ("3:-+1", false),
-        ("3:1:1", false),
-    ] {
-        assert_eq!(&rt;
+    Ok(())
+}
+
+fn check_every(rt: &impl Abort, alloc: Global) -> Result<(), Fail> {
+    for (arg, fits) in EVERY.iter() {
+        assert_eq!(rt;
             takes(alloc, &mut EveryNth::new(), arg)?,
-            fits,
+            *fits,
             "every {arg}"
         );
     }
-    for (arg, fits) in [
-        ("1:1", true),
-        ("1000000:1000000", true),
-        ("", false),
-        ("1", false),
-        ("0:1", false),
-        ("1:0", false),
-        ("1000001:1", false),
-        ("1:1000001", false),
-        ("1:1:1", false),
-        ("01:1", false),
-    ] {
-        assert_eq!(&rt; takes(alloc, &mut Burst::new(), arg)?, fits, "burst {arg}");
-    }
-    assert!(&rt; Arg::new(alloc, b"a b").err() == Some(ArgError::Byte(1)));
-    assert!(&rt; Arg::new(alloc, b"!~\x7f").err() == Some(ArgError::Byte(2)));
-    let plain = Arg::new(alloc, b"!,\"~")?;
-    assert!(&rt; plain.text() == "!,\"~");
-    assert!(&rt; Arg::new(alloc, b"")?.text() == "");
     Ok(())
+}
+
+fn check_burst(rt: &impl Abort, alloc: Global) -> Result<(), Fail> {
+    for (arg, fits) in BURST.iter() {
+        assert_eq!(rt; takes(alloc, &mut Burst::new(), arg)?, *fits, "burst {arg}");
+    }
+    Ok(())
+}
+
+// A lane takes 64 rules and no more.
+fn check_most_rules(rt: &impl Abort, alloc: Global) -> Result<(), Fail> {
+    let most = many_rules(alloc, 64)?;
+    assert!(rt; takes(alloc, &mut Rules::new(), most.as_str())?);
+    let more = many_rules(alloc, 65)?;
+    assert!(rt; !takes(alloc, &mut Rules::new(), more.as_str())?);
+    Ok(())
+}
+
+// The texts that are arguments at all.
+fn check_texts(rt: &impl Abort, alloc: Global) -> Result<(), Fail> {
+    assert!(rt; Arg::new(alloc, b"a b").err() == Some(ArgError::Byte(1)));
+    assert!(rt; Arg::new(alloc, b"!~\x7f").err() == Some(ArgError::Byte(2)));
+    let plain = Arg::new(alloc, b"!,\"~")?;
+    assert!(rt; plain.text() == "!,\"~");
+    assert!(rt; Arg::new(alloc, b"")?.text() == "");
+    Ok(())
+}
+
+#[test]
+fn arguments_by_form(rt: HostRuntime) -> Result<(), Fail> {
+    let alloc = rt.alloc();
+    check_clear(&rt, alloc)?;
+    check_rules(&rt, alloc)?;
+    check_most_rules(&rt, alloc)?;
+    check_seeded(&rt, alloc)?;
+    check_every(&rt, alloc)?;
+    check_burst(&rt, alloc)?;
+    check_texts(&rt, alloc)
 }
 
 // Makes these posts.
@@ -180,6 +227,23 @@ fn row(alloc: Global, row: u32, name: &str, arg: &str, span: (u32, u32)) -> Resu
     })
 }
 
+// The lane rows of a table, each as if it stood in row 11 of a file.
+fn lane_rows(alloc: Global, rows: &[(&str, &str, (u32, u32))]) -> Result<Vec<LaneRow>, Fail> {
+    let mut lane_rows = Vec::new(alloc);
+    for (name, arg, span) in rows {
+        lane_rows.push(row(alloc, 11, name, arg, *span)?)?;
+    }
+    Ok(lane_rows)
+}
+
+// Looks for these fates in the posts.
+fn check_posts(rt: &impl Abort, posts: &[Post], fates: &[&[u8]]) {
+    assert_eq!(rt; posts.len(), fates.len());
+    for (post, delays) in posts.iter().zip(fates) {
+        assert_eq!(rt; post.fate.delays(), *delays, "{:?}", post.tag);
+    }
+}
+
 // Lanes out of a cupboard with one of each kind, hung by these rows, give the posts these fates.
 fn check_fates(
     rt: &impl Abort,
@@ -188,27 +252,21 @@ fn check_fates(
     posts: &[(u32, Tag)],
     fates: &[&[u8]],
 ) -> Result<(), Fail> {
+    let rows = lane_rows(alloc, rows)?;
     let mut cupboard: Vec<Box<dyn Lane>> = Vec::new(alloc);
     cupboard.push(Box::new(alloc, Clear::new())?)?;
     cupboard.push(Box::new(alloc, Rules::new())?)?;
     cupboard.push(Box::new(alloc, Seeded::new())?)?;
     cupboard.push(Box::new(alloc, EveryNth::new())?)?;
     cupboard.push(Box::new(alloc, Burst::new())?)?;
-    let mut lane_rows = Vec::new(alloc);
-    for (name, arg, span) in rows {
-        lane_rows.push(row(alloc, 11, name, arg, *span)?)?;
-    }
-    let mut rack = match Rack::fit(alloc, cupboard, &lane_rows) {
+    let mut rack = match Rack::fit(alloc, cupboard, &rows) {
         Ok(rack) => rack,
         Err(error) => return Err(Fail::from(error)),
     };
     assert!(rt; posts.len() < 100);
     rack.reserve(posts.len() as u64)?;
     pass_all(&mut rack, posts);
-    assert_eq!(rt; rack.posts().len(), fates.len());
-    for (post, delays) in rack.posts().iter().zip(fates) {
-        assert_eq!(rt; post.fate.delays(), *delays, "{:?}", post.tag);
-    }
+    check_posts(rt, rack.posts(), fates);
     Ok(())
 }
 
@@ -337,6 +395,15 @@ fn fates_by_lanes(rt: HostRuntime) -> Result<(), Fail> {
     )
 }
 
+// The rows 11 to 13 of a file, of which row 12 has this name and argument.
+fn rows_around(alloc: Global, name: &str, arg: &str) -> Result<Vec<LaneRow>, Fail> {
+    let mut rows = Vec::new(alloc);
+    rows.push(row(alloc, 11, "every", "2:1", (0, 9))?)?;
+    rows.push(row(alloc, 12, name, arg, (0, 9))?)?;
+    rows.push(row(alloc, 13, "none", "", (0, 9))?)?;
+    Ok(rows)
+}
+
 #[test]
 fn rows_refused(rt: HostRuntime) -> Result<(), Fail> {
     let alloc = rt.alloc();
@@ -349,10 +416,7 @@ fn rows_refused(rt: HostRuntime) -> Result<(), Fail> {
         let mut cupboard: Vec<Box<dyn Lane>> = Vec::new(alloc);
         cupboard.push(Box::new(alloc, Burst::new())?)?;
         cupboard.push(Box::new(alloc, EveryNth::new())?)?;
-        let mut rows = Vec::new(alloc);
-        rows.push(row(alloc, 11, "every", "2:1", (0, 9))?)?;
-        rows.push(row(alloc, 12, name, arg, (0, 9))?)?;
-        rows.push(row(alloc, 13, "none", "", (0, 9))?)?;
+        let rows = rows_around(alloc, name, arg)?;
         match Rack::fit(alloc, cupboard, &rows) {
             Ok(_rack) => return Err(Fail::new("fitted")),
             Err(error) => {

@@ -1,6 +1,6 @@
 //! The plain program over a small world.
 
-ghost use Rattle.rows.specs.Small.{small_shape, small_contents};
+ghost use Rattle.book_rows.specs.Small.{small_shape, small_contents};
 
 use group_plan::{Kind, Tag};
 use meter_frames::Frame;

@@ -1,0 +1,271 @@
+//! The desk in memory, and the desk over real files.
+
+use desk_outside::{Desk, DeskCall, DeskError, DeskKind, FetchError, FileDesk, MemoryDesk};
+use std::alloc::Global;
+use std::fs::Permissions;
+use std::io::Read;
+use std::os::fd::AsRawFd;
+use std::os::unix::fs::{PermissionsExt, symlink};
+use std::process::Abort;
+use std::rt::Files;
+use std::test::Fail;
+use std::{fs, io};
+
+// Whether the call failed, for want of memory too.
+fn fails(desk: &mut MemoryDesk, alloc: Global, kind: DeskKind, name: &str, text: &str) -> bool {
+    match kind {
+        DeskKind::Fetch => desk.fetch(alloc, name, 3).is_err(),
+        DeskKind::Put => desk.put(name, text.as_bytes()).is_err(),
+        DeskKind::Say => desk.say(text.as_bytes()).is_err(),
+        DeskKind::Complain => desk.complain(text.as_bytes()).is_err(),
+    }
+}
+
+// Calls in their order, each with its name and its text, and whether it fails. Calls 1, 4 and 6 are told to fail, counted from 0,
+// and nothing has the name `c`.
+static CALLS: [(DeskKind, &str, &str, bool); 9] = [
+    (DeskKind::Fetch, "a", "", false),
+    (DeskKind::Put, "a", "new", true),
+    (DeskKind::Put, "b", "new", false),
+    (DeskKind::Fetch, "c", "", true),
+    (DeskKind::Say, "", "nothing", true),
+    (DeskKind::Say, "", "one ", false),
+    (DeskKind::Complain, "", "nothing", true),
+    (DeskKind::Complain, "", "two", false),
+    (DeskKind::Say, "", "three", false),
+];
+
+// Makes the listed calls.
+fn make_calls(rt: &impl Abort, desk: &mut MemoryDesk, alloc: Global) {
+    for (kind, name, text, failed) in CALLS.iter() {
+        assert_eq!(rt;
+            fails(desk, alloc, *kind, name, text),
+            *failed,
+            "{name}{text}"
+        );
+    }
+}
+
+// Whether a call of the desk is of this kind and this name, and failed or not.
+fn is_call(call: &DeskCall, kind: DeskKind, name: &str, failed: bool) -> bool {
+    call.kind == kind && call.name.bytes() == name.as_bytes() && call.failed == failed
+}
+
+// Looks for the listed calls among those that the desk has counted.
+fn check_calls(rt: &impl Abort, calls: &[DeskCall]) {
+    assert_eq!(rt; calls.len(), 9);
+    for (call, (kind, name, _, failed)) in calls.iter().zip(CALLS.iter()) {
+        assert!(rt; is_call(call, *kind, name, *failed), "{name}");
+    }
+}
+
+// Looks for what the names hold, and for what was said and complained.
+fn check_views(rt: &impl Abort, desk: &MemoryDesk) {
+    for (name, bytes) in [("a", Some("old")), ("b", Some("new")), ("c", None)] {
+        assert_eq!(rt; desk.held(name), bytes.map(|text| text.as_bytes()));
+    }
+    assert_eq!(rt; desk.said(), b"one three".as_slice());
+    assert_eq!(rt; desk.complained(), b"two".as_slice());
+}
+
+// Fetches these bytes under a name, with this limit.
+fn check_held(
+    rt: &impl Abort,
+    alloc: Global,
+    desk: &mut impl Desk,
+    (name, most): (&str, u64),
+    bytes: &[u8],
+) -> Result<(), FetchError> {
+    let held = desk.fetch(alloc, name, most)?;
+    assert_eq!(rt; held.as_slice(), bytes, "{name}");
+    Ok(())
+}
+
+// Fetches these names with these limits, each with this error.
+fn check_fetches(
+    rt: &impl Abort,
+    alloc: Global,
+    desk: &mut impl Desk,
+    fetches: &[(&str, u64, Option<FetchError>)],
+) {
+    for (name, most, error) in fetches {
+        assert_eq!(rt;
+            desk.fetch(alloc, name, *most).err(),
+            *error,
+            "{name} {most}"
+        );
+    }
+}
+
+#[test]
+fn memory_desk_fails_the_listed_calls_and_absent_names(rt: HostRuntime) -> Result<(), Fail> {
+    let alloc = rt.alloc();
+    let mut desk = MemoryDesk::new(vec![in alloc; 1, 4, 6]?);
+    desk.place("a", b"old")?;
+    make_calls(&rt, &mut desk, alloc);
+    check_calls(&rt, desk.calls());
+    assert_eq!(rt; desk.faults(), 4);
+    check_views(&rt, &desk);
+    check_held(&rt, alloc, &mut desk, ("b", 3), b"new")?;
+    check_fetches(
+        &rt,
+        alloc,
+        &mut desk,
+        &[("b", 2, Some(FetchError::TooLong(3)))],
+    );
+    Ok(())
+}
+
+// An empty folder for a test.
+fn empty_folder(rt: &HostRuntime, name: &str) -> io::Result<()> {
+    let _ = fs::remove_dir_all(rt, name);
+    fs::create_dir(rt, name)
+}
+
+// How many names a folder has.
+fn check_count(
+    rt: &(impl Files + AllocGlobal + Abort + Clone),
+    folder: &str,
+    count: usize,
+) -> io::Result<()> {
+    assert_eq!(rt; fs::read_dir(rt, folder)?.count(), count, "{folder}");
+    Ok(())
+}
+
+// Puts these bytes under these names, each with this end.
+fn check_puts(
+    rt: &impl Abort,
+    desk: &mut impl Desk,
+    puts: &[(&str, &[u8], Result<(), DeskError>)],
+) {
+    for (name, bytes, done) in puts {
+        assert_eq!(rt; desk.put(name, bytes), *done, "{name}");
+    }
+}
+
+// Says and complains.
+fn check_said(rt: &impl Abort, desk: &mut impl Desk) {
+    assert_eq!(rt; desk.say(b"said\n"), Ok(()));
+    assert_eq!(rt; desk.complain(b"complained\n"), Ok(()));
+    assert_eq!(rt; desk.complain(b"\xff"), Err(DeskError::Failed));
+}
+
+#[test]
+fn file_desk_on_real_files(rt: HostRuntime) -> Result<(), Fail> {
+    let alloc = rt.alloc();
+    empty_folder(&rt, "desk_test")?;
+    let mut desk = FileDesk::new(&rt);
+    let puts = [
+        ("desk_test/a", b"longer".as_slice(), Ok(())),
+        ("desk_test/a", b"\xffabc".as_slice(), Ok(())),
+        ("desk_test", b"abc".as_slice(), Err(DeskError::Failed)),
+        (
+            "desk_test/absent/a",
+            b"abc".as_slice(),
+            Err(DeskError::Failed),
+        ),
+    ];
+    check_puts(&rt, &mut desk, &puts);
+    check_held(&rt, alloc, &mut desk, ("desk_test/a", u64::MAX), b"\xffabc")?;
+    let fetches = [
+        ("desk_test/a", 4, None),
+        ("desk_test/a", 3, Some(FetchError::TooLong(4))),
+        ("desk_test/a", 0, Some(FetchError::TooLong(1))),
+        ("desk_test/absent", 4, Some(FetchError::Failed)),
+        ("desk_test", 4, Some(FetchError::Failed)),
+        ("desk_test/absent/a", 4, Some(FetchError::Failed)),
+    ];
+    check_fetches(&rt, alloc, &mut desk, &fetches);
+    check_count(&rt, "desk_test", 1)?;
+    fs::remove_dir_all(&rt, "desk_test")?;
+    check_said(&rt, &mut desk);
+    Ok(())
+}
+
+// A folder with two files, one of which only its owner reads, and with links to both and to nothing.
+fn make_whole_test(rt: &HostRuntime) -> io::Result<()> {
+    empty_folder(rt, "whole_test")?;
+    for name in ["whole_test/fetched", "whole_test/held"] {
+        fs::write(rt, name, "old")?;
+    }
+    fs::set_permissions(rt, "whole_test/held", Permissions::from_mode(0o600))?;
+    symlink(rt, "fetched", "whole_test/to_fetched")?;
+    fs::hard_link(rt, "whole_test/fetched", "whole_test/same_file")?;
+    symlink(rt, "held", "whole_test/to_held")?;
+    symlink(rt, "absent", "whole_test/to_nothing")
+}
+
+// Puts new bytes under a name, which ends so and leaves this text there.
+fn check_put(
+    rt: &(impl Files + AllocGlobal + Abort),
+    desk: &mut impl Desk,
+    name: &str,
+    done: Result<(), DeskError>,
+    left: Option<&str>,
+) {
+    assert_eq!(rt; desk.put(name, b"new bytes"), done, "{name}");
+    let held = fs::read_to_string(rt, name).ok();
+    assert_eq!(rt; held.as_deref(), left, "{name}");
+}
+
+// What is held under a link has new bytes and its old permissions, and no other file came but the one that was made.
+fn check_left(rt: &(impl Files + AllocGlobal + Abort + Clone)) -> io::Result<()> {
+    let held = fs::symlink_metadata(rt, "whole_test/held")?;
+    assert_eq!(rt; (held.len(), held.permissions().mode() & 0o777), (9, 0o600));
+    assert!(rt; fs::symlink_metadata(rt, "whole_test/to_held")?.is_symlink());
+    check_count(rt, "whole_test", 7)
+}
+
+#[test]
+fn file_desk_puts_whole_files(rt: HostRuntime) -> Result<(), Fail> {
+    make_whole_test(&rt)?;
+    let own_name = fs::read_to_string(&rt, "/proc/self/comm")?;
+    let mut desk = FileDesk::new(&rt);
+    let _ = desk.fetch(rt.alloc(), "whole_test/fetched", 3)?;
+    for name in [
+        "whole_test/fetched",
+        "./whole_test/fetched",
+        "whole_test/to_fetched",
+        "whole_test/same_file",
+    ] {
+        check_put(&rt, &mut desk, name, Err(DeskError::Failed), Some("old"));
+    }
+    // A link to nothing; and a new file that is written and can't take the name.
+    for name in ["whole_test/to_nothing", "whole_test/no_folder/"] {
+        check_put(&rt, &mut desk, name, Err(DeskError::Failed), None);
+    }
+    // A file that is there in a folder that takes no new one.
+    check_put(
+        &rt,
+        &mut desk,
+        "/proc/self/comm",
+        Err(DeskError::Failed),
+        Some(own_name.as_str()),
+    );
+    for name in ["whole_test/to_held", "whole_test/made"] {
+        check_put(&rt, &mut desk, name, Ok(()), Some("new bytes"));
+    }
+    check_left(&rt)?;
+    fs::remove_dir_all(&rt, "whole_test")?;
+    Ok(())
+}
+
+// Reads what was put into a pipe.
+fn check_piped(rt: &impl Abort, reader: &mut impl Read) -> io::Result<()> {
+    let mut got = [0u8; 8];
+    assert_eq!(rt; reader.read(&mut got)?, 5);
+    assert_eq!(rt; &got[..5], b"piped".as_slice());
+    Ok(())
+}
+
+#[test]
+fn file_desk_writes_a_pipe_as_it_is(rt: HostRuntime) -> Result<(), Fail> {
+    let (mut reader, writer) = io::pipe(&rt)?;
+    let name = format!(in rt.alloc(); "/proc/self/fd/{}", writer.as_raw_fd())?;
+    let mut desk = FileDesk::new(&rt);
+    assert_eq!(rt; desk.put(&name, b"piped"), Ok(()));
+    check_piped(&rt, &mut reader)?;
+    assert_eq!(rt; desk.put("/dev/null", b"gone"), Ok(()));
+    assert!(rt; !fs::metadata(&rt, "/dev/null")?.is_file());
+    Ok(())
+}
