@@ -224,6 +224,8 @@ fn is_same_outcome(outcome: &Outcome, other: &Outcome) -> bool {
 }
 
 fn has_same_outcome(book: &Book, other: &Book) -> Result<bool, Fail> {
+    // A function that holds outcomes has to name all types in them.
+    let _state: Option<OutcomeState> = None;
     Ok(is_same_outcome(&outcome(book)?, &outcome(other)?))
 }
 
