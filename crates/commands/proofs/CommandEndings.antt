@@ -1,5 +1,6 @@
 -- How commands end, from how their parts do.
 use Rattle.std.proofs.Common.{◌≡◌, List, [], ◌∷◌, ℕ, Bool, true, false, length, inl, inr, subst, sym, ap, ◌∙◌, refl, Result, Ok, Err}
+use Rattle.std.specs.Borrow.{Bor}
 use Rattle.std.specs.Prelude.{Option}
 use Rattle.desk_outside.specs.Desk.{View, IsLonger, after_step}
 use Rattle.link_lanes.specs.Lanes.{Meaning}
@@ -48,6 +49,17 @@ run_ends cupboard names v u w texts outcome plan readings p r transcript report 
     subst (λ u. PutsEnd (put_by names texts) texts.summary u w outcome) after by_summary
     in
     inr (plan, readings, plan_read, readings_read, inr (texts, made_here, is_only cupboard plan readings texts made_here, here))
+
+-- the readings file of a run is refused
+pub run_refuses_readings : (cupboard : List Meaning) (names : RunNames) (v w : View) (name : Bor (List ℕ)) (fault got : FileError) (why : Refusal) (plan readings p r : List ℕ)
+    → IsRead (v.held names.plan) plan → IsRead (v.held names.readings) readings → w ≡ after_fetches (fetched_by names) v → p ≡ plan → r ≡ readings
+    → name.now ≡ names.readings → why ≡ refusal.Readings fault → TextsEnd cupboard p r (Err why) → got ≡ fault → RunEnds cupboard names v w (BadReadings name got)
+run_refuses_readings cupboard names v w name fault got why plan readings p r plan_read readings_read after plan_is readings_is name_is why_is ends same =
+    let refuses : RefusesReadings cupboard p r fault = subst (λ why. TextsEnd cupboard p r (Err why)) why_is ends in
+    let here : RefusesReadings cupboard plan readings fault =
+    subst (λ bytes. RefusesReadings cupboard plan bytes fault) readings_is (subst (λ bytes. RefusesReadings cupboard bytes r fault) plan_is refuses)
+    in
+    inr (plan, readings, plan_read, readings_read, inl ((name_is, subst (RefusesReadings cupboard plan readings) (sym same) here), after))
 
 -- the transcript of an old text is put
 pub convert_ends : (old transcript : List ℕ) (v u w : View) (t : TranscriptView) (outcome : Outcome) (bytes given text line : List ℕ) (lines : ℕ)

@@ -11,6 +11,7 @@ use crate::source::Source;
 use crate::words::ConvertFiles;
 use desk_outside::Desk;
 use std::alloc::{AllocError, Global};
+use std::thread::Threads;
 use transcript_text::{ReadError, read_old};
 
 // The line that says how many entries the transcript has.
@@ -22,7 +23,12 @@ fn converted_line(alloc: Global, lines: usize) -> Result<String, AllocError>
 }
 
 /// Fetches a transcript of version 1 and puts the same transcript in version 2.
-pub fn convert<'a, D: Desk>(alloc: Global, files: ConvertFiles<'a>, desk: &mut D) -> Outcome<'a>
+pub fn convert<'a, R: Threads + Sync, D: Desk>(
+    rt: &R,
+    alloc: Global,
+    files: ConvertFiles<'a>,
+    desk: &mut D,
+) -> Outcome<'a>
     ensures ends { ConvertEnds files.entry.old.now files.entry.transcript.now (D.view desk.old) (D.view desk.new) result }
     ensures later { D.faults desk.old ≤ D.faults desk.new }
     ensures cause { IsFault result → Rose (D.faults desk.old) (D.faults desk.new) }
@@ -43,5 +49,5 @@ pub fn convert<'a, D: Desk>(alloc: Global, files: ConvertFiles<'a>, desk: &mut D
         name: files.transcript,
         source: Source::Transcript(&transcript),
     };
-    put_one(file, line.as_bytes(), desk)
+    put_one(rt, alloc, file, line.as_bytes(), desk)
 }

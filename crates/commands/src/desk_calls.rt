@@ -10,6 +10,7 @@ use crate::outcome::Outcome;
 use crate::source::{Source, TranscriptPieces};
 use desk_outside::{Desk, DeskError, FetchError};
 use std::alloc::Global;
+use std::thread::Threads;
 use transcript_text::TextPieces;
 
 /// The most bytes that a file may have.
@@ -79,7 +80,12 @@ pub struct NewFile<'a, 'b> {
 }
 
 /// Puts a file.
-fn put<D: Desk>(file: NewFile<'_, '_>, desk: &mut D) -> Result<(), DeskError>
+fn put<R: Threads + Sync, D: Desk>(
+    rt: &R,
+    alloc: Global,
+    file: NewFile<'_, '_>,
+    desk: &mut D,
+) -> Result<(), DeskError>
     ensures ends { PutEnds file.entry.name.now (source_bytes file.entry.source) (D.view desk.old) (D.view desk.new) result }
     ensures later { D.faults desk.old ≤ D.faults desk.new }
     ensures cause { IsErrOf result DeskError.Failed → Rose (D.faults desk.old) (D.faults desk.new) }
@@ -88,7 +94,7 @@ fn put<D: Desk>(file: NewFile<'_, '_>, desk: &mut D) -> Result<(), DeskError>
         Source::Bytes(bytes) => desk.put(file.name, bytes),
         Source::Transcript(transcript) => {
             let mut pieces = TranscriptPieces {
-                text: TextPieces::new(transcript),
+                text: TextPieces::new(rt, alloc, transcript),
             };
             desk.put_pieces(file.name, &mut pieces)
         }
@@ -96,12 +102,18 @@ fn put<D: Desk>(file: NewFile<'_, '_>, desk: &mut D) -> Result<(), DeskError>
 }
 
 /// Puts a file and then says a line.
-pub fn put_one<'a, D: Desk>(file: NewFile<'a, '_>, line: &[u8], desk: &mut D) -> Outcome<'a>
+pub fn put_one<'a, R: Threads + Sync, D: Desk>(
+    rt: &R,
+    alloc: Global,
+    file: NewFile<'a, '_>,
+    line: &[u8],
+    desk: &mut D,
+) -> Outcome<'a>
     ensures ends { PutsEnd (putting file.entry.name.now (source_bytes file.entry.source) ∷ []) line.now (D.view desk.old) (D.view desk.new) result }
     ensures later { D.faults desk.old ≤ D.faults desk.new }
     ensures cause { IsFault result → Rose (D.faults desk.old) (D.faults desk.new) }
 {
-    match put(file, desk) {
+    match put(rt, alloc, file, desk) {
         Ok(()) => {}
         Err(DeskError::Failed) => return Outcome::CannotWrite(file.name),
         Err(DeskError::Memory) => return Outcome::NoMemory,
@@ -114,7 +126,9 @@ pub fn put_one<'a, D: Desk>(file: NewFile<'a, '_>, line: &[u8], desk: &mut D) ->
 }
 
 /// Puts two files, one after the other, and then says a line.
-pub fn put_two<'a, D: Desk>(
+pub fn put_two<'a, R: Threads + Sync, D: Desk>(
+    rt: &R,
+    alloc: Global,
     first: NewFile<'a, '_>,
     second: NewFile<'a, '_>,
     line: &[u8],
@@ -124,12 +138,12 @@ pub fn put_two<'a, D: Desk>(
     ensures later { D.faults desk.old ≤ D.faults desk.new }
     ensures cause { IsFault result → Rose (D.faults desk.old) (D.faults desk.new) }
 {
-    match put(first, desk) {
+    match put(rt, alloc, first, desk) {
         Ok(()) => {}
         Err(DeskError::Failed) => return Outcome::CannotWrite(first.name),
         Err(DeskError::Memory) => return Outcome::NoMemory,
     }
-    match put(second, desk) {
+    match put(rt, alloc, second, desk) {
         Ok(()) => {}
         Err(DeskError::Failed) => return Outcome::CannotWrite(second.name),
         Err(DeskError::Memory) => return Outcome::NoMemory,

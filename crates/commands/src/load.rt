@@ -15,7 +15,7 @@ use crate::words::LoadWords;
 use collector_workers::Gate;
 use desk_outside::Desk;
 use link_lanes::Lane;
-use load_maker::{MakeError, make};
+use load_maker::{Made, MakeError, make};
 use std::alloc::Global;
 use std::sync::Wait;
 use std::thread::Threads;
@@ -37,20 +37,18 @@ pub fn load<'a, R: Threads + Wait + Sync, D: Desk, G: Gate>(
     ensures cause { IsFault result → Rose (D.faults desk.old) (D.faults desk.new) }
 {
     let size = words.size;
-    let made = match make(alloc, size.seed, size.groups, size.meters, size.rounds) {
+    let Made { plan, readings } = match make(
+        alloc,
+        size.seed,
+        size.groups,
+        size.meters,
+        size.rounds,
+    ) {
         Ok(made) => made,
         Err(MakeError::Memory) => return Outcome::NoMemory,
         Err(MakeError::Range) => unreachable!(),
     };
-    let texts = match run_texts(
-        rt,
-        alloc,
-        &made.plan,
-        &made.readings,
-        cupboard,
-        words.workers,
-        gate,
-    ) {
+    let texts = match run_texts(rt, alloc, plan, readings, cupboard, words.workers, gate) {
         Ok(texts) => texts,
         Err(Refusal::Lane(fault)) => return Outcome::BadLane(fault),
         Err(Refusal::Memory) => return Outcome::NoMemory,
@@ -64,7 +62,7 @@ pub fn load<'a, R: Threads + Wait + Sync, D: Desk, G: Gate>(
                 name,
                 source: Source::Transcript(&texts.transcript),
             };
-            put_one(transcript, texts.summary.as_slice(), desk)
+            put_one(rt, alloc, transcript, texts.summary.as_slice(), desk)
         }
     }
 }

@@ -14,6 +14,7 @@ use crate::words::MakeWords;
 use desk_outside::Desk;
 use load_maker::{MakeError, make as make_files};
 use std::alloc::{AllocError, Global};
+use std::thread::Threads;
 
 // The line that says how many readings there are, present or not.
 #[tactic(auto, unfolding(crate::specs::Ends::made_line))]
@@ -24,7 +25,12 @@ fn made_line(alloc: Global, readings: u64) -> Result<String, AllocError>
 }
 
 /// Makes the two files of a size, puts the plan and then the readings, and says how many readings there are.
-pub fn make<'a, D: Desk>(alloc: Global, words: MakeWords<'a>, desk: &mut D) -> Outcome<'a>
+pub fn make<'a, R: Threads + Sync, D: Desk>(
+    rt: &R,
+    alloc: Global,
+    words: MakeWords<'a>,
+    desk: &mut D,
+) -> Outcome<'a>
     requires { IsTrue (is_within words.size.groups words.size.meters words.size.rounds) }
     ensures ends { MakeEnds (size_in words.entry.size) words.entry.plan.now words.entry.readings.now (D.view desk.old) (D.view desk.new) result }
     ensures later { D.faults desk.old ≤ D.faults desk.new }
@@ -47,5 +53,5 @@ pub fn make<'a, D: Desk>(alloc: Global, words: MakeWords<'a>, desk: &mut D) -> O
         name: words.readings,
         source: Source::Bytes(made.readings.as_slice()),
     };
-    put_two(plan, readings, line.as_bytes(), desk)
+    put_two(rt, alloc, plan, readings, line.as_bytes(), desk)
 }

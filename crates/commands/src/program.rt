@@ -45,10 +45,10 @@ fn perform<'a, R: Threads + Wait + Sync, D: Desk, G: Gate>(
         None => Outcome::BadWords,
         Some(Command::Run(words)) => run(rt, alloc, words, desk, cupboard, gate),
         Some(Command::Audit(files)) => audit(alloc, files, desk),
-        Some(Command::Twin(files)) => twin(alloc, files, desk),
-        Some(Command::Make(words)) => make(alloc, words, desk),
+        Some(Command::Twin(files)) => twin(rt, alloc, files, desk),
+        Some(Command::Make(words)) => make(rt, alloc, words, desk),
         Some(Command::Load(words)) => load(rt, alloc, words, desk, cupboard, gate),
-        Some(Command::Convert(files)) => convert(alloc, files, desk),
+        Some(Command::Convert(files)) => convert(rt, alloc, files, desk),
         Some(Command::Help) => say(USAGE.as_bytes(), desk),
         Some(Command::Version) => say(VERSION.as_bytes(), desk),
     }

@@ -38,7 +38,7 @@ pub fn run<'a, R: Threads + Wait + Sync, D: Desk, G: Gate>(
         Ok(bytes) => bytes,
         Err(outcome) => return outcome,
     };
-    match run_texts(rt, alloc, &plan, &readings, cupboard, words.workers, gate) {
+    match run_texts(rt, alloc, plan, readings, cupboard, words.workers, gate) {
         Ok(texts) => {
             let transcript = NewFile {
                 name: files.transcript,
@@ -48,7 +48,14 @@ pub fn run<'a, R: Threads + Wait + Sync, D: Desk, G: Gate>(
                 name: files.report,
                 source: Source::Bytes(texts.report.as_slice()),
             };
-            put_two(transcript, report, texts.summary.as_slice(), desk)
+            put_two(
+                rt,
+                alloc,
+                transcript,
+                report,
+                texts.summary.as_slice(),
+                desk,
+            )
         }
         Err(Refusal::Plan(fault)) => Outcome::BadPlan(files.plan, fault),
         Err(Refusal::Lane(fault)) => Outcome::BadLane(fault),

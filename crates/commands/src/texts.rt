@@ -50,29 +50,30 @@ fn finished_texts(alloc: Global, finished: Finished) -> Result<RunTexts, AllocEr
     })
 }
 
-/// The texts of a run of the values of the two files.
+/// The texts of a run of the values of the two files. Their bytes are let go once they are read.
 pub fn run_texts<R: Threads + Wait + Sync, G: Gate>(
     rt: &R,
     alloc: Global,
-    plan_bytes: &[u8],
-    readings_bytes: &[u8],
+    plan_bytes: Vec<u8>,
+    readings_bytes: Vec<u8>,
     cupboard: Vec<Box<dyn Lane>>,
     workers: u32,
     gate: &G,
 ) -> Result<RunTexts, Refusal>
-    requires plan { length plan_bytes.now ≤ 2 ^ 28 }
-    requires readings { length readings_bytes.now ≤ 2 ^ 28 }
+    requires plan { length plan_bytes.items ≤ 2 ^ 28 }
+    requires readings { length readings_bytes.items ≤ 2 ^ 28 }
     requires least { 1 ≤ workers }
     requires most { workers ≤ 16 }
-    ensures { TextsEnd (map (λ b. meaning b) cupboard.items) plan_bytes.now readings_bytes.now result }
+    ensures { TextsEnd (map (λ b. meaning b) cupboard.items) plan_bytes.items readings_bytes.items result }
 {
-    let file = match read_plan(alloc, plan_bytes) {
+    let file = match read_plan(alloc, &plan_bytes) {
         Ok(file) => file,
         Err(fault) => match fault.cause {
             FileCause::Memory => return Err(Refusal::Memory),
             _ => return Err(Refusal::Plan(fault)),
         },
     };
+    drop(plan_bytes);
     let mut rack = match Rack::fit(alloc, cupboard, file.lanes.as_slice()) {
         Ok(rack) => rack,
         Err(fault) => match fault.cause {
@@ -80,13 +81,14 @@ pub fn run_texts<R: Threads + Wait + Sync, G: Gate>(
             _ => return Err(Refusal::Lane(fault)),
         },
     };
-    let readings = match read_readings(alloc, &file.plan, readings_bytes) {
+    let readings = match read_readings(alloc, &file.plan, &readings_bytes) {
         Ok(readings) => readings,
         Err(fault) => match fault.cause {
             FileCause::Memory => return Err(Refusal::Memory),
             _ => return Err(Refusal::Readings(fault)),
         },
     };
+    drop(readings_bytes);
     let finished = match run_plan(
         rt, alloc, &file.plan, &readings, &file.keys, &mut rack, workers, gate,
     ) {

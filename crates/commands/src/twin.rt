@@ -17,6 +17,7 @@ use desk_outside::Desk;
 use ideal_masks::Differ;
 use plan_files::{FileCause, read_plan, read_readings};
 use std::alloc::{AllocError, Global};
+use std::thread::Threads;
 use transcript_log::Entry;
 use twin_worlds::{MovedWords, TwinError, moved_text, twin as twin_words};
 
@@ -134,7 +135,12 @@ fn moved_line(alloc: Global, rows: usize) -> Result<String, AllocError>
 
 /// Fetches a plan, two tables of readings and a transcript, and puts the mask words that move so that the second table
 /// gives the transcript of the first.
-pub fn twin<'a, D: Desk>(alloc: Global, files: TwinFiles<'a>, desk: &mut D) -> Outcome<'a>
+pub fn twin<'a, R: Threads + Sync, D: Desk>(
+    rt: &R,
+    alloc: Global,
+    files: TwinFiles<'a>,
+    desk: &mut D,
+) -> Outcome<'a>
     ensures ends { TwinCommandEnds (twin_names_of files.entry) (D.view desk.old) (D.view desk.new) result }
     ensures later { D.faults desk.old ≤ D.faults desk.new }
     ensures cause { IsFault result → Rose (D.faults desk.old) (D.faults desk.new) }
@@ -167,5 +173,5 @@ pub fn twin<'a, D: Desk>(alloc: Global, files: TwinFiles<'a>, desk: &mut D) -> O
         name: files.masks,
         source: Source::Bytes(text.as_slice()),
     };
-    put_one(file, line.as_bytes(), desk)
+    put_one(rt, alloc, file, line.as_bytes(), desk)
 }

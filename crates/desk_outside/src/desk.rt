@@ -112,6 +112,7 @@ pub trait Desk {
     /// Puts the bytes that are still to come under the name, in place of what it held, and has few of them in memory at a
     /// time. A put that was not done leaves of the pieces nothing that is known.
     fn put_pieces<P: Pieces>(&mut self, name: &str, pieces: &mut P) -> Result<(), DeskError>
+        requires { P.ready pieces.old }
         ensures ends { PutEnds name.now (P.rest pieces.old) (view self.old) (view self.new) result }
         ensures later { faults self.old ≤ faults self.new }
         ensures cause { IsErrOf result DeskError.Failed

@@ -79,7 +79,9 @@ impl<'r, R: Files + Print + Eprint + AllocGlobal> FileDesk<'r, R> {
         mut found: R::File,
         name: &str,
         pieces: &mut P,
-    ) -> Result<(), DeskError> {
+    ) -> Result<(), DeskError>
+        requires { P.ready pieces.old }
+    {
         let metadata = found.metadata().map_err(put_error)?;
         let file = FileId::of(&metadata);
         if metadata.is_file() && self.fetched.contains(&file) {
@@ -98,7 +100,9 @@ impl<'r, R: Files + Print + Eprint + AllocGlobal> FileDesk<'r, R> {
     }
 
     // Puts the pieces under a name that leads nowhere.
-    fn put_new<P: Pieces>(&self, name: &str, pieces: &mut P) -> Result<(), DeskError> {
+    fn put_new<P: Pieces>(&self, name: &str, pieces: &mut P) -> Result<(), DeskError>
+        requires { P.ready pieces.old }
+    {
         if fs::symlink_metadata(self.rt, name).is_ok() {
             return Err(DeskError::Failed);
         }
@@ -106,7 +110,9 @@ impl<'r, R: Files + Print + Eprint + AllocGlobal> FileDesk<'r, R> {
     }
 
     // Puts the pieces and counts nothing.
-    fn put_uncounted<P: Pieces>(&self, name: &str, pieces: &mut P) -> Result<(), DeskError> {
+    fn put_uncounted<P: Pieces>(&self, name: &str, pieces: &mut P) -> Result<(), DeskError>
+        requires { P.ready pieces.old }
+    {
         match OpenOptions::new().write(true).open(self.rt, name) {
             Ok(found) => self.put_over(found, name, pieces),
             Err(error) if error.kind() == ErrorKind::NotFound => self.put_new(name, pieces),
@@ -162,6 +168,7 @@ impl<'r, R: Files + Print + Eprint + AllocGlobal> Desk for FileDesk<'r, R> {
     }
 
     fn put_pieces<P: Pieces>(&mut self, name: &str, pieces: &mut P) -> Result<(), DeskError>
+        requires { P.ready pieces.old }
         ensures ends { PutEnds name.now (P.rest pieces.old) untold untold result }
         ensures later { faults_of self.old ≤ faults_of self.new }
         ensures cause { IsErrOf result DeskError.Failed

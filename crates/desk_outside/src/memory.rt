@@ -228,6 +228,7 @@ impl Desk for MemoryDesk {
     }
 
     fn put_pieces<P: Pieces>(&mut self, name: &str, pieces: &mut P) -> Result<(), DeskError>
+        requires { P.ready pieces.old }
         ensures ends { PutEnds name.now (P.rest pieces.old) (view_of self.old) (view_of self.new) result }
         ensures later { faults_of self.old ≤ faults_of self.new }
         ensures cause { IsErrOf result DeskError.Failed

@@ -1,6 +1,6 @@
 //! Bytes that are made a piece at a time.
 
-ghost use Rattle.std.specs.Prelude.{◌≡◌, ◌++◌, ℕ, List, [], OnOk, IfOk};
+ghost use Rattle.std.specs.Prelude.{◌≡◌, ◌++◌, ℕ, List, [], OnOk, IfOk, ⊤};
 ghost use Rattle.std.specs.Io.KnownBytes.{Appends};
 
 use std::alloc::{AllocError, Global};
@@ -12,9 +12,14 @@ pub trait Pieces {
     /// The bytes that are still to come.
     ghost rest: { Self → List ℕ };
 
+    /// What has to hold so that the next piece can be made.
+    ghost ready: { Self → Type 0 };
+
     /// Puts the next bytes in place of what the piece held. It is empty only where none are left. After an error nothing
     /// is known of the bytes that are still to come.
     fn next(&mut self, piece: &mut Vec<u8>) -> Result<(), AllocError>
+        requires { ready self.old }
+        ensures ready { ready self.new }
         ensures next { OnOk result (rest self.old ≡ piece.new.items ++ rest self.new) }
         ensures end { OnOk result (piece.new.items ≡ [] → rest self.new ≡ []) };
 }
@@ -30,6 +35,8 @@ pub(crate) struct Slice<'a> {
 
 impl Pieces for Slice<'_> {
     ghost rest = { λ s. s.rest.now };
+
+    ghost ready = { λ s. ⊤ };
 
     #[tactic(auto, using(crate::proofs::Written::none_left))]
     fn next(&mut self, piece: &mut Vec<u8>) -> Result<(), AllocError> {
@@ -47,6 +54,7 @@ pub(crate) fn write_pieces<W: Write, P: Pieces>(
     out: &mut W,
     pieces: &mut P,
 ) -> io::Result<()>
+    requires { P.ready pieces.old }
     ensures { OnOk result (Appends (W.contents out.old) (W.contents out.new) (P.rest pieces.old)) }
 {
     let mut piece = Vec::new(alloc);
@@ -61,6 +69,7 @@ pub(crate) fn write_pieces<W: Write, P: Pieces>(
 
 /// All the bytes that are still to come.
 pub(crate) fn collected<P: Pieces>(alloc: Global, pieces: &mut P) -> Result<Vec<u8>, AllocError>
+    requires { P.ready pieces.old }
     ensures { IfOk result (λ bytes. bytes.items ≡ P.rest pieces.old) }
 {
     let mut bytes = Vec::new(alloc);

@@ -57,7 +57,9 @@ fn fill<F: Write + OpenFile + Drop, P: Pieces>(
     mut file: F,
     permissions: Option<Permissions>,
     pieces: &mut P,
-) -> io::Result<()> {
+) -> io::Result<()>
+    requires { P.ready pieces.old }
+{
     if let Some(permissions) = permissions {
         file.set_permissions(permissions)?;
     }
@@ -73,7 +75,9 @@ pub(crate) fn replace<R: Files, P: Pieces>(
     path: Path<'_>,
     permissions: Option<Permissions>,
     pieces: &mut P,
-) -> io::Result<()> {
+) -> io::Result<()>
+    requires { P.ready pieces.old }
+{
     let mode = if permissions.is_some() { 0o600 } else { 0o666 };
     let (file, beside) = create_beside(rt, alloc, path, mode)?;
     let renamed = match fill(alloc, file, permissions, pieces) {

@@ -152,15 +152,8 @@ answers-own groups m came g r =
     (fun_ext (λ i. ap (λ set. answer_frame m g r set i) (set-filter (is_announcement_to g) (tag_of Announcement g r i) (to_own g r i) came)))
     ∙ ap (λ f. map (answer_to m came g r) (filter f (members groups g r))) (fun_ext (λ i. taken-filter (is_announcement_to g) (tag_of Announcement g r i) (to_own g r i) came))
 
--- each of which can be answered
-pub can-own : (plan : PlanView) (t : ℕ) (came : List Frame) (g r i : ℕ) → AreAnswerable plan t came → was_taken (tags_of (filter (λ f. is_announcement_to g f.tag) came)) (tag_of Announcement g r i) ≡ true
-    → CanAnswer plan g r i (announced_set (filter (λ f. is_announcement_to g f.tag) came) (tag_of Announcement g r i))
-can-own plan t came g r i can told =
-    subst (CanAnswer plan g r i) (sym (set-filter (is_announcement_to g) (tag_of Announcement g r i) (to_own g r i) came))
-    (can.can g r i (sym (taken-filter (is_announcement_to g) (tag_of Announcement g r i) (to_own g r i) came) ∙ told))
-
 -- no one heard in these rounds
-answers-silent : (groups : List Group) (m : Masks) (came : List Frame) (g r : ℕ) → ((i : ℕ) → was_taken (tags_of came) (tag_of Announcement g r i) ≡ true → ⊥) → answers_to groups m came g r ≡ []
+pub answers-silent : (groups : List Group) (m : Masks) (came : List Frame) (g r : ℕ) → ((i : ℕ) → was_taken (tags_of came) (tag_of Announcement g r i) ≡ true → ⊥) → answers_to groups m came g r ≡ []
 answers-silent groups m came g r none =
     ap (λ f. map (answer_to m came g r) (filter f (members groups g r))) (fun_ext (λ i. false_from_ne_true (was_taken (tags_of came) (tag_of Announcement g r i)) (none i)))
     ∙ ap (map (answer_to m came g r)) (off (members groups g r))
@@ -171,10 +164,9 @@ answers-silent groups m came g r none =
 
 -- the window of the rounds that may answer
 pub answers-window : (plan : PlanView) (m : Masks) (came : List Frame) (t g first until : ℕ) → AreAnswerable plan t came → until ≡ min (t - plan.w1) plan.rounds → first ≡ min (t - plan.w1 - 16) until
-    → flat_map (answers_to plan.groups m (filter (λ f. is_announcement_to g f.tag) came) g) (range_with_len first (until - first)) ≡ flat_map (answers_to plan.groups m came g) (range_with_len 0 plan.rounds)
+    → flat_map (answers_to plan.groups m came g) (range_with_len first (until - first)) ≡ flat_map (answers_to plan.groups m came g) (range_with_len 0 plan.rounds)
 answers-window plan m came t g first until can ends starts =
-    ap (λ f. flat_map f (range_with_len first (until - first))) (fun_ext (λ r. answers-own plan.groups m came g r))
-    ∙ flat_window (answers_to plan.groups m came g) first until plan.rounds (omega arith) (omega arith)
+    flat_window (answers_to plan.groups m came g) first until plan.rounds (omega arith) (omega arith)
     (λ r r_in outside. answers-silent plan.groups m came g r (λ i told.
     let early : r + plan.w1 < t = can.early g r i told in
     let late : t ≤ r + plan.w1 + 16 = can.late g r i told in

@@ -17,6 +17,7 @@ pub mod PostedLemmas
 pub mod GroupLemmas
 pub mod HearerLemmas
 pub mod CameLemmas
+pub mod ByGroupLemmas
 pub mod SendingLemmas
 pub mod SendingLoop
 pub mod ParcelLemmas

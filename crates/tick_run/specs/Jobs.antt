@@ -11,16 +11,18 @@ use Rattle.transcript_log.specs.Schedule.{members_of}
 use Rattle.group_book.specs.Books.{BookView, shape_of, past}
 use Rattle.tick_run.specs.declared.group.GroupFrames.{GroupFrames}
 use Rattle.tick_run.specs.declared.known.Known.{Known}
+use Rattle.tick_run.specs.ByGroup.{row_of}
 use Rattle.tick_run.specs.Hidden.{IsOfOnePlan}
 use Rattle.tick_run.specs.Running.{run_shape}
 use Rattle.tick_run.specs.TickFrames.{reading_frame, announcements_at, answers_to, AreAnswerable}
 
--- what the meters have is of one plan, the group is one of the plan's, and what came can be answered
-pub record CanSend (known : Known) (came : List Frame) (t g : ℕ) : Type 0 where
+-- what the meters have is of one plan, the group is one of the plan's and has its list, and what came to it can be answered
+pub record CanSend (known : Known) (rows : List (Vec Frame Global)) (t g : ℕ) : Type 0 where
   pub are : IsOfOnePlan known
   pub group : g < length known.readings.now.plan.groups
   pub few : g < 256
-  pub can : AreAnswerable known.readings.now.plan t came
+  pub row : g < length rows
+  pub can : AreAnswerable known.readings.now.plan t (row_of rows g)
 
 -- the readings of group g at tick t
 abbrev pub readings_at : ReadingsView → Masks → ℕ → ℕ → List Frame

@@ -3,6 +3,7 @@ pub mod OnTheWay
 pub mod TickFrames
 pub mod Finished
 pub mod Running
+pub mod ByGroup
 pub mod Jobs
 pub mod Sending
 pub mod Batches

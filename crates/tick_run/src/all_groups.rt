@@ -4,9 +4,11 @@ ghost use Rattle.std.specs.Prelude.{◌≡◌, ◌<◌, length, IfOk};
 ghost use Rattle.std.specs.List.{AllZip, range_with_len};
 ghost use Rattle.mask_stream.specs.ChaMaskTables.{words_of};
 ghost use Rattle.tick_run.specs.Hidden.{IsOfOnePlan};
+ghost use Rattle.tick_run.specs.ByGroup.{row_of};
 ghost use Rattle.tick_run.specs.Jobs.{CanSend, AreGroupFrames};
 ghost use Rattle.tick_run.specs.TickFrames.{AreAnswerable};
 
+use crate::by_group::by_group;
 use crate::group::{GroupFrames, group_frames};
 use crate::known::Known;
 use crate::pieces::items_a_piece;
@@ -38,14 +40,16 @@ pub(crate) fn all_groups(
         (range_with_len 0 (length known.now.readings.now.plan.groups)) groups.items) }
 {
     let groups = known.readings.plan().groups().len();
+    let sorted = by_group(alloc, came, groups)?;
+    let rows = sorted.as_slice();
     (0..groups)
         .into_par_iter()
         .with_min_len(items_a_piece(words_of_answers(came), groups))
         .map(
             |group: usize| -> Result<GroupFrames, AllocError>
-                requires { CanSend known.now came.now tick group }
-                ensures { IfOk result (AreGroupFrames known.entry.now.readings.now (words_of known.entry.now.masks.now) came.entry.now tick group) }
-            { group_frames(alloc, known, came, tick, group as u16) },
+                requires { CanSend known.now rows.now tick group }
+                ensures { IfOk result (AreGroupFrames known.entry.now.readings.now (words_of known.entry.now.masks.now) (row_of rows.entry.now group) tick group) }
+            { group_frames(alloc, known, &rows[group], tick, group as u16) },
         )
         .collect(rt, alloc)
 }

@@ -5,7 +5,7 @@ ghost use Rattle.mask_stream.specs.ChaMaskTables.{words_of};
 ghost use Rattle.group_plan.specs.declared.Kind.TheVariants.{Announcement};
 ghost use Rattle.run_rows.specs.Ticks.{tag_of};
 ghost use Rattle.tick_run.specs.OnTheWay.{tags_of};
-ghost use Rattle.tick_run.specs.TickFrames.{was_taken, announced_set, answers_to, CanAnswer, AreAnswerable, is_announcement_in, is_announcement_to};
+ghost use Rattle.tick_run.specs.TickFrames.{was_taken, announced_set, answers_to, CanAnswer, AreAnswerable, is_announcement_in};
 ghost use Rattle.tick_run.specs.Jobs.{readings_at, answers_at, AreGroupFrames};
 ghost use Rattle.tick_run.specs.Hearers.{HearsToo, AreHearers};
 ghost use Rattle.tick_run.specs.Hidden.{IsOfOnePlan};
@@ -117,26 +117,6 @@ fn add_reading_frames(
     add_readings(known, group, tick, &members, frames)
 }
 
-/// Whether it is an announcement to a meter of this group.
-fn is_to(tag: Tag, group: u16) -> bool
-    ensures { result ≡ is_announcement_to group tag }
-{
-    tag.group == group && tag.kind == Kind::Announcement
-}
-
-/// The announcements to meters of a group among the frames that came.
-fn announcements_to(alloc: Global, came: &[Frame], group: u16) -> Result<Vec<Frame>, AllocError>
-    ensures { IfOk result (λ own. own.items ≡ filter (λ f. is_announcement_to group f.tag) came.now) }
-{
-    let mut own = Vec::new(alloc);
-    for frame in came {
-        if is_to(frame.tag, group) {
-            own.push(*frame)?;
-        }
-    }
-    Ok(own)
-}
-
 /// Adds the answers of a round to the announcements that came.
 fn add_answers_of(
     known: &Known,
@@ -152,12 +132,14 @@ fn add_answers_of(
     ensures { OnOk result (frames.new.items ≡ frames.old.items ++ answers_to known.now.readings.now.plan.groups (words_of known.now.masks.now) came.now group round) }
 {
     let hearers = hearers_in(came, group, round);
+    if hearers.meters.len() == 0 {
+        return Ok(());
+    }
     add_answers(known, group, round, &hearers, came, frames)
 }
 
 /// Adds the answers to the announcements that came: their rounds closed at most 16 ticks before.
 fn add_answer_frames(
-    alloc: Global,
     known: &Known,
     came: &[Frame],
     group: u16,
@@ -169,12 +151,11 @@ fn add_answer_frames(
     requires came { AreAnswerable known.now.readings.now.plan tick came.now }
     ensures { OnOk result (frames.new.items ≡ frames.old.items ++ answers_at known.now.readings.now.plan (words_of known.now.masks.now) came.now group) }
 {
-    let own = announcements_to(alloc, came, group)?;
     let closed = tick.saturating_sub(known.readings.plan().w1());
     let until = closed.min(known.readings.plan().rounds());
     let first = closed.saturating_sub(16).min(until);
     for round in first..until {
-        add_answers_of(known, &own, group, round, frames)?;
+        add_answers_of(known, came, group, round, frames)?;
     }
     Ok(())
 }
@@ -195,7 +176,7 @@ pub(crate) fn group_frames(
     let mut first = Vec::new(alloc);
     add_reading_frames(known, group, tick, &mut first)?;
     let mut answers = Vec::new(alloc);
-    add_answer_frames(alloc, known, came, group, tick, &mut answers)?;
+    add_answer_frames(known, came, group, tick, &mut answers)?;
     Ok(GroupFrames {
         readings: first,
         answers,

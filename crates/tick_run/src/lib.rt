@@ -4,6 +4,7 @@
 mod all_groups;
 mod announcements;
 mod batches;
+mod by_group;
 mod context;
 mod frames;
 mod group;

@@ -60,7 +60,7 @@ fn read_group(meters: &mut [Meter], readings: &Readings, group: u16, round: u32)
 }
 
 /// Whether it is an announcement.
-fn is_announcement(tag: Tag) -> bool
+pub(crate) fn is_announcement(tag: Tag) -> bool
     ensures { result ≡ is_announcement tag }
 {
     tag.kind == Kind::Announcement

@@ -1,4 +1,5 @@
 mod LinesText
+mod PieceLemmas
 mod Writable
 mod SpanLemmas
 mod SpanText

@@ -64,3 +64,11 @@ head_some plan start out put =
     let all = length-append start (front ++ ended (codes "begin")) in
     let last = length-append front (ended (codes "begin")) in
     omega (arith, same, all, last)
+
+-- an `end` line is not empty
+pub end_some : (n : ℕ) (start out : List ℕ) → out ≡ start ++ ended (codes "end," ++ decimal n) → 0 < length out
+end_some n start out put =
+    let same = ap length put in
+    let all = length-append start (ended (codes "end," ++ decimal n)) in
+    let last = length-append (codes "end," ++ decimal n) (10 ∷ []) in
+    omega (arith, same, all, last)

@@ -1,6 +1,7 @@
 pub mod Spelling
 pub mod Writing
 pub mod Pieces
+pub mod Batches
 pub mod Parts
 pub mod Reading
 pub mod Heads

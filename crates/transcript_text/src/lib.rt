@@ -1,6 +1,7 @@
 //! The texts of transcripts.
 #![tactic(auto)]
 
+mod batch;
 mod cut;
 mod entry_lines;
 mod fault;
@@ -8,6 +9,7 @@ mod fields;
 mod head;
 mod head_writing;
 mod lines;
+mod made;
 mod pieces;
 mod reader;
 mod rows;

@@ -13,4 +13,4 @@ pub record Answered (F : ℕ → List Frame) (first until round : ℕ) (before n
 
 abbrev pub invariant-loop-round : goal.invariant-loop-round
 invariant-loop-round l =
-    Answered (answers_to l.known.readings.now.plan.groups (words_of l.known.masks.now) l.own.items l.group) l.first l.until l.round l.fn.frames.items l.frames.items
+    Answered (answers_to l.known.readings.now.plan.groups (words_of l.known.masks.now) l.came l.group) l.first l.until l.round l.fn.frames.items l.frames.items

@@ -1,0 +1,21 @@
+//! What is made of a text and not yet taken.
+
+use std::collections::VecDeque;
+
+/// What comes next of a text.
+#[derive(Clone, Copy, Debug)]
+pub(crate) enum Place {
+    /// The head.
+    Head,
+    /// The line of the entry at this place, or after the last entry the `end` line.
+    Entry(usize),
+    /// Nothing.
+    End,
+}
+
+/// Pieces of a text that are made and not yet taken, and what comes after them.
+#[derive(Drop)]
+pub(crate) struct Made {
+    pub(crate) pieces: VecDeque<Vec<u8>>,
+    pub(crate) after: Place,
+}
