@@ -1,12 +1,17 @@
 -- How a desk changes.
-use Rattle.std.proofs.Common.{◌≡◌, ◌≢◌, ◌<◌, ◌+◌, ◌==◌, ℕ, zero, suc, true, false, List, [], ◌∷◌, ◌++◌, length, get_or, set, Option, Some, None, is_some, sym, refl, ap, ◌∙◌, subst, arith, if◌then◌else◌, eq-eqb, ne_eqb, length-set, get_or-set_other, get_or-set_same}
+use Rattle.std.proofs.Common.{◌≡◌, ◌≢◌, ◌<◌, ◌+◌, ◌==◌, ℕ, zero, suc, true, false, List, [], ◌∷◌, ◌++◌, length, get_or, set, take, Option, Some, None, Result, Ok, Err, is_some, vec_len, sym, refl, ap, ◌∙◌, subst, arith, if◌then◌else◌, eq-eqb, ne_eqb, length-set, get_or-set_other, get_or-set_same}
 use mathlib.Core.Logic.{dite}
+use Rattle.std.proofs.lemmas.List.{take_more, take_more_set, length-take-le}
 use native.Mathlib.Decide.{ℕ_discrete}
 use Rattle.transcript_log.specs.declared.Line.{Line}
+use Rattle.meter_frames.specs.declared.FrameError.{FrameError}
 use Rattle.shared_book.specs.declared.parcel.Reply.{Reply}
+use Rattle.shared_book.specs.declared.parcel.Request.{Request}
+use Rattle.shared_book.specs.declared.parcel.CommitError.{CommitError}
+use Rattle.shared_book.specs.declared.parcel.CommitError.TheVariants.{Frame, NoSuch, Other, Done, Take, Place}
 use Rattle.shared_book.specs.declared.turn.Turn.{Turn}
 use Rattle.shared_book.specs.declared.desk.Desk.{Desk}
-use Rattle.shared_book.specs.Desks.{DoneAt}
+use Rattle.shared_book.specs.Desks.{DoneAt, MakeIfReadEnds, MakesAll}
 use Rattle.shared_book.specs.Parcels.{reply_of}
 use Rattle.shared_book.specs.Places.{open_places}
 use Rattle.shared_book.specs.Turns.{turn, turn_at, reply_in, number_in, number_at, Replied, Passed}
@@ -91,3 +96,43 @@ both_set replies passes place reply number h same both k lt = dite (ℕ_discrete
     (ap is_some (get_or-set_same replies place (Some reply) None h) ∙ sym (ap is_some (get_or-set_same passes place (Some number) None (omega arith)))))
     (λ n. let l : k < length replies = omega (arith, length-set replies place (Some reply)) in
     ap is_some (get_or-set_other replies place k (Some reply) None n) ∙ both k l ∙ sym (ap is_some (get_or-set_other passes place k (Some number) None n)))
+
+-- ---- the turns of some places
+
+pub none_made : (d : Desk) (number at : ℕ) → MakesAll d number at [] [] d
+unfolding MakesAll
+none_made d number at = refl
+
+-- one place more
+pub made_more : (d c e : Desk) (number at place : ℕ) (requests : List (Result Request FrameError)) (results : List (Result Reply CommitError)) (request : Result Request FrameError) (result : Result Reply CommitError)
+    → MakesAll d number at requests results c → place ≡ at + length requests → MakeIfReadEnds c number place request result e → MakesAll d number at (requests ++ request ∷ []) (results ++ result ∷ []) e
+unfolding MakesAll
+made_more d c e number at place [] [] q r h is m =
+    let here : place ≡ at = omega (arith, is) in
+    (e, subst (λ (x : Desk). MakeIfReadEnds x number at q r e) h (subst (λ (n : ℕ). MakeIfReadEnds c number n q r e) here m), refl)
+made_more d c e number at place [] (s ∷ rs) q r h is m = absurd h
+made_more d c e number at place (p ∷ qs) [] q r h is m = absurd h
+made_more d c e number at place (p ∷ qs) (s ∷ rs) q r h is m = (h.0, h.1, made_more h.0 c e number (at + 1) place qs rs q r h.2 (omega (arith, is)) m)
+
+-- the place after those that a loop has made
+pub made_next : (d c e : Desk) (number at i : ℕ) (requests : List (Result Request FrameError)) (results : List (Result Reply CommitError)) (request : Result Request FrameError) (result : Result Reply CommitError)
+    → MakesAll d number at (take i requests) (take i results) c → i < length requests → length results ≡ length requests → request ≡ get_or requests i request → MakeIfReadEnds c number (at + i) request result e
+    → MakesAll d number at (take (i + 1) requests) (take (i + 1) (set results i result)) e
+made_next d c e number at i requests results request result h lt long is m =
+    let reached : length (take i requests) ≡ i = length-take-le i requests (omega arith) in
+    let asked : take i requests ++ request ∷ [] ≡ take (i + 1) requests = ap (λ (q : Result Request FrameError). take i requests ++ q ∷ []) is ∙ sym (take_more requests i request lt) in
+    let came : take i results ++ result ∷ [] ≡ take (i + 1) (set results i result) = sym (take_more_set results i result (omega arith)) in
+    let all = made_more d c e number at (at + i) (take i requests) (take i results) request result h (omega arith) m in
+    subst (λ (rs : List (Result Reply CommitError)). MakesAll d number at (take (i + 1) requests) rs e) came
+    (subst (λ (qs : List (Result Request FrameError)). MakesAll d number at qs (take i results ++ result ∷ []) e) asked all)
+
+-- the desk keeps its places
+pub places_stay : (d e : Desk) (number place : ℕ) (request : Result Request FrameError) (result : Result Reply CommitError) → MakeIfReadEnds d number place request result e → vec_len e.replies ≡ vec_len d.replies
+places_stay d e number place (Ok request) (Ok reply) h = h.places
+places_stay d e number place (Ok request) (Err (Frame x)) h = absurd h
+places_stay d e number place (Ok request) (Err NoSuch) h = absurd h
+places_stay d e number place (Ok request) (Err Other) h = absurd h
+places_stay d e number place (Ok request) (Err (Done reply)) h = h.1.places
+places_stay d e number place (Ok request) (Err (Take x)) h = h.2.places
+places_stay d e number place (Ok request) (Err Place) h = h.2.places
+places_stay d e number place (Err x) result h = ap (λ (c : Desk). vec_len c.replies) h.1

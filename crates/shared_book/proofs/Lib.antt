@@ -1,3 +1,4 @@
+pub mod Blocks
 pub mod Desks
 pub mod Frames
 pub mod Histories

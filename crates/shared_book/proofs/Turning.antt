@@ -1,12 +1,15 @@
 -- What a turn of a pass owes and gives.
-use Rattle.std.proofs.Common.{◌≡◌, ◌≢◌, ◌%◌, ◌^◌, ◌==◌, ℕ, true, false, List, [], ◌∷◌, ◌++◌, length, None, Result, Ok, Err, sym, refl, ap, ◌∙◌, subst, arith, eq-eqb, ne_eqb, append_assoc, if◌then◌else◌}
+use Rattle.std.proofs.Common.{◌≡◌, ◌≢◌, ◌%◌, ◌^◌, ◌==◌, ◌<◌, ℕ, zero, suc, true, false, List, [], ◌∷◌, ◌++◌, ◌+◌, length, map, slice_get, Some, None, Result, Ok, Err, sym, refl, ap, ◌∙◌, subst, arith, eq-eqb, ne_eqb, append_assoc, if◌then◌else◌}
 use mathlib.Core.Option.{none}
-use Rattle.std.proofs.lemmas.List.{append-nil}
+use Rattle.std.proofs.lemmas.List.{append-nil, length-map}
+use Rattle.std.proofs.lemmas.Option.{slice_get_within}
 use Rattle.atomic_table.specs.Table.{step}
 use Rattle.transcript_log.specs.declared.Line.{Line}
 use Rattle.transcript_log.specs.Journal.{core_line}
 use Rattle.transcript_log.specs.Schedule.{shape_of_presence}
 use Rattle.group_book.specs.Books.{BookView, shape_of}
+use Rattle.meter_frames.specs.declared.FrameError.{FrameError}
+use Rattle.shared_book.specs.declared.parcel.Parcel.{Parcel}
 use Rattle.shared_book.specs.declared.parcel.Reply.{Reply}
 use Rattle.shared_book.specs.declared.parcel.Request.{Request}
 use Rattle.shared_book.specs.declared.parcel.CommitError.{CommitError}
@@ -15,12 +18,13 @@ use Rattle.shared_book.specs.declared.turn.Turn.{Turn}
 use Rattle.shared_book.specs.declared.turn.Opening.{Opening}
 use Rattle.shared_book.specs.declared.turn.View.{View}
 use Rattle.shared_book.specs.declared.desk.Desk.{Desk}
-use Rattle.shared_book.specs.Parcels.{Judged, Accepted, RefusedFrame, Outside, judged_request, judged_if_read}
+use Rattle.shared_book.specs.Parcels.{Judged, Accepted, RefusedFrame, Outside, judged_request, judged_if_read, request_of}
 use Rattle.shared_book.specs.Writes.{judged_at}
-use Rattle.shared_book.specs.Desks.{Makes, MakeEnds, SameDesk}
-use Rattle.shared_book.specs.Turns.{IsLegal, LegalFrom, MayFollow, IsRequestAt, StartsWith, journal_after, turn, turn_at, turns_by, reply_at}
-use Rattle.shared_book.specs.Law.{HasAll, Stands, Mine, waiting, holding, done_with, NextIs, Looks}
-use Rattle.shared_book.specs.Rests.{Rests, HoldsDesk, TakesTurn, Changed, Changes, IsJudged, NoTurn, SameView, TurnEnds}
+use Rattle.shared_book.specs.Desks.{Makes, MakeEnds, MakeIfReadEnds, MakesAll, SameDesk}
+use Rattle.shared_book.specs.Turns.{IsLegal, LegalFrom, MayFollow, AreParcelsAt, AreRequestsAt, StartsWith, journal_after, turn, turn_at, turns_by, reply_at}
+use Rattle.shared_book.specs.Law.{Stands, Mine, waiting, holding, done_with, NextIs, Looks}
+use Rattle.shared_book.specs.Passes.{known}
+use Rattle.shared_book.specs.Rests.{Rests, HoldsDesk, TakesTurn, Changed, Adds, AddsAll, IsJudged, TurnEnds}
 use Rattle.shared_book.proofs.Judging.{judged-legal, journal-snoc}
 
 pub nil_of : {A : Type 0} (l : List A) → length l ≡ 0 → l ≡ []
@@ -64,16 +68,20 @@ judged_there o seen d request j s legal h =
     let there : judged_request o.book.presence.plan (journal_after o seen) request ≡ j = (λ i. judged_request (sym s.presence i).plan (sym s.journal i) request) ∙ h in
     (there, sym (judged-legal o seen request legal) ∙ there)
 
-made_one : (o : Opening) (seen : List Turn) (d0 d : Desk) (number place : ℕ) (request : Request) (reply : Reply) → Stands o seen d0 → IsLegal o seen → IsRequestAt o place request
-    → Makes d0 number place request reply d → Changes o seen number place request (Ok reply) d
-made_one o seen d0 d number place request reply s legal q m =
+-- a desk that stands for the history after a request of a place
+abbrev After : Opening → ℕ → ℕ → List Turn → Result Request FrameError → Result Reply CommitError → Desk → Type 0
+After o number place seen request result d = (after : List Turn) × Adds o number place seen request result after × Stands o after d × IsLegal o after
+
+made_one : (o : Opening) (seen : List Turn) (d0 d : Desk) (number place : ℕ) (parcel : Parcel) (request : Request) (reply : Reply) → Stands o seen d0 → IsLegal o seen
+    → slice_get o.parcels place ≡ Some parcel → request_of parcel ≡ Ok request → Makes d0 number place request reply d → After o number place seen (Ok request) (Ok reply) d
+made_one o seen d0 d number place parcel request reply s legal at asks m =
     let t : Turn = turn number place m.line in
     let w = m.writes in
     let first : turn_at place seen ≡ None = ap (turn_at place) (sym s.turns) ∙ m.first in
     let accepted = (judged_there o seen d0 request (Accepted w.event) s legal w.accepted).1 in
     let core : m.line ≡ core_line (shape_of o.book) (journal_after o seen) w.event None = w.core ∙ (λ i. core_line (shape_of_presence (s.presence i)) (s.journal i) w.event None) in (
-      m.line,
-      record { event = w.event; first = first; accepted = accepted; core = core; replied = w.replied },
+      seen ++ t ∷ [],
+      (m.line, record { event = w.event; first = first; accepted = accepted; core = core; replied = w.replied }, refl),
       record {
         turns = m.turns ∙ ap (λ (l : List Turn). l ++ t ∷ []) s.turns;
         presence = w.presence ∙ s.presence;
@@ -81,103 +89,151 @@ made_one o seen d0 d number place request reply s legal q m =
         places = m.places ∙ s.places;
       },
       legal_snoc o [] seen t legal record {
-        parcel = q.0;
+        parcel = parcel;
         event = w.event;
-        at = q.1;
+        at = at;
         first = first;
-        accepted = ap (judged_if_read o.book.presence.plan o.book.journal) q.2 ∙ accepted;
+        accepted = ap (judged_if_read o.book.presence.plan o.book.journal) asks ∙ accepted;
         core = core;
       },
     )
 
 made_none : (o : Opening) (seen : List Turn) (d0 d : Desk) (number place : ℕ) (request : Request) (e : CommitError) → Stands o seen d0 → IsLegal o seen
-    → MakeEnds d0 number place request (Err e) d → Changes o seen number place request (Err e) d
+    → MakeEnds d0 number place request (Err e) d → After o number place seen (Ok request) (Err e) d
 made_none o seen d0 d number place request (Frame x) s legal h = absurd h
 made_none o seen d0 d number place request NoSuch s legal h = absurd h
 made_none o seen d0 d number place request Other s legal h = absurd h
-made_none o seen d0 d number place request (Done reply) s legal h = (stands_same o seen d0 d s h.1, ap (reply_at place) (sym s.turns) ∙ h.0)
-made_none o seen d0 d number place request (Take x) s legal h = (stands_same o seen d0 d s h.2, (ap (turn_at place) (sym s.turns) ∙ h.0, judged_there o seen d0 request (RefusedFrame x) s legal h.1))
-made_none o seen d0 d number place request Place s legal h = (stands_same o seen d0 d s h.2, (ap (turn_at place) (sym s.turns) ∙ h.0, judged_there o seen d0 request Outside s legal h.1))
+made_none o seen d0 d number place request (Done reply) s legal h = (seen, (ap (reply_at place) (sym s.turns) ∙ h.0, refl), stands_same o seen d0 d s h.1, legal)
+made_none o seen d0 d number place request (Take x) s legal h =
+    (seen, ((ap (turn_at place) (sym s.turns) ∙ h.0, judged_there o seen d0 request (RefusedFrame x) s legal h.1), refl), stands_same o seen d0 d s h.2, legal)
+made_none o seen d0 d number place request Place s legal h =
+    (seen, ((ap (turn_at place) (sym s.turns) ∙ h.0, judged_there o seen d0 request Outside s legal h.1), refl), stands_same o seen d0 d s h.2, legal)
 
 -- a desk that stands for some turns, after one request
-pub changed : (o : Opening) (seen : List Turn) (d0 d : Desk) (number place : ℕ) (request : Request) (result : Result Reply CommitError) → Stands o seen d0 → IsLegal o seen → IsRequestAt o place request
-    → MakeEnds d0 number place request result d → Changes o seen number place request result d
-changed o seen d0 d number place request (Ok reply) s legal q h = made_one o seen d0 d number place request reply s legal q h
-changed o seen d0 d number place request (Err e) s legal q h = made_none o seen d0 d number place request e s legal h
+made_if_read : (o : Opening) (seen : List Turn) (d0 d : Desk) (number place : ℕ) (parcel : Parcel) (request : Result Request FrameError) (result : Result Reply CommitError) → Stands o seen d0 → IsLegal o seen
+    → slice_get o.parcels place ≡ Some parcel → request_of parcel ≡ request → MakeIfReadEnds d0 number place request result d → After o number place seen request result d
+made_if_read o seen d0 d number place parcel (Ok request) (Ok reply) s legal at asks h = made_one o seen d0 d number place parcel request reply s legal at asks h
+made_if_read o seen d0 d number place parcel (Ok request) (Err e) s legal at asks h = made_none o seen d0 d number place request e s legal h
+made_if_read o seen d0 d number place parcel (Err x) result s legal at asks h = (seen, (h.0, refl), subst (Stands o seen) (sym h.1) s, legal)
+
+-- each of the places that are asked has a parcel
+within : (o : Opening) (at k : ℕ) (parcels : List Parcel) → AreParcelsAt o at parcels → k < length parcels → at + k < length o.parcels
+within o at k [] there lt = absurd (omega arith)
+within o at zero (p ∷ ps) there lt = let l = slice_get_within o.parcels at p there.0 in omega arith
+within o at (suc k) (p ∷ ps) there lt = let l = within o (at + 1) k ps there.1 (omega arith) in omega arith
+
+pub asked_within : (o : Opening) (at k : ℕ) (requests : List (Result Request FrameError)) → AreRequestsAt o at requests → k < length requests → at + k < length o.parcels
+asked_within o at k requests asked lt =
+    let long : length asked.0 ≡ length requests = sym (length-map asked.0 request_of) ∙ ap length asked.2 in
+    within o at k asked.0 asked.1 (omega arith)
+
+-- a desk that stands for some turns, after the requests of some parcels
+made_all : (o : Opening) (number at : ℕ) (seen : List Turn) (d0 d : Desk) (parcels : List Parcel) (results : List (Result Reply CommitError)) → Stands o seen d0 → IsLegal o seen
+    → AreParcelsAt o at parcels → MakesAll d0 number at (map request_of parcels) results d
+    → (after : List Turn) × AddsAll o number at seen (map request_of parcels) results after × Stands o after d × IsLegal o after
+unfolding MakesAll AddsAll
+made_all o number at seen d0 d [] [] s legal there h = (seen, refl, subst (Stands o seen) (sym h) s, legal)
+made_all o number at seen d0 d [] (r ∷ rs) s legal there h = absurd h
+made_all o number at seen d0 d (p ∷ ps) [] s legal there h = absurd h
+made_all o number at seen d0 d (p ∷ ps) (r ∷ rs) s legal there h =
+    let one = made_if_read o seen d0 h.0 number at p (request_of p) r s legal there.0 refl h.1 in
+    let more = made_all o number (at + 1) one.0 h.0 d ps rs one.2 one.3 there.1 h.2 in
+    (more.0, (one.0, one.1, more.1), more.2, more.3)
+
+-- the desk that the pass holds, after the requests
+pub changed : (o : Opening) (seen : List Turn) (d0 d : Desk) (number at : ℕ) (requests : List (Result Request FrameError)) (results : List (Result Reply CommitError)) → Stands o seen d0 → IsLegal o seen
+    → AreRequestsAt o at requests → MakesAll d0 number at requests results d → (after : List Turn) × AddsAll o number at seen requests results after × Stands o after d × IsLegal o after
+changed o seen d0 d number at requests results s legal asked h =
+    let made = made_all o number at seen d0 d asked.0 results s legal asked.1 (subst (λ (qs : List (Result Request FrameError)). MakesAll d0 number at qs results d) (sym asked.2) h) in
+    (made.0, subst (λ (qs : List (Result Request FrameError)). AddsAll o number at seen qs results made.0) asked.2 made.1, made.2, made.3)
 
 -- ---- the turns of a pass
 
-turns_by-append : (n : ℕ) (xs ys : List Turn) → turns_by n (xs ++ ys) ≡ turns_by n xs ++ turns_by n ys
+pub turns_by-append : (n : ℕ) (xs ys : List Turn) → turns_by n (xs ++ ys) ≡ turns_by n xs ++ turns_by n ys
 turns_by-append n [] ys = refl
 turns_by-append n (x ∷ xs) ys = elim (x.number == n) as (λ b. (if b then x ∷ turns_by n (xs ++ ys) else turns_by n (xs ++ ys)) ≡ (if b then x ∷ turns_by n xs else turns_by n xs) ++ turns_by n ys)
     [ true ↦ ap (λ (l : List Turn). x ∷ l) (turns_by-append n xs ys) | false ↦ turns_by-append n xs ys ]
 
-own_turn : (n place : ℕ) (line : Line) → turns_by n (turn n place line ∷ []) ≡ turn n place line ∷ []
+pub own_turn : (n place : ℕ) (line : Line) → turns_by n (turn n place line ∷ []) ≡ turn n place line ∷ []
 own_turn n place line = let b : (n == n) ≡ true = eq-eqb n n refl in rw b refl
 
 other_turn : (n m place : ℕ) (line : Line) → m ≢ n → turns_by n (turn m place line ∷ []) ≡ []
 other_turn n m place line ne = let b : (m == n) ≡ false = ne_eqb m n ne in rw b refl
 
-next_of : (v : View) (d : Desk) (place : ℕ) (request : Request) (result : Result Reply CommitError) → IsLegal v.opening v.seen → Changes v.opening v.seen v.number place request result d → NextIs v d
-next_of v d place request (Ok reply) legal h =
-    let one : List Turn = turn v.number place h.0 ∷ [] in
-    (one, h.2, h.3, λ n ne. turns_by-append n v.seen one ∙ (ap (λ (l : List Turn). turns_by n v.seen ++ l) (other_turn n v.number place h.0 (λ e. ne (sym e))) ∙ append-nil (turns_by n v.seen)))
-next_of v d place request (Err x) legal h =
-    let e = sym (append-nil v.seen) in
-    ([], subst (λ (l : List Turn). Stands v.opening l d) e h.0, subst (IsLegal v.opening) e legal, λ n ne. ap (turns_by n) (append-nil v.seen))
+-- a later history begins with an earlier one, and other passes have no more turns in it
+abbrev pub Later : ℕ → List Turn → List Turn → Type 0
+Later number before after = StartsWith after before × ((n : ℕ) → n ≢ number → turns_by n after ≡ turns_by n before)
 
--- what a pass that was v knows after the turn in which it saw `seen`
-done_of : (v : View) (t : ℕ) (seen : List Turn) (d : Desk) (place : ℕ) (request : Request) (result : Result Reply CommitError) → StartsWith seen v.seen → turns_by v.number seen ≡ v.mine → (HasAll v → seen ≡ v.seen)
-    → IsLegal v.opening seen → Changes v.opening seen v.number place request result d → TurnEnds v place request result (done_with (holding (waiting v t) seen) d)
-done_of v t seen d place request (Ok reply) starts by alone legal h =
-    let one : List Turn = turn v.number place h.0 ∷ [] in
-    let e = h.2.turns in record {
-      before = seen;
-      line = h.0;
-      grew = starts;
-      may = h.1;
-      seen = e;
-      mine = ap (turns_by v.number) e ∙ (turns_by-append v.number seen one ∙ (ap (λ (l : List Turn). l ++ turns_by v.number one) by ∙ ap (λ (l : List Turn). v.mine ++ l) (own_turn v.number place h.0)));
-      own = refl;
-      legal = subst (IsLegal v.opening) (sym e) h.3;
-      alone = alone;
-    }
-done_of v t seen d place request (Err x) starts by alone legal h =
-    let e = sym h.0.turns in record {
-      grew = subst (λ (l : List Turn). StartsWith l v.seen) e starts;
-      why = subst (λ (l : List Turn). NoTurn v.opening l place request x) e h.1;
-      mine = ap (turns_by v.number) (sym e) ∙ by;
-      own = refl;
-      legal = subst (IsLegal v.opening) e legal;
-      alone = λ z. sym e ∙ alone z;
-    }
+same_later : (number : ℕ) (before after : List Turn) → after ≡ before → Later number before after
+same_later number before after e = (([], e ∙ sym (append-nil before)), λ n ne. ap (turns_by n) e)
 
-pub left_next : (v : View) (m1 m2 : Mine) (number place : ℕ) (request : Request) (result : Result Reply CommitError) → v.number ≡ number → TakesTurn v m1 → Changed m1 number place request result m2
-    → (d : Desk) × (m2.1 ≡ (0, d) ∷ []) × (m2.0.live ≡ true) × (m2.0.has ≡ true) × NextIs m2.0 d
-left_next v m1 m2 number place request result same t c =
+add_later : (o : Opening) (number place : ℕ) (before after : List Turn) (request : Result Request FrameError) (result : Result Reply CommitError) → Adds o number place before request result after → Later number before after
+add_later o number place before after (Ok request) (Ok reply) h = (
+  (turn number place h.0 ∷ [], h.2),
+  λ n ne.
+      ap (turns_by n) h.2
+      ∙ turns_by-append n before (turn number place h.0 ∷ [])
+      ∙ ap (λ (l : List Turn). turns_by n before ++ l) (other_turn n number place h.0 (λ e. ne (sym e)))
+      ∙ append-nil (turns_by n before),
+)
+add_later o number place before after (Ok request) (Err e) h = same_later number before after h.1
+add_later o number place before after (Err x) result h = same_later number before after h.1
+
+adds_later : (o : Opening) (number at : ℕ) (before after : List Turn) (requests : List (Result Request FrameError)) (results : List (Result Reply CommitError)) → AddsAll o number at before requests results after → Later number before after
+unfolding AddsAll
+adds_later o number at before after [] [] h = same_later number before after h
+adds_later o number at before after [] (r ∷ rs) h = absurd h
+adds_later o number at before after (q ∷ qs) [] h = absurd h
+adds_later o number at before after (q ∷ qs) (r ∷ rs) h =
+    let one = add_later o number at before h.0 q r h.1 in
+    let more = adds_later o number (at + 1) h.0 after qs rs h.2 in
+    ((one.0.0 ++ more.0.0, more.0.1 ∙ (ap (λ (l : List Turn). l ++ more.0.0) one.0.1 ∙ append_assoc before one.0.0 more.0.0)), λ n ne. more.1 n ne ∙ one.1 n ne)
+
+pub left_next : (v : View) (m1 m2 : Mine) (number at : ℕ) (requests : List (Result Request FrameError)) (results : List (Result Reply CommitError)) → v.number ≡ number → TakesTurn v m1
+    → Changed m1 number at requests results m2 → (d : Desk) × (m2.1 ≡ (0, d) ∷ []) × (m2.0.live ≡ true) × (m2.0.has ≡ true) × NextIs m2.0 d
+left_next v m1 m2 number at requests results same t c =
     let to : m1.0 ≡ m2.0 = ap (λ (x : Mine). x.0) (sym c.1) in
     let mine : m1.0.number ≡ number = ap (λ (x : View). x.number) t.2 ∙ same in
-    let made = subst (λ (n : ℕ). Changes m1.0.opening m1.0.seen n place request result c.0) (sym mine) c.2 in (
+    let later = adds_later m1.0.opening number at m1.0.seen c.2 requests results c.3 in
+    let more : List Turn = later.0.0 in
+    let next : NextIs m1.0 c.0 = (
+      more,
+      subst (λ (l : List Turn). Stands m1.0.opening l c.0) later.0.1 c.4,
+      subst (IsLegal m1.0.opening) later.0.1 c.5,
+      λ n ne. ap (turns_by n) (sym later.0.1) ∙ later.1 n (λ e. ne (e ∙ sym mine)),
+    ) in (
       c.0,
       ap (λ (x : Mine). x.1) c.1,
       subst (λ (x : View). x.live ≡ true) to t.3.2,
       subst (λ (x : View). x.has ≡ true) to t.3.3,
-      subst (λ (x : View). NextIs x c.0) to (next_of m1.0 c.0 place request result t.3.4 made),
+      subst (λ (x : View). NextIs x c.0) to next,
     )
 
-pub ended : (v : View) (m1 m2 m3 : Mine) (number place : ℕ) (request : Request) (result : Result Reply CommitError) → v.number ≡ number → v.live ≡ true → v.pending ≡ false → TakesTurn v m1
-    → Changed m1 number place request result m2 → ((d : Desk) → m2.1 ≡ (0, d) ∷ [] → m3 ≡ (done_with m2.0 d, []))
-    → Rests m3 × SameView v m3.0 × TurnEnds v place request result m3.0
-ended v m1 m2 m3 number place request result same live quiet t c left =
+pub ended : (v : View) (m1 m2 m3 : Mine) (number at : ℕ) (requests : List (Result Request FrameError)) (results : List (Result Reply CommitError)) → v.number ≡ number → v.live ≡ true → v.pending ≡ false → TakesTurn v m1
+    → Changed m1 number at requests results m2 → ((d : Desk) → m2.1 ≡ (0, d) ∷ [] → m3 ≡ (done_with m2.0 d, []))
+    → Rests m3 × (m3.0.opening ≡ v.opening) × TurnEnds v.opening (known v) at requests results (known m3.0)
+ended v m1 m2 m3 number at requests results same live quiet t c left =
+    let d : Desk = c.0 in
     let h : View = holding (waiting v t.0) t.1 in
-    let e : m3 ≡ (done_with m2.0 c.0, []) = left c.0 (ap (λ (x : Mine). x.1) c.1) in
+    let e : m3 ≡ (done_with m2.0 d, []) = left d (ap (λ (x : Mine). x.1) c.1) in
     let to : m2.0 ≡ h = ap (λ (x : Mine). x.0) c.1 ∙ t.2 in
-    let e' : m3 ≡ (done_with h c.0, []) = e ∙ ap (λ (x : View). let y : Mine = (done_with x c.0, []) in y) to in
-    let made = subst (λ (n : ℕ). Changes h.opening h.seen n place request result c.0) (sym same) (subst (λ (x : View). Changes x.opening x.seen number place request result c.0) t.2 c.2) in
-    let legal : IsLegal v.opening t.1 = subst (λ (x : View). IsLegal x.opening x.seen) t.2 t.3.4 in
-    let P : Mine → Type 0 = λ m. Rests m × SameView v m.0 × TurnEnds v place request result m.0 in
+    let e' : m3 ≡ (done_with h d, []) = e ∙ ap (λ (x : View). let y : Mine = (done_with x d, []) in y) to in
+    let has : AddsAll v.opening v.number at t.1 requests results c.2 × Stands v.opening c.2 d × IsLegal v.opening c.2 =
+    subst (λ (n : ℕ). AddsAll v.opening n at t.1 requests results c.2 × Stands v.opening c.2 d × IsLegal v.opening c.2) (sym same)
+    (subst (λ (x : View). AddsAll x.opening number at x.seen requests results c.2 × Stands x.opening c.2 d × IsLegal x.opening c.2) t.2 (c.3, c.4, c.5)) in
+    let turns : c.2 ≡ d.turns.items = sym has.1.turns in
+    let P : Mine → Type 0 = λ m. Rests m × (m.0.opening ≡ v.opening) × TurnEnds v.opening (known v) at requests results (known m.0) in
     subst P (sym e') (
       (refl, live, refl, refl, quiet),
-      record { opening = refl; number = refl; made = refl; out = refl; joined = refl },
-      done_of v t.0 t.1 c.0 place request result t.4 t.5 t.6 legal made,
+      refl,
+      record {
+        before = t.1;
+        grew = t.4;
+        earlier = t.5;
+        adds = subst (λ (l : List Turn). AddsAll v.opening v.number at t.1 requests results l) turns has.0;
+        mine = refl;
+        legal = subst (IsLegal v.opening) turns has.2;
+        same = record { number = refl; made = refl; out = refl; joined = refl };
+        alone = λ z. t.6 (z.0, z.1, quiet);
+      },
     )

@@ -1,5 +1,6 @@
 -- What a desk makes of a request.
-use Rattle.std.specs.Prelude.{◌≡◌, ℕ, [], ◌∷◌, ◌++◌, ◌<◌, slice_index_or, vec_len, Option, Some, None, Result, Ok, Err}
+use Rattle.std.specs.Prelude.{◌≡◌, ℕ, List, [], ◌∷◌, ◌++◌, ◌+◌, ◌<◌, slice_index_or, vec_len, Option, Some, None, Result, Ok, Err}
+use Rattle.meter_frames.specs.declared.FrameError.{FrameError}
 use Rattle.transcript_log.specs.declared.Line.{Line}
 use Rattle.shared_book.specs.declared.parcel.Reply.{Reply}
 use Rattle.shared_book.specs.declared.parcel.Request.{Request}
@@ -39,3 +40,14 @@ MakeEnds d number place request (Err Other) e = ⊥
 MakeEnds d number place request (Err (Done reply)) e = (reply_at place d.turns.items ≡ Some reply) × SameDesk d e
 MakeEnds d number place request (Err (Take x)) e = (turn_at place d.turns.items ≡ None) × (judged_at d.book request ≡ RefusedFrame x) × SameDesk d e
 MakeEnds d number place request (Err Place) e = (turn_at place d.turns.items ≡ None) × (judged_at d.book request ≡ Outside) × SameDesk d e
+
+-- make of the turn of a place, where its request was read; bytes that are no frame make nothing
+abbrev pub MakeIfReadEnds : Desk → ℕ → ℕ → Result Request FrameError → Result Reply CommitError → Desk → Type 0
+MakeIfReadEnds d number place (Ok request) result e = MakeEnds d number place request result e
+MakeIfReadEnds d number place (Err x) result e = (result ≡ Err (Frame x)) × (e ≡ d)
+
+-- the turns of the places from this one on are made one after another
+unfoldable pub MakesAll : Desk → ℕ → ℕ → List (Result Request FrameError) → List (Result Reply CommitError) → Desk → Type 0
+MakesAll d number at [] [] e = e ≡ d
+MakesAll d number at (request ∷ requests) (result ∷ results) e = (c : Desk) × MakeIfReadEnds d number at request result c × MakesAll c number (at + 1) requests results e
+MakesAll d number at _ _ e = ⊥

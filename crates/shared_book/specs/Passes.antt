@@ -1,5 +1,7 @@
 -- What a pass knows, and what its calls do to it.
-use Rattle.std.specs.Prelude.{◌≡◌, ◌≢◌, ℕ, ◌+◌, ◌≤◌, List, [], ◌∷◌, ◌++◌, length, slice_get, Some, None, Result, Ok, Err}
+use Rattle.std.specs.Prelude.{◌≡◌, ◌≢◌, ℕ, ◌+◌, ◌≤◌, List, Vec, [], ◌∷◌, ◌++◌, length, take, drop, slice_get, Some, None, Result, Ok, Err}
+use Rattle.std.specs.declared.alloc.AllocError.{AllocError}
+use Rattle.std.specs.declared.alloc.Global.{Global}
 use Rattle.transcript_log.specs.declared.Event.{Event}
 use Rattle.transcript_log.specs.declared.Line.{Line}
 use Rattle.transcript_log.specs.Journal.{core_line}
@@ -101,6 +103,19 @@ CommitEnds o v at parcel (Err (Done reply)) w = IsParcelOf o at parcel × Sees v
 CommitEnds o v at parcel (Err (Take e)) w = IsParcelOf o at parcel × Sees v w × (turn_at at w.seen ≡ None)
     × (judged_after o.book.presence.plan (journal_after o w.seen) parcel ≡ RefusedFrame e) × (judged o.book parcel ≡ RefusedFrame e)
 CommitEnds o v at parcel (Err Place) w = IsParcelOf o at parcel × Sees v w × (turn_at at w.seen ≡ None) × (judged o.book parcel ≡ Outside)
+
+-- ---- a block
+
+-- a block is its commits, one after another; at its end the pass may have seen more
+unfoldable pub CommitsAll : Opening → PassView → ℕ → List Parcel → List (Result Reply CommitError) → PassView → Type 0
+CommitsAll o v at [] [] w = Sees v w
+CommitsAll o v at (parcel ∷ parcels) (result ∷ results) w = (u : PassView) × CommitEnds o v at parcel result u × CommitsAll o u (at + 1) parcels results w
+CommitsAll o v at _ _ w = ⊥
+
+-- commit of the parcels from a place on, at most so many; where there was no memory, nothing was committed
+abbrev pub BlockEnds : Opening → PassView → ℕ → ℕ → Result (Vec (Result Reply CommitError) Global) AllocError → PassView → Type 0
+BlockEnds o v from count (Ok results) w = CommitsAll o v from (take count (drop from o.parcels)) results.items w
+BlockEnds o v from count (Err e) w = w ≡ v
 
 -- ---- split and join
 

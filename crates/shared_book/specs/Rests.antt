@@ -1,5 +1,6 @@
 -- Where a pass is in its turn.
-use Rattle.std.specs.Prelude.{◌≡◌, ℕ, true, false, List, [], ◌∷◌, ◌++◌, length, Some, None, Result, Ok, Err}
+use Rattle.std.specs.Prelude.{◌≡◌, ℕ, true, false, List, [], ◌∷◌, ◌++◌, ◌+◌, length, Some, None, Result, Ok, Err}
+use Rattle.meter_frames.specs.declared.FrameError.{FrameError}
 use Rattle.transcript_log.specs.declared.Event.{Event}
 use Rattle.transcript_log.specs.declared.Line.{Line}
 use Rattle.transcript_log.specs.Journal.{core_line}
@@ -14,6 +15,7 @@ use Rattle.shared_book.specs.declared.turn.View.{View}
 use Rattle.shared_book.specs.declared.desk.Desk.{Desk}
 use Rattle.shared_book.specs.Parcels.{Judged, Accepted, RefusedFrame, Outside, judged_request, reply_of}
 use Rattle.shared_book.specs.Turns.{IsLegal, turn, turn_at, reply_at, turns_by, journal_after, StartsWith}
+use Rattle.shared_book.specs.Passes.{PassView, SamePass, IsAlone}
 use Rattle.shared_book.specs.Law.{HasAll, Mine, Stands, waiting, holding}
 
 -- a pass that is not spent, with no ticket, no slot, and nothing left to learn
@@ -50,46 +52,30 @@ NoTurn o seen place request (Done reply) = reply_at place seen ≡ Some reply
 NoTurn o seen place request (Take e) = (turn_at place seen ≡ None) × IsJudged o seen request (RefusedFrame e)
 NoTurn o seen place request Place = (turn_at place seen ≡ None) × IsJudged o seen request Outside
 
--- the desk stands for one turn more than was seen, or for the same turns
-abbrev pub Changes : Opening → List Turn → ℕ → ℕ → Request → Result Reply CommitError → Desk → Type 0
-Changes o seen number place request (Ok reply) d = (line : Line) × MayTurn o seen place request line reply
-    × Stands o (seen ++ turn number place line ∷ []) d × IsLegal o (seen ++ turn number place line ∷ [])
-Changes o seen number place request (Err e) d = Stands o seen d × NoTurn o seen place request e
+-- the history after a request of a place, of the pass with this number: it has one turn more, or is the same
+abbrev pub Adds : Opening → ℕ → ℕ → List Turn → Result Request FrameError → Result Reply CommitError → List Turn → Type 0
+Adds o number place before (Ok request) (Ok reply) after = (line : Line) × MayTurn o before place request line reply × (after ≡ before ++ turn number place line ∷ [])
+Adds o number place before (Ok request) (Err e) after = NoTurn o before place request e × (after ≡ before)
+Adds o number place before (Err x) result after = (result ≡ Err (Frame x)) × (after ≡ before)
 
--- the desk in the slot was changed
-abbrev pub Changed : Mine → ℕ → ℕ → Request → Result Reply CommitError → Mine → Type 0
-Changed m number place request result m' = (d : Desk) × (m' ≡ (m.0, (0, d) ∷ [])) × Changes m.0.opening m.0.seen number place request result d
+-- the history after the requests of the places from this one on, one after another
+unfoldable pub AddsAll : Opening → ℕ → ℕ → List Turn → List (Result Request FrameError) → List (Result Reply CommitError) → List Turn → Type 0
+AddsAll o number at before [] [] after = after ≡ before
+AddsAll o number at before (request ∷ requests) (result ∷ results) after = (next : List Turn) × Adds o number at before request result next × AddsAll o number (at + 1) next requests results after
+AddsAll o number at before _ _ after = ⊥
 
--- what stays of a view through a turn
-pub record SameView (v w : View) : Type 0 where
-  pub opening : w.opening ≡ v.opening
-  pub number : w.number ≡ v.number
-  pub made : w.made ≡ v.made
-  pub out : w.out ≡ v.out
-  pub joined : w.joined ≡ v.joined
+-- the desk in the slot was changed: it stands for the history after the requests
+abbrev pub Changed : Mine → ℕ → ℕ → List (Result Request FrameError) → List (Result Reply CommitError) → Mine → Type 0
+Changed m number at requests results m' = (d : Desk) × (m' ≡ (m.0, (0, d) ∷ [])) × (after : List Turn) × AddsAll m.0.opening number at m.0.seen requests results after
+    × Stands m.0.opening after d × IsLegal m.0.opening after
 
--- the history after a turn that began when the pass was v
-pub record Turned (v : View) (place : ℕ) (request : Request) (reply : Reply) (w : View) : Type 0 where
+-- one turn, with the requests of the places from this one on, which began when the pass was v
+pub record TurnEnds (o : Opening) (v : PassView) (at : ℕ) (requests : List (Result Request FrameError)) (results : List (Result Reply CommitError)) (w : PassView) : Type 0 where
   pub before : List Turn
-  pub line : Line
   pub grew : StartsWith before v.seen
-  pub may : MayTurn v.opening before place request line reply
-  pub seen : w.seen ≡ before ++ turn v.number place line ∷ []
-  pub mine : w.mine ≡ v.mine ++ turn v.number place line ∷ []
-  pub own : turns_by v.number w.seen ≡ w.mine
-  pub legal : IsLegal v.opening w.seen
-  pub alone : HasAll v → before ≡ v.seen
-
--- the same where no turn was made
-pub record Stayed (v : View) (place : ℕ) (request : Request) (e : CommitError) (w : View) : Type 0 where
-  pub grew : StartsWith w.seen v.seen
-  pub why : NoTurn v.opening w.seen place request e
-  pub mine : w.mine ≡ v.mine
-  pub own : turns_by v.number w.seen ≡ w.mine
-  pub legal : IsLegal v.opening w.seen
-  pub alone : HasAll v → w.seen ≡ v.seen
-
--- one turn of a place, which began when the pass was v
-abbrev pub TurnEnds : View → ℕ → Request → Result Reply CommitError → View → Type 0
-TurnEnds v place request (Ok reply) w = Turned v place request reply w
-TurnEnds v place request (Err e) w = Stayed v place request e w
+  pub earlier : turns_by v.number before ≡ v.mine
+  pub adds : AddsAll o v.number at before requests results w.seen
+  pub mine : w.mine ≡ turns_by v.number w.seen
+  pub legal : IsLegal o w.seen
+  pub same : SamePass v w
+  pub alone : IsAlone v → before ≡ v.seen

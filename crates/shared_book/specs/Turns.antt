@@ -1,8 +1,9 @@
 -- Histories of turns: who committed which place, and the line that was added.
-use Rattle.std.specs.Prelude.{◌≡◌, ℕ, ◌<◌, ◌==◌, ⊤, if◌then◌else◌, List, [], ◌∷◌, ◌++◌, length, map, slice_get, slice_index_or, Option, Some, None, Ok}
+use Rattle.std.specs.Prelude.{◌≡◌, ℕ, ◌+◌, ◌<◌, ◌==◌, ⊤, if◌then◌else◌, List, [], ◌∷◌, ◌++◌, length, map, slice_get, slice_index_or, Option, Some, None, Result}
 use Rattle.transcript_log.specs.declared.Event.{Event}
 use Rattle.transcript_log.specs.declared.Line.{Line}
 use Rattle.transcript_log.specs.Journal.{core_line}
+use Rattle.meter_frames.specs.declared.FrameError.{FrameError}
 use Rattle.group_book.specs.Books.{shape_of}
 use Rattle.shared_book.specs.declared.parcel.Parcel.{Parcel}
 use Rattle.shared_book.specs.declared.parcel.Reply.{Reply}
@@ -82,6 +83,11 @@ IsLegal o turns = LegalFrom o [] turns
 abbrev pub StartsWith : List Turn → List Turn → Type 0
 StartsWith log seen = (rest : List Turn) × (log ≡ seen ++ rest)
 
--- the parcel at a place asks this
-abbrev pub IsRequestAt : Opening → ℕ → Request → Type 0
-IsRequestAt o place request = (parcel : Parcel) × (slice_get o.parcels place ≡ Some parcel) × (request_of parcel ≡ Ok request)
+-- these parcels stand at the places from this one on
+abbrev pub AreParcelsAt : Opening → ℕ → List Parcel → Type 0
+AreParcelsAt o at [] = ⊤
+AreParcelsAt o at (parcel ∷ parcels) = (slice_get o.parcels at ≡ Some parcel) × AreParcelsAt o (at + 1) parcels
+
+-- the parcels at the places from this one on ask these
+abbrev pub AreRequestsAt : Opening → ℕ → List (Result Request FrameError) → Type 0
+AreRequestsAt o at requests = (parcels : List Parcel) × AreParcelsAt o at parcels × (map request_of parcels ≡ requests)

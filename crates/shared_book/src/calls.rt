@@ -1,22 +1,29 @@
 //! The calls on a shared book: open, commit, split, join and shut.
 
-ghost use Rattle.std.specs.Prelude.{◌≡◌, ◌≢◌, MatchBool, ◌+◌, ◌^◌, ◌<◌, ◌≤◌, ◌∷◌, [], None, length, vec_len, vec_capacity, IfOk, IfErr, MatchResult, replicate};
+ghost use Rattle.std.specs.Prelude.{◌≡◌, ◌≢◌, MatchBool, ◌+◌, ◌^◌, ◌<◌, ◌≤◌, ◌∷◌, [], None, length, map, take, drop, vec_len, vec_capacity, IfOk, IfErr, MatchResult, replicate};
 ghost use Rattle.group_book.specs.Books.{BookView};
 ghost use Rattle.shared_book.specs.declared.desk.Desk.{Desk};
-ghost use Rattle.shared_book.specs.Passes.{new_pass, SamePass, FindEnds, CommitEnds, SplitEnds, JoinEnds};
+ghost use Rattle.shared_book.specs.Passes.{new_pass, SamePass, FindEnds, CommitEnds, BlockEnds, SplitEnds, JoinEnds};
+ghost use Rattle.shared_book.specs.Parcels.{request_of};
+ghost use Rattle.shared_book.specs.Turns.{AreRequestsAt};
+ghost use Rattle.shared_book.specs.Rests.{TurnEnds};
 ghost use Rattle.shared_book.specs.Ends.{opening, view, IsPassOf, ShutEnds};
 
 use crate::desk::Desk;
 use crate::law::{Fork, Key, Learn, Meet};
-use crate::parcel::{CommitError, Parcel, Reply};
+use crate::parcel::{CommitError, Parcel, Reply, Request};
 use crate::parts::{BeginRefused, Pass, SharedBook, Shut};
 use crate::shared::one_turn;
 use crate::turn::Turn;
 use atomic_table::{Refused, Table};
 use group_book::Book;
+use meter_frames::FrameError;
 use std::alloc::{AllocError, Global};
 use std::snapshot::Snapshot;
 use std::sync::Wait;
+
+/// What a place comes to before its event is made.
+const NOT_YET: Result<Reply, CommitError> = Err(CommitError::NoSuch);
 
 impl Pass {
     /// How many passes were split from it so far.
@@ -49,6 +56,29 @@ fn find(parcels: &[Parcel], at: u32, parcel: &Parcel) -> Result<(), CommitError>
     }
 }
 
+/// The parcels from a place on, at most so many.
+fn block(parcels: &[Parcel], from: u32, count: u32) -> &[Parcel]
+    ensures { result.now ≡ take count (drop from parcels.now) }
+{
+    let (_, rest) = parcels.split_at(parcels.len().min(from as usize));
+    let (block, _) = rest.split_at(rest.len().min(count as usize));
+    block
+}
+
+/// What each parcel asks.
+fn requests_of(
+    alloc: Global,
+    parcels: &[Parcel],
+) -> Result<Vec<Result<Request, FrameError>>, AllocError>
+    ensures { IfOk result (λ v. v.items ≡ map request_of parcels.now) }
+{
+    let mut requests = Vec::with_capacity(alloc, parcels.len())?;
+    for parcel in parcels {
+        requests.push_reserved(parcel.request());
+    }
+    Ok(requests)
+}
+
 fn is_same(there: &Parcel, parcel: &Parcel) -> bool
     ensures { MatchBool result (there.now ≡ parcel.now) (there.now ≢ parcel.now) }
 {
@@ -76,14 +106,57 @@ impl SharedBook {
         if let Err(e) = find(&self.parcels, at, parcel) {
             return Err(e);
         }
+        let mut results = [NOT_YET];
+        self.turn(rt, pass, at, &[Ok(request)], &mut results);
+        results[0]
+    }
+
+    /// Commits the parcels from a place on, at most so many, one after another in one turn. What each came to, in order. At `Err`
+    /// there was no memory, and nothing was committed.
+    pub fn commit_block<R: Wait>(
+        &self,
+        rt: &R,
+        alloc: Global,
+        pass: &mut Pass,
+        from: u32,
+        count: u32,
+    ) -> Result<Vec<Result<Reply, CommitError>>, AllocError>
+        requires { IsPassOf self.now pass.old }
+        ensures pass { IsPassOf self.now pass.new }
+        ensures same { SamePass (view pass.old) (view pass.new) }
+        ensures ends { BlockEnds (opening self.now) (view pass.old) from count result (view pass.new) }
+    {
+        let requests = requests_of(alloc, block(&self.parcels, from, count))?;
+        let mut results = vec![in alloc; NOT_YET; requests.len()]?;
+        self.turn(rt, pass, from, requests.as_slice(), results.as_mut_slice());
+        Ok(results)
+    }
+
+    /// One turn of a pass, with the requests of the places from one on.
+    fn turn<R: Wait>(
+        &self,
+        rt: &R,
+        pass: &mut Pass,
+        from: u32,
+        requests: &[Result<Request, FrameError>],
+        results: &mut [Result<Reply, CommitError>],
+    )
+        requires pass { IsPassOf self.now pass.old }
+        requires requests { AreRequestsAt (opening self.now) from requests.now }
+        requires long { length results.old ≡ length requests.now }
+        ensures pass { IsPassOf self.now pass.new }
+        ensures long { length results.new ≡ length results.old }
+        ensures ends { TurnEnds (opening self.now) (view pass.old) from requests.now results.new (view pass.new) }
+    {
         one_turn(
             rt,
             &self.table.shared,
             &mut pass.seat,
             pass.number,
-            at,
-            &request,
-        )
+            from,
+            requests,
+            results,
+        );
     }
 
     /// The parcels that it was opened with.

@@ -1,16 +1,18 @@
 //! Tickets: a pass draws one, waits for its turn, and passes the turn on.
 
-ghost use Rattle.std.specs.Prelude.{◌≡◌, ◌<◌, ◌∷◌, [], true, length};
+ghost use Rattle.std.specs.Prelude.{◌≡◌, ◌^◌, ◌<◌, ◌∷◌, [], true, length};
 ghost use Rattle.shared_book.specs.declared.desk.Desk.{Desk};
-ghost use Rattle.shared_book.specs.Turns.{IsRequestAt};
+ghost use Rattle.shared_book.specs.Turns.{AreRequestsAt};
+ghost use Rattle.shared_book.specs.Passes.{known};
 ghost use Rattle.shared_book.specs.Law.{done_with, HasDrawn, NextIs};
-ghost use Rattle.shared_book.specs.Rests.{Rests, TakesTurn, HoldsDesk, Changed, SameView, TurnEnds};
+ghost use Rattle.shared_book.specs.Rests.{Rests, TakesTurn, HoldsDesk, Changed, TurnEnds};
 
 use crate::desk::Desk;
 use crate::law::{Draw, Key, Law, Look, PassOn};
 use crate::parcel::{CommitError, Reply, Request};
 use crate::turn::View;
 use atomic_table::{Seat, Shared};
+use meter_frames::FrameError;
 use std::sync::Wait;
 use std::sync::atomic::AtomicU64;
 use std::thread;
@@ -71,22 +73,26 @@ pub(crate) fn enter<R: Wait>(rt: &R, counter: &Counter, seat: &mut Seat<Desk, Vi
     unreachable!()
 }
 
-/// Makes one turn on the desk.
+/// Makes the events of one turn on the desk.
 pub(crate) fn change(
     counter: &Counter,
     seat: &mut Seat<Desk, View>,
     number: u32,
-    place: u32,
-    request: &Request,
-) -> Result<Reply, CommitError>
+    from: u32,
+    requests: &[Result<Request, FrameError>],
+    results: &mut [Result<Reply, CommitError>],
+)
     requires counter { seat.old.table_id ≡ counter.now.table_id }
     requires desk { HoldsDesk seat.old.me }
-    requires request { IsRequestAt seat.old.me.0.opening place request.now }
+    requires few { length seat.old.me.0.opening.parcels < 2 ^ 32 }
+    requires requests { AreRequestsAt seat.old.me.0.opening from requests.now }
+    requires long { length results.old ≡ length requests.now }
     ensures seat { (seat.new.table_id ≡ seat.old.table_id) × (seat.new.id ≡ seat.old.id) }
-    ensures changed { Changed seat.old.me number place request.now result seat.new.me }
+    ensures long { length results.new ≡ length results.old }
+    ensures changed { Changed seat.old.me number from requests.now results.new seat.new.me }
 {
     let desk = seat.slot_mut(counter, 0);
-    desk.make(number, place, request)
+    desk.make_all(number, from, requests, results);
 }
 
 /// Gives the desk back, and passes the turn on.
@@ -99,26 +105,29 @@ pub(crate) fn leave(counter: &Counter, seat: &mut Seat<Desk, View>)
     counter.fetch_add::<PassOn>(seat, SERVING, 1);
 }
 
-/// One turn: draws a ticket, waits, makes the event and passes on.
+/// One turn: draws a ticket, waits, makes the events and passes on.
 pub(crate) fn one_turn<R: Wait>(
     rt: &R,
     counter: &Counter,
     seat: &mut Seat<Desk, View>,
     number: u32,
-    place: u32,
-    request: &Request,
-) -> Result<Reply, CommitError>
+    from: u32,
+    requests: &[Result<Request, FrameError>],
+    results: &mut [Result<Reply, CommitError>],
+)
     requires counter { (seat.old.table_id ≡ counter.now.table_id) × (counter.now.table_id.words ≡ 2) }
     requires rests { Rests seat.old.me }
     requires number { seat.old.me.0.number ≡ number }
-    requires request { IsRequestAt seat.old.me.0.opening place request.now }
+    requires few { length seat.old.me.0.opening.parcels < 2 ^ 32 }
+    requires requests { AreRequestsAt seat.old.me.0.opening from requests.now }
+    requires long { length results.old ≡ length requests.now }
     ensures seat { (seat.new.table_id ≡ seat.old.table_id) × (seat.new.id ≡ seat.old.id) }
     ensures rests { Rests seat.new.me }
-    ensures same { SameView seat.old.me.0 seat.new.me.0 }
-    ensures ends { TurnEnds seat.old.me.0 place request.now result seat.new.me.0 }
+    ensures opening { seat.new.me.0.opening ≡ seat.old.me.0.opening }
+    ensures long { length results.new ≡ length results.old }
+    ensures ends { TurnEnds seat.old.me.0.opening (known seat.old.me.0) from requests.now results.new (known seat.new.me.0) }
 {
     enter(rt, counter, seat);
-    let reply = change(counter, seat, number, place, request);
+    change(counter, seat, number, from, requests, results);
     leave(counter, seat);
-    reply
 }
