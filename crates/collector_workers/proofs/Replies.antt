@@ -1,6 +1,7 @@
 -- Replies that stand in a history, and how workers bring them.
-use Rattle.std.proofs.Common.{◌≡◌, ◌⊎◌, inl, inr, ℕ, zero, suc, ◌++◌, ◌∷◌, [], List, All, get_or, set, replicate, slice_get, Option, Some, None, Result, Ok, Err, refl, sym, ap, ◌∙◌, subst}
+use Rattle.std.proofs.Common.{◌≡◌, ◌⊎◌, inl, inr, ℕ, zero, suc, ◌+◌, ◌^◌, ◌<◌, ◌≤◌, length, take, drop, ◌++◌, ◌∷◌, [], List, All, get_or, set, replicate, slice_get, Option, Some, None, Result, Ok, Err, refl, sym, ap, ◌∙◌, subst, arith}
 use Rattle.std.proofs.lemmas.List.Elements.{All-push}
+use Rattle.std.proofs.lemmas.List.{length-take, length-drop}
 use Rattle.std.proofs.lemmas.Option.{same_Some}
 use Rattle.shared_book.specs.declared.parcel.Parcel.{Parcel}
 use Rattle.shared_book.specs.declared.parcel.Reply.{Reply}
@@ -9,11 +10,11 @@ use Rattle.shared_book.specs.declared.parcel.CommitError.TheVariants.{Frame, NoS
 use Rattle.shared_book.specs.declared.turn.Turn.{Turn}
 use Rattle.shared_book.specs.declared.turn.Opening.{Opening}
 use Rattle.shared_book.specs.Turns.{turn_at, reply_in, reply_at, StartsWith}
-use Rattle.shared_book.specs.Passes.{PassView, CommitEnds}
+use Rattle.shared_book.specs.Passes.{PassView, CommitEnds, CommitsAll}
 use Rattle.collector_workers.specs.declared.crew.Committed.{Committed}
-use Rattle.collector_workers.specs.Gathering.{IsReplyAt, IsTold, AreReplies}
+use Rattle.collector_workers.specs.Gathering.{IsReplyAt, IsTold, told_by, AreTold, AreReplies}
 use Rattle.collector_workers.proofs.Histories.{first_stays}
-use Rattle.collector_workers.proofs.Growth.{grows_same, grows_commits}
+use Rattle.collector_workers.proofs.Growth.{grows_same, grows_commits, commits_reply, starts_more}
 
 -- ---- longer histories
 
@@ -52,6 +53,56 @@ commit_grows o v w k parcel (Err Other) h = (grows_same v w h.2).seen
 commit_grows o v w k parcel (Err (Done reply)) h = h.1.seen
 commit_grows o v w k parcel (Err (Take e)) h = h.1.seen
 commit_grows o v w k parcel (Err Place) h = h.1.seen
+
+-- ---- a block of a worker
+
+-- where a commit tells a reply, the history has it
+commit_told : (o : Opening) (v w : PassView) (k : ℕ) (parcel : Parcel) (r : Result Reply CommitError) → CommitEnds o v k parcel r w → IsTold w.seen k (told_by r)
+commit_told o v w k parcel (Ok reply) h = commits_reply o v w k parcel reply h.1
+commit_told o v w k parcel (Err (Frame e)) h = tt
+commit_told o v w k parcel (Err NoSuch) h = tt
+commit_told o v w k parcel (Err Other) h = tt
+commit_told o v w k parcel (Err (Done reply)) h = h.2
+commit_told o v w k parcel (Err (Take e)) h = tt
+commit_told o v w k parcel (Err Place) h = tt
+
+-- after a block the history has grown
+pub block_grows : (o : Opening) (v w : PassView) (at : ℕ) (parcels : List Parcel) (results : List (Result Reply CommitError)) → CommitsAll o v at parcels results w → StartsWith w.seen v.seen
+unfolding CommitsAll
+block_grows o v w at [] [] h = h.seen
+block_grows o v w at [] (r ∷ rs) h = absurd h
+block_grows o v w at (p ∷ ps) [] h = absurd h
+block_grows o v w at (p ∷ ps) (r ∷ rs) h = starts_more v.seen h.0.seen w.seen (commit_grows o v h.0 at p r h.1) (block_grows o h.0 w (at + 1) ps rs h.2)
+
+-- it has each reply that the block tells
+pub block_told : (o : Opening) (v w : PassView) (at : ℕ) (parcels : List Parcel) (results : List (Result Reply CommitError)) → CommitsAll o v at parcels results w → AreTold w.seen at results
+unfolding CommitsAll
+block_told o v w at [] [] h k r is = absurd (cc)
+block_told o v w at [] (s ∷ rs) h k r is = absurd h
+block_told o v w at (p ∷ ps) [] h k r is = absurd h
+block_told o v w at (p ∷ ps) (s ∷ rs) h zero r is =
+    let one = told_stays h.0.seen w.seen at (told_by s) (block_grows o h.0 w (at + 1) ps rs h.2) (commit_told o v h.0 at p s h.1) in
+    let here : at ≡ at + 0 = omega arith in
+    subst (λ (x : Result Reply CommitError). IsTold w.seen (at + 0) (told_by x)) (same_Some s r is) (subst (λ (n : ℕ). IsTold w.seen n (told_by s)) here one)
+block_told o v w at (p ∷ ps) (s ∷ rs) h (suc k) r is =
+    let there : at + 1 + k ≡ at + suc k = omega arith in
+    subst (λ (n : ℕ). IsTold w.seen n (told_by r)) there (block_told o h.0 w (at + 1) ps rs h.2 k r is)
+
+-- each parcel of a block comes to something
+pub block_long : (o : Opening) (v w : PassView) (at : ℕ) (parcels : List Parcel) (results : List (Result Reply CommitError)) → CommitsAll o v at parcels results w → length results ≡ length parcels
+unfolding CommitsAll
+block_long o v w at [] [] h = refl
+block_long o v w at [] (r ∷ rs) h = absurd h
+block_long o v w at (p ∷ ps) [] h = absurd h
+block_long o v w at (p ∷ ps) (r ∷ rs) h = ap suc (block_long o h.0 w (at + 1) ps rs h.2)
+
+pub block_within : (o : Opening) (v w : PassView) (from count : ℕ) (results : List (Result Reply CommitError)) → from < 2 ^ 32 → length o.parcels < 2 ^ 32 → CommitsAll o v from (take count (drop from o.parcels)) results w
+    → from + length results ≤ 2 ^ 32
+block_within o v w from count results small few h =
+    let long = block_long o v w from (take count (drop from o.parcels)) results h in
+    let part = length-take count (drop from o.parcels) in
+    let rest = length-drop from o.parcels in
+    omega arith
 
 -- ---- replies by place
 

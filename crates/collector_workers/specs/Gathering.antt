@@ -6,6 +6,8 @@ use Rattle.std.specs.declared.alloc.Global.{Global}
 use Rattle.transcript_log.specs.Events.{event_of}
 use Rattle.shared_book.specs.declared.parcel.Parcel.{Parcel}
 use Rattle.shared_book.specs.declared.parcel.Reply.{Reply}
+use Rattle.shared_book.specs.declared.parcel.CommitError.{CommitError}
+use Rattle.shared_book.specs.declared.parcel.CommitError.TheVariants.{Done}
 use Rattle.shared_book.specs.declared.turn.Turn.{Turn}
 use Rattle.shared_book.specs.declared.turn.Opening.{Opening}
 use Rattle.shared_book.specs.declared.parts.SharedBook.{SharedBook}
@@ -49,6 +51,16 @@ IsWorkerOf book worker = IsPassOf book worker.pass × All (IsReplyAt (view worke
 abbrev pub IsTold : List Turn → ℕ → Option Reply → Type 0
 IsTold seen place None = ⊤
 IsTold seen place (Some reply) = reply_at place seen ≡ Some reply
+
+-- what a commit tells: the reply of a place that is committed, now or before
+abbrev pub told_by : Result Reply CommitError → Option Reply
+told_by (Ok reply) = Some reply
+told_by (Err (Done reply)) = Some reply
+told_by (Err _) = None
+
+-- the history has each reply that the commits of the places from this one on tell
+abbrev pub AreTold : List Turn → ℕ → List (Result Reply CommitError) → Type 0
+AreTold seen from results = (k : ℕ) (result : Result Reply CommitError) → slice_get results k ≡ Some result → IsTold seen (from + k) (told_by result)
 
 -- the history has each reply that is told, at its place
 abbrev pub AreReplies : List Turn → List (Option Reply) → Type 0

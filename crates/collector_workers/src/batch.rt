@@ -5,7 +5,7 @@ ghost use Rattle.shared_book.specs.Ends.{opening, view, IsPassOf};
 ghost use Rattle.collector_workers.specs.Gathering.{AreMarksOf, AreReplies, Grows, IsTold, Settles, GatherEnds};
 ghost use Rattle.collector_workers.specs.Batch.{CollectEnds};
 
-use crate::crew::{all_places, join_all, split_all, work_all};
+use crate::crew::{all_blocks, join_all, split_all, work_all};
 use crate::gate::Gate;
 use crate::mark::{CollectRefused, Collected, Mark};
 use group_book::Book;
@@ -116,8 +116,16 @@ pub fn gather<R: Threads + Wait + Sync, G: Gate>(
     let mut replies = nothing(alloc, batch.len())?;
     let mut crew = Vec::with_capacity(alloc, workers as usize)?;
     split_all(alloc, shared, first, &mut crew, workers);
-    if let Ok(places) = all_places(rt, alloc, batch.len()) {
-        work_all(rt, shared, crew.as_mut_slice(), batch, &places, gate);
+    if let Ok(blocks) = all_blocks(rt, alloc, batch.len(), gate.block()) {
+        work_all(
+            rt,
+            alloc,
+            shared,
+            crew.as_mut_slice(),
+            batch.len(),
+            &blocks,
+            gate,
+        );
     }
     join_all(shared, first, crew, replies.as_mut_slice());
     mark_all(rt, shared, first, batch, replies.as_slice(), &mut marks);

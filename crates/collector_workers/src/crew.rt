@@ -4,11 +4,11 @@ ghost use Rattle.std.specs.Prelude.{◌≡◌, ◌⊎◌, ◌∷◌, ◌++◌, [
 ghost use Rattle.shared_book.specs.declared.turn.Turn.{Turn};
 ghost use Rattle.shared_book.specs.Ends.{view, IsPassOf};
 ghost use Rattle.std.specs.List.{range_with_len};
-ghost use Rattle.collector_workers.specs.Gathering.{IsReplyAt, AreReplies, IsWorkerOf, numbers_of, SplitsAll, JoinsAll};
+ghost use Rattle.collector_workers.specs.Gathering.{IsReplyAt, IsTold, told_by, AreTold, AreReplies, IsWorkerOf, numbers_of, SplitsAll, JoinsAll};
 
 use crate::gate::Gate;
 use crossbeam_channel::Receiver;
-use shared_book::{Parcel, Pass, Reply, SharedBook};
+use shared_book::{CommitError, Pass, Reply, SharedBook};
 use std::alloc::{AllocError, Global};
 use std::sync::Wait;
 use std::thread;
@@ -28,6 +28,13 @@ pub struct Worker {
     pub committed: Vec<Committed>,
 }
 
+/// The blocks that workers commit: the first places of those that no worker has taken, and the number of parcels in each.
+#[derive(Drop)]
+pub(crate) struct Blocks {
+    places: Receiver<u32>,
+    block: u32,
+}
+
 // A worker that has committed nothing.
 fn new_worker(alloc: Global, pass: Pass) -> Worker
     ensures { (result.pass ≡ pass) × (result.committed.items ≡ []) }
@@ -45,21 +52,23 @@ fn busy_workers(workers: usize, parcels: usize, enough: usize) -> usize
     (parcels / enough.max(1)).max(1).min(parcels).min(workers)
 }
 
-// A channel that holds the numbers of all places, or as many as there is memory for.
-pub(crate) fn all_places<R: Wait>(
+// The blocks of all parcels, or of as many as there is memory for. A block of 0 counts as one of 1.
+pub(crate) fn all_blocks<R: Wait>(
     rt: &R,
     alloc: Global,
-    count: usize,
-) -> Result<Receiver<u32>, AllocError>
-    requires { count < 2 ^ 32 }
+    parcels: usize,
+    block: u32,
+) -> Result<Blocks, AllocError>
+    requires { parcels < 2 ^ 32 }
 {
     let (to, places) = crossbeam_channel::unbounded(alloc)?;
-    for place in 0..count {
+    let block = block.max(1);
+    for place in (0..parcels).step_by(block as usize) {
         if to.send(rt, place as u32).is_err() {
             break;
         }
     }
-    Ok(places)
+    Ok(Blocks { places, block })
 }
 
 // Adds a value to a list, where there is memory for it.
@@ -69,30 +78,61 @@ fn keep<T: Copy>(list: &mut Vec<T>, value: T)
     let _ = list.push(value);
 }
 
-// Commits a place, and keeps its reply. Where there is no memory for it, the caller asks for it again.
-fn commit_place<R: Wait>(
+// The reply of a place that is committed, now or before.
+fn reply_of(came: &Result<Reply, CommitError>) -> Option<Reply>
+    ensures { result ≡ told_by came.now }
+{
+    match came {
+        Ok(reply) => Some(*reply),
+        Err(CommitError::Done(reply)) => Some(*reply),
+        Err(_) => None,
+    }
+}
+
+// Keeps what is told of a place.
+fn keep_told(committed: &mut Vec<Committed>, place: u32, told: Option<Reply>)
+    ensures { (seen : List Turn) → All (IsReplyAt seen) committed.old.items → IsTold seen place told → All (IsReplyAt seen) committed.new.items }
+{
+    if let Some(reply) = told {
+        keep(committed, Committed { place, reply });
+    }
+}
+
+// Keeps the replies of the places from one on.
+fn keep_all(committed: &mut Vec<Committed>, from: u32, results: &[Result<Reply, CommitError>])
+    requires { from + length results.now ≤ 2 ^ 32 }
+    ensures { (seen : List Turn) → All (IsReplyAt seen) committed.old.items → AreTold seen from results.now → All (IsReplyAt seen) committed.new.items }
+{
+    for (index, came) in results.iter().enumerate() {
+        keep_told(committed, from + index as u32, reply_of(came));
+    }
+}
+
+// Commits a block, and keeps the replies of its places. Where there is no memory for it, the caller asks for them again.
+fn commit_block<R: Wait>(
     rt: &R,
+    alloc: Global,
     shared: &SharedBook,
     worker: &mut Worker,
-    place: u32,
-    parcel: &Parcel,
+    from: u32,
+    count: u32,
 )
     requires { IsWorkerOf shared.now worker.old }
     ensures worker { IsWorkerOf shared.now worker.new }
     ensures number { (view worker.new.pass).number ≡ (view worker.old.pass).number }
 {
-    if let Ok(reply) = shared.commit(rt, &mut worker.pass, place, parcel) {
-        keep(&mut worker.committed, Committed { place, reply });
+    if let Ok(results) = shared.commit_block(rt, alloc, &mut worker.pass, from, count) {
+        keep_all(&mut worker.committed, from, results.as_slice());
     }
 }
 
-// One worker: it receives a place, calls the gate and commits, until no place is left.
+// One worker: it receives the first place of a block, calls the gate and commits the block, until no block is left.
 fn work<R: Wait, G: Gate>(
     rt: &R,
+    alloc: Global,
     shared: &SharedBook,
     worker: &mut Worker,
-    batch: &[Parcel],
-    places: &Receiver<u32>,
+    blocks: &Blocks,
     gate: &G,
     number: u32,
 )
@@ -101,24 +141,22 @@ fn work<R: Wait, G: Gate>(
     ensures number { (view worker.new.pass).number ≡ (view worker.old.pass).number }
 {
     'places: for _ in rt.forever() {
-        let Ok(place) = places.recv(rt) else {
+        let Ok(place) = blocks.places.recv(rt) else {
             return;
         };
-        if let Some(parcel) = batch.get(place as usize) {
-            gate.at(number);
-            commit_place(rt, shared, worker, place, parcel);
-        }
+        gate.at(number);
+        commit_block(rt, alloc, shared, worker, place, blocks.block);
     }
     unreachable!()
 }
 
-// Workers beside each other, until no place is left. One of them works on the calling thread.
+// Workers beside each other, until no block is left. One of them works on the calling thread.
 fn work_beside<R: Threads + Wait + Sync, G: Gate>(
     rt: &R,
+    alloc: Global,
     shared: &SharedBook,
     workers: &mut [Worker],
-    batch: &[Parcel],
-    places: &Receiver<u32>,
+    blocks: &Blocks,
     gate: &G,
 )
     requires workers { All (IsWorkerOf shared.now) workers.old }
@@ -135,18 +173,19 @@ fn work_beside<R: Threads + Wait + Sync, G: Gate>(
             &|i: usize, worker: &mut Worker|
                 requires { IsWorkerOf shared.now worker.now × (i < 2 ^ 16) }
                 ensures { IsWorkerOf shared.entry.now worker.exit.now × ((view worker.exit.now.pass).number ≡ (view worker.entry.now.pass).number) }
-            { work(rt, shared, worker, batch, places, gate, i as u32 + 1) },
+            { work(rt, alloc, shared, worker, blocks, gate, i as u32 + 1) },
         );
     }
 }
 
-// The workers that have enough to do, beside each other, until no place is left.
+// The workers that have enough to do, beside each other, until no block is left.
 pub(crate) fn work_all<R: Threads + Wait + Sync, G: Gate>(
     rt: &R,
+    alloc: Global,
     shared: &SharedBook,
     workers: &mut [Worker],
-    batch: &[Parcel],
-    places: &Receiver<u32>,
+    parcels: usize,
+    blocks: &Blocks,
     gate: &G,
 )
     requires workers { All (IsWorkerOf shared.now) workers.old }
@@ -154,9 +193,9 @@ pub(crate) fn work_all<R: Threads + Wait + Sync, G: Gate>(
     ensures workers { All (IsWorkerOf shared.now) workers.new }
     ensures numbers { numbers_of workers.new ≡ numbers_of workers.old }
 {
-    let count = busy_workers(workers.len(), batch.len(), gate.enough());
+    let count = busy_workers(workers.len(), parcels, gate.enough());
     let (busy, _idle) = workers.split_at_mut(count);
-    work_beside(rt, shared, busy, batch, places, gate);
+    work_beside(rt, alloc, shared, busy, blocks, gate);
 }
 
 // Splits a pass for each worker from the first.
