@@ -335,6 +335,50 @@ fn gate_comes_before_each_commit(rt: HostRuntime) -> Result<(), Fail> {
     Ok(())
 }
 
+// Has turns of two parcels, and counts the calls.
+#[derive(Drop)]
+struct Pairs {
+    calls: AtomicU64,
+}
+
+impl Gate for Pairs {
+    fn at(&self, _worker: u32) {
+        self.calls.fetch_add(1, Ordering::SeqCst);
+    }
+
+    fn block(&self) -> u32 {
+        2
+    }
+}
+
+// Five parcels are two turns of two and one of one, whoever has them.
+#[test]
+fn five_parcels_have_three_turns(rt: HostRuntime) -> Result<(), Fail> {
+    let alloc = rt.alloc();
+    let gate = Pairs {
+        calls: AtomicU64::new(0),
+    };
+    let batch = vec![in alloc;
+        parcel(0, WORDS[0]),
+        parcel(1, WORDS[1]),
+        Parcel::Bytes([0; 52]),
+        parcel(2, WORDS[2]),
+        Parcel::Close { group: 1, round: 0 },
+    ]?;
+    let Ok(collected) = collect(&rt, alloc, sent_book(alloc)?, batch, 2, &gate) else {
+        panic!(rt; "no memory")
+    };
+    let fresh = Mark::Made(Reply::Took(Verdict::Fresh));
+    let bad = Mark::Bad(FrameError::Magic);
+    assert_eq!(rt;
+        collected.replies.as_slice(),
+        [fresh, fresh, bad, fresh, Mark::OutOfPlan].as_slice()
+    );
+    assert_eq!(rt; collected.book.journal().len(), 6);
+    assert_eq!(rt; gate.calls.load(Ordering::SeqCst), 3);
+    Ok(())
+}
+
 // Has a worker for each three parcels, and counts the calls of others than worker 1.
 #[derive(Drop)]
 struct Threes {

@@ -1,22 +1,25 @@
 //! A book after the Sends of three readings, whose frames are the parcels.
 
-ghost use Rattle.std.specs.Prelude.{◌≡◌, ◌<◌, IfOk, []};
-ghost use Rattle.shared_book.specs.Passes.{new_pass};
+ghost use Rattle.std.specs.Prelude.{◌≡◌, ◌<◌, ◌≤◌, IfOk, [], length};
+ghost use Rattle.shared_book.specs.Passes.{new_pass, SamePass};
 ghost use Rattle.shared_book.specs.Ends.{view, IsPassOf};
 
 use crate::fixtures::{book_of_north, parcel, send_reading};
 use group_book::Book;
+use meter_frames::FrameError;
 use round_machine::Verdict;
-use shared_book::{CommitError, Pass, Reply, SharedBook};
+use shared_book::{CommitError, Parcel, Pass, Reply, SharedBook};
 use std::alloc::Global;
+use std::process::Abort;
+use std::sync::Wait;
 use std::test::Fail;
 use std::thread;
 
 const FRESH: Reply = Reply::Took(Verdict::Fresh);
 
-/// A book after the Sends of three readings, with room for three lines more.
+/// A book after the Sends of three readings, with room for four lines more.
 fn sent(alloc: Global) -> Result<Book, Fail> {
-    let mut book = book_of_north(alloc, &[10, 10, 10], 6)?;
+    let mut book = book_of_north(alloc, &[10, 10, 10], 7)?;
     for meter in 0..3u8 {
         send_reading(&mut book, meter, 100 + u64::from(meter))?;
     }
@@ -26,9 +29,16 @@ fn sent(alloc: Global) -> Result<Book, Fail> {
 fn shared(alloc: Global) -> Result<(SharedBook, Pass), Fail>
     ensures { IfOk result (λ r. IsPassOf r.0 r.1 × (view r.1 ≡ new_pass 0 [])) }
 {
+    shared_for(alloc, &[parcel(0, 100), parcel(1, 101), parcel(2, 102)])
+}
+
+fn shared_for(alloc: Global, parcels: &[Parcel]) -> Result<(SharedBook, Pass), Fail>
+    requires { length parcels.now ≤ 4 }
+    ensures { IfOk result (λ r. IsPassOf r.0 r.1 × (view r.1 ≡ new_pass 0 [])) }
+{
     let book = sent(alloc)?;
-    let parcels = Vec::from_slice(alloc, &[parcel(0, 100), parcel(1, 101), parcel(2, 102)])?;
-    if book.spare() < 3 {
+    let parcels = Vec::from_slice(alloc, parcels)?;
+    if book.spare() < 4 {
         return Err(Fail::new("no room"));
     }
     match SharedBook::begin(alloc, book, parcels) {
@@ -49,6 +59,56 @@ fn place_committed_again(rt: HostRuntime) -> Result<(), Fail> {
     assert_eq!(rt;
         shut.replies.as_slice(),
         [Some(FRESH), None, Some(FRESH)].as_slice()
+    );
+    Ok(())
+}
+
+/// Commits a block, and looks for what its parcels come to.
+fn check_block(
+    rt: &(impl Wait + Abort),
+    alloc: Global,
+    book: &SharedBook,
+    pass: &mut Pass,
+    block: (u32, u32),
+    answers: &[Result<Reply, CommitError>],
+) -> Result<(), Fail>
+    requires { IsPassOf book.now pass.old }
+    ensures { IsPassOf book.now pass.new × SamePass (view pass.old) (view pass.new) }
+{
+    let (from, count) = block;
+    let came = book.commit_block(rt, alloc, pass, from, count)?;
+    assert!(rt; came.as_slice() == answers, "block from {from}");
+    Ok(())
+}
+
+/// The second parcel is no frame. The second block begins with a place of the first, and the third behind all places.
+#[test]
+fn blocks_by_rows(rt: HostRuntime) -> Result<(), Fail> {
+    let alloc = rt.alloc();
+    let parcels = [
+        parcel(0, 100),
+        Parcel::Bytes([0; 52]),
+        parcel(1, 101),
+        parcel(2, 102),
+    ];
+    let (book, mut pass) = shared_for(alloc, &parcels)?;
+    let bad = Err(CommitError::Frame(FrameError::Magic));
+    check_block(
+        &rt,
+        alloc,
+        &book,
+        &mut pass,
+        (0, 3),
+        &[Ok(FRESH), bad, Ok(FRESH)],
+    )?;
+    let again = Err(CommitError::Done(FRESH));
+    check_block(&rt, alloc, &book, &mut pass, (2, 10), &[again, Ok(FRESH)])?;
+    check_block(&rt, alloc, &book, &mut pass, (u32::MAX, u32::MAX), &[])?;
+    let shut = book.shut(pass);
+    assert_eq!(rt; shut.book.journal().len(), 6);
+    assert_eq!(rt;
+        shut.passes.as_slice(),
+        [Some(0), None, Some(0), Some(0)].as_slice()
     );
     Ok(())
 }
