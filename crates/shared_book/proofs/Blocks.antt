@@ -18,7 +18,7 @@ use Rattle.shared_book.proofs.Turning.{turns_by-append, own_turn}
 
 -- ---- one commit
 
--- what a history may have more than a pass has seen, with no turn of the pass
+-- a history that begins with what a pass has seen, and has no more turns of the pass
 record Ahead (v : PassView) (before : List Turn) : Type 0 where
   grew : StartsWith before v.seen
   earlier : turns_by v.number before ≡ v.mine
@@ -30,9 +30,11 @@ record Knows (v : PassView) (history : List Turn) (w : PassView) : Type 0 where
   mine : w.mine ≡ turns_by v.number history
   same : SamePass v w
 
+-- the same where no turn was made
 knows : (v : PassView) (seen before : List Turn) (w : PassView) → seen ≡ before → Knows v seen w → Knows v before w
 knows v seen before w e k = subst (λ (l : List Turn). Knows v l w) e k
 
+-- a pass that has made no turn has seen the history
 sees : (v : PassView) (before : List Turn) (w : PassView) → Ahead v before → Knows v before w → Sees v w
 sees v before w a k = record {
   seen = subst (λ (l : List Turn). StartsWith l v.seen) (sym k.seen) a.grew;
@@ -42,6 +44,7 @@ sees v before w a k = record {
   alone = λ z. k.seen ∙ a.alone z;
 }
 
+-- what one commit comes to, where the pass was behind the history and then knows it
 commits : (o : Opening) (v : PassView) (before : List Turn) (place : ℕ) (parcel : Parcel) (request : Request) (result : Result Reply CommitError) (seen : List Turn) (w : PassView) → Ahead v before
     → slice_get o.parcels place ≡ Some parcel → request_of parcel ≡ Ok request → Adds o v.number place before (Ok request) result seen → Knows v seen w → CommitEnds o v place parcel result w
 commits o v before place parcel request (Ok reply) seen w a at asks h k =

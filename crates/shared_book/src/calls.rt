@@ -56,6 +56,12 @@ fn find(parcels: &[Parcel], at: u32, parcel: &Parcel) -> Result<(), CommitError>
     }
 }
 
+fn is_same(there: &Parcel, parcel: &Parcel) -> bool
+    ensures { MatchBool result (there.now ≡ parcel.now) (there.now ≢ parcel.now) }
+{
+    *there == *parcel
+}
+
 /// The parcels from a place on, at most so many.
 fn block(parcels: &[Parcel], from: u32, count: u32) -> &[Parcel]
     ensures { result.now ≡ take count (drop from parcels.now) }
@@ -77,12 +83,6 @@ fn requests_of(
         requests.push_reserved(parcel.request());
     }
     Ok(requests)
-}
-
-fn is_same(there: &Parcel, parcel: &Parcel) -> bool
-    ensures { MatchBool result (there.now ≡ parcel.now) (there.now ≢ parcel.now) }
-{
-    *there == *parcel
 }
 
 impl SharedBook {

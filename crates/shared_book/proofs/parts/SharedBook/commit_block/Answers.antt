@@ -13,8 +13,11 @@ pub turn-requires-clause-requests : goal.turn-requires-clause-requests
 turn-requires-clause-requests g c =
     let o = opening c.args.self.now in
     let all : c.deref.result.now ≡ o.parcels = c.deref.ensures.value ∙ sym c.args.self.now.parcels_are in
-    let asks : c.as_slice.result.now ≡ map request_of (take c.args.count (drop c.args.from o.parcels)) = c.as_slice.ensures.value ∙ c.in_ok-requests.ensures ∙ ap (map request_of) (c.block.ensures ∙ ap (λ (l : List Parcel). take c.args.count (drop c.args.from l)) all) in
-    (take c.args.count (drop c.args.from o.parcels), block_parcels o c.args.from c.args.count, sym asks)
+    let parcels = take c.args.count (drop c.args.from o.parcels) in
+    let block : c.block.result.now ≡ parcels = c.block.ensures ∙ ap (λ (l : List Parcel). take c.args.count (drop c.args.from l)) all in
+    let read : c.as_slice.result.now ≡ map request_of c.block.result.now = c.as_slice.ensures.value ∙ c.in_ok-requests.ensures in
+    let asks : c.as_slice.result.now ≡ map request_of parcels = read ∙ ap (map request_of) block in
+    (parcels, block_parcels o c.args.from c.args.count, sym asks)
 
 pub returns-clause-ends : goal.returns-clause-ends
 returns-clause-ends g c =
@@ -23,7 +26,9 @@ returns-clause-ends g c =
     let w = view c.turn.new.pass in
     let parcels = take c.args.count (drop c.args.from o.parcels) in
     let all : c.deref.result.now ≡ o.parcels = c.deref.ensures.value ∙ sym c.args.self.now.parcels_are in
-    let asks : c.as_slice.result.now ≡ map request_of parcels = c.as_slice.ensures.value ∙ c.in_ok-requests.ensures ∙ ap (map request_of) (c.block.ensures ∙ ap (λ (l : List Parcel). take c.args.count (drop c.args.from l)) all) in
+    let block : c.block.result.now ≡ parcels = c.block.ensures ∙ ap (λ (l : List Parcel). take c.args.count (drop c.args.from l)) all in
+    let read : c.as_slice.result.now ≡ map request_of c.block.result.now = c.as_slice.ensures.value ∙ c.in_ok-requests.ensures in
+    let asks : c.as_slice.result.now ≡ map request_of parcels = read ∙ ap (map request_of) block in
     let same : take c.in_ok-results.results.len (c.turn.new.results ++ drop (length c.turn.new.results) c.in_ok-results.results.items) ≡ c.turn.new.results =
     (let items = c.in_ok-results.results.ok.0 in let slice = ap length c.as_mut_slice.ensures.value in let turn = c.turn.ensures.long in
     take-append-le c.in_ok-results.results.len c.turn.new.results (drop (length c.turn.new.results) c.in_ok-results.results.items) (omega arith) ∙ take_all c.in_ok-results.results.len c.turn.new.results (omega arith)) in
