@@ -98,23 +98,7 @@ entries_end rows i n entries h = rw (rows_past rows i h) (after_none entries)
 
 -- ---- want of memory
 
--- what holds but for want of memory may be weakened
-pub but_memory : {A B : Type 0} (what : FileCause) → (A → B) → ButMemory what A → ButMemory what B
-but_memory cause.Memory f a = tt
-but_memory cause.Row f a = f a
-but_memory cause.Fields f a = f a
-but_memory cause.Number f a = f a
-but_memory cause.Name f a = f a
-but_memory cause.Hex f a = f a
-but_memory (cause.Plan e) f a = f a
-but_memory (cause.Key e) f a = f a
-but_memory cause.LaneSpan f a = f a
-but_memory cause.Range f a = f a
-but_memory cause.Short f a = f a
-but_memory cause.Extra f a = f a
-but_memory (cause.Member e) f a = f a
-but_memory cause.NotMember f a = f a
-
+-- what always holds
 pub always : {A : Type 0} (what : FileCause) → A → ButMemory what A
 always cause.Memory a = tt
 always cause.Row a = a
@@ -130,3 +114,24 @@ always cause.Short a = a
 always cause.Extra a = a
 always (cause.Member e) a = a
 always cause.NotMember a = a
+
+-- what follows from what holds but for want of memory
+pub through_memory : {A : Type 0} (B : Type 0) (what : FileCause) → (A → ButMemory what B) → ButMemory what A → ButMemory what B
+through_memory B cause.Memory f a = tt
+through_memory B cause.Row f a = f a
+through_memory B cause.Fields f a = f a
+through_memory B cause.Number f a = f a
+through_memory B cause.Name f a = f a
+through_memory B cause.Hex f a = f a
+through_memory B (cause.Plan e) f a = f a
+through_memory B (cause.Key e) f a = f a
+through_memory B cause.LaneSpan f a = f a
+through_memory B cause.Range f a = f a
+through_memory B cause.Short f a = f a
+through_memory B cause.Extra f a = f a
+through_memory B (cause.Member e) f a = f a
+through_memory B cause.NotMember f a = f a
+
+-- what holds but for want of memory may be weakened
+pub but_memory : {A B : Type 0} (what : FileCause) → (A → B) → ButMemory what A → ButMemory what B
+but_memory {B = B} what f a = through_memory B what (λ x. always what (f x)) a

@@ -5,6 +5,7 @@ pub mod FormLemmas
 pub mod GatherLemmas
 pub mod KeyOrder
 pub mod MissingLemmas
+pub mod PieceLemmas
 pub mod PlainRowLemmas
 pub mod PlainTexts
 pub mod PlanLemmas

@@ -3,6 +3,7 @@ pub mod Faults
 pub mod Filling
 pub mod Gathering
 pub mod MissingKeys
+pub mod Pieces
 pub mod PlanFiles
 pub mod PlainRows
 pub mod PlanForms

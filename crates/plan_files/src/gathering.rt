@@ -1,16 +1,13 @@
 //! Keys, lanes and members, row by row.
-ghost use Rattle.std.specs.Prelude.{◌≡◌, ◌≤◌, ◌<◌, ◌+◌, ◌^◌, IfErr, IfOk, Ok, Err, length, map};
-ghost use Rattle.csv.specs.Records.{fields_of};
+ghost use Rattle.std.specs.Prelude.{◌≡◌, ◌≤◌, ◌<◌, ◌+◌, ◌^◌, IfErr, IfOk, Ok, Err, length};
 ghost use Rattle.group_plan.specs.Plans.{last_tick};
 ghost use Rattle.pair_keys.specs.Keys.{keys_of};
 ghost use Rattle.pair_keys.specs.declared.KeyId.TheVariants.{Own, Pair};
 ghost use Rattle.plan_files.specs.Faults.{ButMemory};
-ghost use Rattle.plan_files.specs.PlanForms.{entries_from};
 ghost use Rattle.plan_files.specs.Gathering.{HangsLane, PutsKey, Settles, TakesEntry, gather, gathered_by, member_fault, nothing, spans_of};
 
-use crate::entry::{Entry, read_entry};
+use crate::entry::Entry;
 use crate::fault::{FileCause, FileError, NO_MEMORY};
-use csv::ByteRecord;
 use group_plan::{Plan, Span, SpanError};
 use link_lanes::LaneRow;
 use pair_keys::KeyPile;
@@ -22,30 +19,6 @@ pub struct Gathering {
     pub keys: KeyPile,
     pub lanes: Vec<LaneRow>,
     pub members: u32,
-}
-
-/// What these rows say, up to the first fault of form. The first of them is row `first` of the file.
-#[tactic(auto, using(crate::proofs::FormLemmas::entries_end))]
-pub fn read_entries(alloc: Global, first: u32, rows: &[ByteRecord]) -> Result<Vec<Entry>, FileError>
-    requires { first + length rows.now ≤ 2 ^ 28 + 2 }
-    ensures read { IfOk result (λ entries. entries_from first (map fields_of rows.now) ≡ Ok entries.items) }
-    ensures few { IfOk result (λ entries. length entries.items ≤ length rows.now) }
-    ensures fault { IfErr result (λ fault. ButMemory fault.cause (entries_from first (map fields_of rows.now) ≡ Err fault)) }
-{
-    let mut entries = Vec::new(alloc);
-    let mut number = first;
-    for row in rows {
-        match read_entry(alloc, number, row) {
-            Ok(entry) => {
-                if entries.push(entry).is_err() {
-                    return Err(NO_MEMORY);
-                }
-            }
-            Err(cause) => return Err(FileError { row: number, cause }),
-        }
-        number += 1;
-    }
-    Ok(entries)
 }
 
 /// The spans of the member rows, in order.

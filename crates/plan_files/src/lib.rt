@@ -6,6 +6,7 @@ mod fault;
 mod gathering;
 mod head;
 pub mod laws;
+mod pieces;
 mod plan;
 mod readings;
 mod row;

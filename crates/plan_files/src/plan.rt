@@ -9,14 +9,16 @@ ghost use Rattle.plan_files.specs.PlanFiles.{PlanEnds, completed, plan_from, pla
 
 use crate::entry::Entry;
 use crate::fault::{FileCause, FileError, NO_MEMORY};
-use crate::gathering::{Gathering, gather, member_spans, read_entries, settle};
+use crate::gathering::{Gathering, gather, member_spans, settle};
 use crate::head::{Head, read_groups, read_head};
+use crate::pieces::read_entries;
 use crate::table::{rows, rows_from};
 use csv::ByteRecord;
 use group_plan::{GroupPlan, Plan};
 use link_lanes::LaneRow;
 use pair_keys::{KeyError, KeyId, KeyPile, KeyTable};
 use std::alloc::Global;
+use std::thread::Threads;
 
 /// What a plan file says.
 #[derive(Drop)]
@@ -104,7 +106,11 @@ fn with_entries(
 }
 
 /// What the rows of a file say.
-fn plan_from(alloc: Global, rows: &[ByteRecord]) -> Result<PlanFile, FileError>
+fn plan_from(
+    rt: &(impl Threads + Sync),
+    alloc: Global,
+    rows: &[ByteRecord],
+) -> Result<PlanFile, FileError>
     requires { length rows.now ≤ 2 ^ 28 + 1 }
     ensures file { PlanEnds (plan_from (map fields_of rows.now)) result }
     ensures same { IfOk result (λ file. (table_of file.keys).plan ≡ file.plan) }
@@ -112,14 +118,18 @@ fn plan_from(alloc: Global, rows: &[ByteRecord]) -> Result<PlanFile, FileError>
     let head = read_head(rows)?;
     let groups = read_groups(alloc, rows_from(rows, 3))?;
     let first = 4 + groups.len() as u32;
-    let entries = read_entries(alloc, first, rows_from(rows, 3 + groups.len()))?;
+    let entries = read_entries(rt, alloc, first, rows_from(rows, 3 + groups.len()))?;
     let plan = stated_plan(alloc, head, &groups)?;
     with_entries(alloc, plan, first, entries)
 }
 
 /// What the bytes of a plan file say, or their first fault.
 #[tactic(auto, unfolding(crate::specs::PlanFiles::plan_of))]
-pub fn read_plan(alloc: Global, bytes: &[u8]) -> Result<PlanFile, FileError>
+pub fn read_plan(
+    rt: &(impl Threads + Sync),
+    alloc: Global,
+    bytes: &[u8],
+) -> Result<PlanFile, FileError>
     requires { length bytes.now ≤ 2 ^ 28 }
     ensures file { PlanEnds (plan_of bytes.now) result }
     ensures same { IfOk result (λ file. (table_of file.keys).plan ≡ file.plan) }
@@ -127,5 +137,5 @@ pub fn read_plan(alloc: Global, bytes: &[u8]) -> Result<PlanFile, FileError>
     let Ok(rows) = rows(alloc, bytes) else {
         return Err(NO_MEMORY);
     };
-    plan_from(alloc, rows.as_slice())
+    plan_from(rt, alloc, rows.as_slice())
 }

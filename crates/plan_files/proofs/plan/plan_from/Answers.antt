@@ -8,21 +8,21 @@ use Rattle.plan_files.proofs.PlanLemmas.{IsBegun, IsFormed, bad_groups, bad_head
 use Rattle.plan_files.proofs.plan.plan_from.Goals as goal
 
 pub returns-in_err-head-clause-file : goal.returns-in_err-head-clause-file
-returns-in_err-head-clause-file c =
+returns-in_err-head-clause-file g c =
     let error = c.in_err-head.field-0.0 in
     let wrong = bad_head (map fields_of c.args.rows.now) error (sym c.read_head.ensures.value ∙ c.in_err-head.was) in
     let answered : Err error ≡ c.from_residual.result = search rules in
     subst (λ r. PlanEnds (plan_from (map fields_of c.args.rows.now)) r) answered (always error.cause wrong)
 
 pub returns-in_err-groups-clause-file : goal.returns-in_err-groups-clause-file
-returns-in_err-groups-clause-file c =
+returns-in_err-groups-clause-file g c =
     let error = c.in_err-groups.field-0.0 in
     let wrong = bad_groups (map fields_of c.args.rows.now) (map fields_of c.rows_from.result.now) c.in_ok-head.head error (sym c.read_head.ensures.value ∙ c.in_ok-head.was) c.rows_from.ensures.rest c.in_err-groups.ensures.fault in
     let answered : Err error ≡ c.from_residual-in_err-groups.result = search rules in
     subst (λ r. PlanEnds (plan_from (map fields_of c.args.rows.now)) r) answered wrong
 
 pub returns-in_err-entries-clause-file : goal.returns-in_err-entries-clause-file
-returns-in_err-entries-clause-file c =
+returns-in_err-entries-clause-file g c =
     let rows = map fields_of c.args.rows.now in
     let groups = c.in_ok-groups.groups.items in
     let begun : IsBegun rows c.in_ok-head.head groups = record {
@@ -38,7 +38,7 @@ returns-in_err-entries-clause-file c =
     subst (λ r. PlanEnds (plan_from rows) r) answered wrong
 
 pub returns-in_err-plan-clause-file : goal.returns-in_err-plan-clause-file
-returns-in_err-plan-clause-file c =
+returns-in_err-plan-clause-file g c =
     let rows = map fields_of c.args.rows.now in
     let groups = c.in_ok-groups.groups.items in
     let begun : IsBegun rows c.in_ok-head.head groups = record {
@@ -60,7 +60,7 @@ returns-in_err-plan-clause-file c =
     subst (λ r. PlanEnds (plan_from rows) r) answered wrong
 
 pub returns-clause-file : goal.returns-clause-file
-returns-clause-file c =
+returns-clause-file g c =
     let rows = map fields_of c.args.rows.now in
     let groups = c.in_ok-groups.groups.items in
     let begun : IsBegun rows c.in_ok-head.head groups = record {

@@ -2,7 +2,7 @@ use Rattle.std.proofs.Common.{◌≡◌, ◌+◌, length, map, drop}
 use Rattle.csv.specs.Records.{fields_of}
 use Rattle.plan_files.proofs.FormLemmas.{after}
 use Rattle.plan_files.specs.PlanForms.{entries_from}
-use Rattle.plan_files.proofs.gathering.read_entries.Given as goal
+use Rattle.plan_files.proofs.pieces.read_piece.Given as goal
 
 -- the rows so far are the entries
 abbrev pub invariant-loop-row : goal.invariant-loop-row

@@ -4,7 +4,7 @@ use Rattle.csv.specs.Records.{fields_of}
 use Rattle.plan_files.specs.PlanForms.{entries_from}
 use Rattle.plan_files.specs.PlanRows.{entry_of}
 use Rattle.plan_files.proofs.FormLemmas.{after, but_memory, entries_fault, entries_more}
-use Rattle.plan_files.proofs.gathering.read_entries.Goals as goal
+use Rattle.plan_files.proofs.pieces.read_piece.Goals as goal
 
 pub returns-in-Err-clause-fault : goal.returns-in-Err-clause-fault
 returns-in-Err-clause-fault c =
