@@ -8,6 +8,7 @@ use row_fixtures::reading_tag;
 use std::alloc::{AllocError, Global};
 use std::process::Abort;
 use std::test::Fail;
+use std::thread::Threads;
 
 // The rows of the plain plan. A Z stands for 64 zeros.
 static ROWS: [&str; 10] = [
@@ -60,18 +61,18 @@ fn plan_file(
     Ok(file)
 }
 
-fn read(alloc: Global, bytes: &[u8]) -> Result<PlanFile, FileError> {
+fn read(rt: &(impl Threads + Sync), alloc: Global, bytes: &[u8]) -> Result<PlanFile, FileError> {
     if bytes.len() > 1 << 28 {
         return Err(FileError {
             row: 0,
             cause: FileCause::Memory,
         });
     }
-    read_plan(alloc, bytes)
+    read_plan(rt, alloc, bytes)
 }
 
-fn fault_of(alloc: Global, bytes: &[u8]) -> FileError {
-    match read(alloc, bytes) {
+fn fault_of(rt: &(impl Threads + Sync), alloc: Global, bytes: &[u8]) -> FileError {
+    match read(rt, alloc, bytes) {
         Ok(_) => FileError {
             row: 0,
             cause: FileCause::Extra,
@@ -341,7 +342,7 @@ fn first_faults_of_plans(rt: HostRuntime) -> Result<(), Fail> {
         let (from, until, text, more, row, cause) = *case;
         let file = plan_file(rt.alloc(), from, until, text, more)?;
         assert_eq!(rt;
-            fault_of(rt.alloc(), file.as_slice()),
+            fault_of(&rt, rt.alloc(), file.as_slice()),
             FileError { row, cause },
             "{text} {more}"
         );
@@ -377,7 +378,10 @@ fn accepted_plans(rt: HostRuntime) -> Result<(), Fail> {
     for case in ACCEPTED.iter() {
         let (from, until, text, more) = *case;
         let file = plan_file(rt.alloc(), from, until, text, more)?;
-        assert!(rt; read(rt.alloc(), file.as_slice()).is_ok(), "{text} {more}");
+        assert!(rt;
+            read(&rt, rt.alloc(), file.as_slice()).is_ok(),
+            "{text} {more}"
+        );
     }
     Ok(())
 }
@@ -416,11 +420,87 @@ fn value_of_a_plan(rt: HostRuntime) -> Result<(), Fail> {
         "rounds,3\nwindows,4,5\ngroup,east,2,2\nmember,0,1,1,3",
         "lane,seeded,1:2:3:4,0,43\nown,0,0,00000000000000000000000000000000000000000000000000000000000000f1\nown,0,1,00000000000000000000000000000000000000000000000000000000000000F2\npair,0,0,1,0300000000000000000000000000000000000000000000000000000000000000\nlane,clear,,2,2",
     )?;
-    let Ok(value) = read(rt.alloc(), file.as_slice()) else {
+    let Ok(value) = read(&rt, rt.alloc(), file.as_slice()) else {
         panic!(rt; "refused")
     };
     check_plan(&rt, &value.plan);
     check_lanes(&rt, &value.lanes);
     check_keys(&rt, &value.keys);
+    Ok(())
+}
+
+// Adds the row of a pair's key, with one digit too many where the pair is one of these.
+fn add_pair(
+    alloc: Global,
+    file: &mut Vec<u8>,
+    low: u32,
+    high: u32,
+    faulty: [(u32, u32); 2],
+) -> Result<(), AllocError> {
+    let text = format!(in alloc; "pair,0,{low},{high},Z")?;
+    add(file, &text)?;
+    if faulty[0] == (low, high) || faulty[1] == (low, high) {
+        add(file, "0")?;
+    }
+    add(file, "\n")
+}
+
+// Adds the rows of the keys that a meter shares with those after it.
+fn add_pairs(
+    alloc: Global,
+    file: &mut Vec<u8>,
+    low: u32,
+    faulty: [(u32, u32); 2],
+) -> Result<(), AllocError> {
+    for high in 0..92 {
+        if high > low {
+            add_pair(alloc, file, low, high, faulty)?;
+        }
+    }
+    Ok(())
+}
+
+// Adds the rows of the own keys of 92 meters.
+fn add_own_keys(alloc: Global, file: &mut Vec<u8>) -> Result<(), AllocError> {
+    for meter in 0..92 {
+        let text = format!(in alloc; "own,0,{meter},Z\n")?;
+        add(file, &text)?;
+    }
+    Ok(())
+}
+
+// A plan of 92 meters. Rows 5 to 96 are their own keys, and rows 97 to 4,282 the keys of their pairs.
+fn long_plan(alloc: Global, faulty: [(u32, u32); 2]) -> Result<Vec<u8>, AllocError> {
+    let mut file = plan_file(alloc, 2, 10, "rounds,1\nwindows,1,2\ngroup,north,92,2", "")?;
+    add_own_keys(alloc, &mut file)?;
+    for low in 0..92 {
+        add_pairs(alloc, &mut file, low, faulty)?;
+    }
+    Ok(file)
+}
+
+// Two pairs whose keys are faulty, and the row of the first. Before those of meter 72 there are 91 + 90 + .. + 20 = 3,996
+// rows of pairs, so its first is row 97 + 3,996 = 4,093, that of meters 72 and 73. The first 4,096 rows after the group
+// end with row 4,100.
+static LONG_FAULTS: [((u32, u32), (u32, u32), u32); 4] = [
+    ((90, 91), (90, 91), 4282),
+    ((72, 81), (90, 91), 4101),
+    ((72, 80), (72, 81), 4100),
+    ((0, 1), (90, 91), 97),
+];
+
+#[test]
+fn plans_of_many_keys(rt: HostRuntime) -> Result<(), Fail> {
+    for case in LONG_FAULTS.iter() {
+        let (first, second, row) = *case;
+        let file = long_plan(rt.alloc(), [first, second])?;
+        let cause = FileCause::Hex;
+        assert_eq!(rt;
+            fault_of(&rt, rt.alloc(), file.as_slice()),
+            FileError { row, cause }
+        );
+    }
+    let file = long_plan(rt.alloc(), [(0, 0), (0, 0)])?;
+    assert!(rt; read(&rt, rt.alloc(), file.as_slice()).is_ok());
     Ok(())
 }
