@@ -6,7 +6,7 @@ use link_lanes::Rack;
 use round_machine::Ending;
 use row_fixtures::{keys_of_north, plan_of_north, table};
 use std::test::Fail;
-use tick_run::run_plan;
+use tick_run::{Finished, run_plan};
 use transcript_log::{Line, Lines};
 
 // Whether this is the last line.
@@ -28,14 +28,15 @@ fn three_meters_total_60(rt: HostRuntime) -> Result<(), Fail> {
     let Ok(done) = run_plan(&rt, alloc, &plan, &readings, &keys, &mut rack, 2, &Free) else {
         return Err(Fail::new("want of memory"));
     };
-    // 9 Sends, 9 Takes, a Close and an End.
-    assert_eq!(&rt; done.transcript.len(), 20);
+    let Finished { book, transcript } = done;
     assert_eq!(&rt; rack.posts().len(), 9);
     let end = Line::End {
         group: 0,
         round: 0,
         ending: Ending::Total(60),
     };
-    assert!(&rt; ends_with(done.book.journal(), &end));
+    assert!(&rt; ends_with(book.journal(), &end));
+    // 9 Sends, 9 Takes, a Close and an End.
+    assert_eq!(&rt; transcript.finish(book.into_journal()).len(), 20);
     Ok(())
 }

@@ -1,6 +1,7 @@
 //! What `run` makes of the bytes of its two files.
 
-ghost use Rattle.std.specs.Prelude.{◌≤◌, ◌^◌, length, map, IfOk};
+ghost use Rattle.std.specs.Prelude.{◌≡◌, ◌≤◌, ◌^◌, length, map, IfOk};
+ghost use Rattle.transcript_log.specs.Events.{lines_of};
 ghost use Rattle.commands.specs.RunTexts.{TextsEnd, AreTextsOf, texts_of};
 
 use collector_workers::Gate;
@@ -34,14 +35,16 @@ pub enum Refusal {
     Memory,
 }
 
-// The texts of a finished run. The book goes here, before the longest text is made.
+// The texts of a finished run. Once the book has told what it came to, it gives the transcript its lines.
 #[tactic(auto, using(crate::proofs::RunLemmas::text_is_read))]
 fn finished_texts(alloc: Global, finished: Finished) -> Result<RunTexts, AllocError>
+    requires { finished.book.journal ≡ lines_of finished.transcript.entries }
     ensures { IfOk result (λ kept. AreTextsOf finished.book finished.transcript (texts_of kept)) }
 {
     let Finished { book, transcript } = finished;
     let report = report(alloc, &book)?;
     let summary = summary(alloc, &book)?;
+    let transcript = transcript.finish(book.into_journal());
     let _entries = transcript.len();
     Ok(RunTexts {
         transcript,

@@ -89,6 +89,14 @@ impl Book {
         &self.journal
     }
 
+    /// The lines alone.
+    pub fn into_journal(self) -> Lines
+        ensures { result.items ≡ self.journal }
+    {
+        let Book { journal, .. } = self;
+        journal
+    }
+
     /// For how many more lines there is room.
     pub fn spare(&self) -> u64
         ensures { result ≡ self.now.spare }

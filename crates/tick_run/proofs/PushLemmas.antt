@@ -1,10 +1,15 @@
 -- One more line.
-use Rattle.std.proofs.Common.{◌≡◌, ℕ, ◌+◌, ◌-◌, ◌<◌, ◌≤◌, List, [], ◌∷◌, ◌++◌, length, take, drop, map, get_or, refl, sym, ap, ◌∙◌, append_assoc, subst, All, arith}
-use Rattle.std.proofs.lemmas.List.{map-append, take_more, take_all, append-nil, get_or-drop, length-drop}
+use Rattle.std.proofs.Common.{◌≡◌, ℕ, zero, suc, ◌+◌, ◌-◌, ◌<◌, ◌≤◌, List, [], ◌∷◌, ◌++◌, length, take, drop, map, get_or, refl, sym, ap, ◌∙◌, append_assoc, subst, All, arith}
+use Rattle.std.proofs.lemmas.List.{map-append, take_more, take_all, take-append-drop, append-nil, get_or-drop, length-drop}
 use Rattle.std.proofs.lemmas.List.Elements.{All-get_or}
+use Rattle.std.proofs.Math.Seq.{take-append_seam}
 use Rattle.transcript_log.specs.declared.Line.{Line}
+use Rattle.transcript_log.specs.declared.Entry.{Entry}
+use Rattle.transcript_log.specs.Drafts.{Begins}
+use Rattle.transcript_log.specs.Events.{lines_of}
 use Rattle.transcript_log.specs.Transcripts.{TranscriptView, last_tick_from}
 use Rattle.tick_run.specs.Running.{quiet}
+use Rattle.tick_run.proofs.StateLemmas.{lines_quiet}
 use Rattle.tick_run.proofs.SendingLoop.{last_push}
 
 -- the transcript with the first n lines
@@ -45,6 +50,41 @@ pushed-next t from at lines l script done next low high is so_far one =
     subst (λ n. Pushed t n (drop from lines) script next) step
     (pushed-more t (at - from) (drop from lines) l script done next (omega (arith, low, high, long)) at_tail so_far one)
 
+-- ---- the line that stands next in a journal
+
+take_none : (n : ℕ) → take {A = Line} n [] ≡ []
+take_none zero = refl
+take_none (suc n) = refl
+
+take_both : (n k : ℕ) (xs : List Line) → take n xs ++ take k (drop n xs) ≡ take (k + n) xs
+take_both zero k xs = ap (λ m. take m xs) (omega arith)
+take_both (suc n) k [] = take_none k ∙ sym (take_none (k + suc n))
+take_both (suc n) k (x ∷ xs) =
+    let one_more : suc (k + n) ≡ k + suc n = omega arith in
+    ap (λ l. x ∷ l) (take_both n k xs) ∙ ap (λ m. take m (x ∷ xs)) one_more
+
+-- the transcript has the lines before a place
+lines-before : (t from at : ℕ) (lines : List Line) (script done : TranscriptView) → from ≤ at → lines_of script.entries ≡ take from lines → Pushed t (at - from) (drop from lines) script done
+    → lines_of done.entries ≡ take at lines
+lines-before t from at lines script done low before so_far =
+    let added : List Line = take (at - from) (drop from lines) in
+    let place : at - from + from ≡ at = omega (arith, low) in
+    ap (λ (d : TranscriptView). lines_of d.entries) so_far.lines_are
+    ∙ map-append (λ (e : Entry). e.line) script.entries (map (quiet t) added)
+    ∙ ap (λ ls. ls ++ lines_of (map (quiet t) added)) before
+    ∙ ap (λ ls. take from lines ++ ls) (lines_quiet t added)
+    ∙ take_both from (at - from) lines
+    ∙ ap (λ n. take n lines) place
+
+-- the line at the place is the journal's next
+pub line-next : (t from at : ℕ) (lines : List Line) (l : Line) (script done : TranscriptView) → from ≤ at → at < length lines → l ≡ get_or lines at l → lines_of script.entries ≡ take from lines
+    → Pushed t (at - from) (drop from lines) script done → Begins lines (lines_of done.entries ++ l ∷ [])
+line-next t from at lines l script done low high is before so_far =
+    let own : lines_of done.entries ++ l ∷ [] ≡ take (at + 1) lines
+    = ap (λ ls. ls ++ l ∷ []) (lines-before t from at lines script done low before so_far)
+    ∙ sym (take_more lines at l high ∙ ap (λ (y : Line). take at lines ++ y ∷ []) (sym is)) in
+    record { rest = drop (at + 1) lines; is = sym (ap (λ ls. ls ++ drop (at + 1) lines) own ∙ take-append-drop (at + 1) lines) }
+
 -- all lines from a place on
 pub pushed-all : (t from at : ℕ) (lines : List Line) (script done : TranscriptView) → from ≤ at → length lines ≤ at → Pushed t (at - from) (drop from lines) script done
     → done ≡ record script { entries = script.entries ++ map (quiet t) (drop from lines) }
@@ -68,3 +108,8 @@ added-tail before after old new added one two three =
     drop_front : (xs ys : List Line) → drop (length xs) (xs ++ ys) ≡ ys
     drop_front [] ys = refl
     drop_front (x ∷ xs) ys = drop_front xs ys
+
+-- the lines of before stand first
+pub added-head : (before after old new added : List Line) → before ≡ old → after ≡ new → new ≡ old ++ added → take (length before) after ≡ old
+added-head before after old new added one two three =
+    ap (take (length before)) (two ∙ three ∙ ap (λ l. l ++ added) (sym one)) ∙ take-append_seam before added ∙ one

@@ -15,16 +15,19 @@ use Rattle.meter_frames.specs.declared.Frame.{Frame}
 use Rattle.transcript_log.specs.declared.Event.TheVariants.{Send}
 use Rattle.transcript_log.specs.declared.Line.TheVariants.{Send as SendLine}
 use Rattle.transcript_log.specs.declared.Entry.{Entry}
+use Rattle.transcript_log.specs.Drafts.{Begins}
+use Rattle.transcript_log.specs.Events.{lines_of}
 use Rattle.transcript_log.specs.Schedule.{Shape, shape_of_presence}
 use Rattle.transcript_log.specs.Transcript.{Contents, frame}
 use Rattle.transcript_log.specs.Journal.{past_of, core_line, HasFramesOf}
 use Rattle.run_rows.specs.Ticks.{Clock, clock_of, posts_of, sent_at}
 use Rattle.transcript_log.specs.Transcripts.{TranscriptView}
-use Rattle.group_book.specs.Books.{BookView, shape_of, past, knows}
+use Rattle.group_book.specs.declared.answers.SendAnswer.{SendAnswer}
+use Rattle.group_book.specs.Books.{BookView, shape_of, past, knows, SendEnds}
 use Rattle.tick_run.specs.Progress.{past_of_entries, sending}
 use Rattle.tick_run.specs.TickFrames.{IsDue}
 use Rattle.tick_run.specs.Running.{Stage, sending_at, run_shape, run_contents, IsRunning}
-use Rattle.tick_run.specs.Sending.{SendsOne, KeepsFates, KeptFates, SendsOn, GoesOn}
+use Rattle.tick_run.specs.Sending.{SendsOne, KeepsFates, KeptFates, SendsOn, GoesOn, CanSend}
 use Rattle.tick_run.proofs.BatchLemmas.{fates-push}
 use Rattle.tick_run.proofs.SendLemmas.{sent_step, due_step, posts-push}
 use Rattle.tick_run.proofs.PastLemmas.{sets-append}
@@ -46,10 +49,10 @@ running-same readings m at book other script waiting presence journal is = recor
 }
 
 -- the book adds the line of a frame that is due
-pub adds-due : (readings : ReadingsView) (m : Masks) (t : ℕ) (book after : BookView) (script done : TranscriptView) (waiting left : List Arrival) (lanes hung : List Slot) (posts all : List Post) (f : Frame)
+pub adds-due : (readings : ReadingsView) (m : Masks) (t : ℕ) (book after : BookView) (script : TranscriptView) (waiting : List Arrival) (f : Frame) (answer : SendAnswer)
     → IsRunning readings m (sending_at t) book script waiting → IsDue (run_shape readings) (clock_of readings.plan) (run_contents readings m) (past_of_entries script.entries) t f
-    → SendsOne t f book after script done waiting left lanes hung posts all → (after.presence ≡ book.presence) × (after.journal ≡ book.journal ++ SendLine f.tag (Some f) ∷ [])
-adds-due readings m t book after script done waiting left lanes hung posts all f is due one =
+    → SendEnds book f answer after → (after.presence ≡ book.presence) × (after.journal ≡ book.journal ++ SendLine f.tag (Some f) ∷ [])
+adds-due readings m t book after script waiting f answer is due ended =
     let s : Shape = run_shape readings in
     let w : Contents = run_contents readings m in
     let shape : shape_of book ≡ s = ap shape_of_presence is.presence in
@@ -58,14 +61,24 @@ adds-due readings m t book after script done waiting left lanes hung posts all f
     let here : frame s w f.tag (past book) ≡ Some f = ap (frame s w f.tag) pasts ∙ due.is in
     let known : knows book f.tag ≡ true = ap (λ p. nat_lt f.tag.round p.plan.rounds && nat_lt f.tag.meter (size p.plan.groups f.tag.group)) is.presence
     ∙ and_from (nat_lt f.tag.round readings.plan.rounds) (nat_lt f.tag.meter (size readings.plan.groups f.tag.group)) (lt-ltb f.tag.round readings.plan.rounds due.in_time.round) (lt-ltb f.tag.meter (size readings.plan.groups f.tag.group) due.in_time.meter) in
-    let sent = sent-only book after s w f one.answer shape has here known one.sent in
+    let sent = sent-only book after s w f answer shape has here known ended in
     (sent.1.presence, sent.1.journal ∙ ap (λ l. book.journal ++ l ∷ []) (ap (λ z. core_line z book.journal (Send f.tag) (Some f)) shape ∙ sent-line s book.journal f (may_of_frame s w f.tag f (past book) here)))
+
+-- the line of a frame that can be sent is the next one of the book's journal
+pub sent-next : (t : ℕ) (book after : BookView) (script : TranscriptView) (waiting : List Arrival) (f : Frame) (answer : SendAnswer)
+    → CanSend t f book script waiting → SendEnds book f answer after → Begins after.journal (lines_of script.entries ++ SendLine f.tag (Some f) ∷ [])
+sent-next t book after script waiting f answer can ended =
+    let adds = adds-due can.readings can.masks t book after script waiting f answer can.running can.due ended in
+    record {
+      rest = [];
+      is = adds.1 ∙ ap (λ l. l ++ SendLine f.tag (Some f) ∷ []) can.running.journal ∙ sym (append-nil (lines_of script.entries ++ SendLine f.tag (Some f) ∷ []));
+    }
 
 pub goes-one : (readings : ReadingsView) (m : Masks) (t : ℕ) (book after : BookView) (script done : TranscriptView) (waiting left : List Arrival) (lanes hung : List Slot) (posts all : List Post) (f : Frame)
     → IsRunning readings m (sending_at t) book script waiting → IsDue (run_shape readings) (clock_of readings.plan) (run_contents readings m) (past_of_entries script.entries) t f
     → SendsOne t f book after script done waiting left lanes hung posts all → GoesOn readings m t (f ∷ []) script after done left
 goes-one readings m t book after script done waiting left lanes hung posts all f is due one =
-    let adds = adds-due readings m t book after script done waiting left lanes hung posts all f is due one in
+    let adds = adds-due readings m t book after script waiting f one.answer is due one.sent in
     let s : Shape = run_shape readings in
     let c : Clock = clock_of readings.plan in
     let w : Contents = run_contents readings m in

@@ -15,7 +15,7 @@ use Rattle.tick_run.specs.Progress.{past_of_entries, sending}
 use Rattle.run_rows.specs.Ticks.{clock_of}
 use Rattle.tick_run.specs.TickFrames.{IsDue}
 use Rattle.tick_run.specs.Running.{run_shape, run_contents, IsRunning, sending_at}
-use Rattle.tick_run.specs.Sending.{SendsOne, SendsOn, KeepsFates, GoesOn, AreDue}
+use Rattle.tick_run.specs.Sending.{SendsOne, SendsOn, KeepsFates, GoesOn, AreDue, CanSend, CanSendAll}
 use Rattle.tick_run.proofs.SendingLemmas.{running-same, goes-one, keeps-one, sends_on-none, sends_on-more}
 
 -- the first n frames are sent
@@ -78,6 +78,19 @@ sending-more t n frames book now after script done next waiting left rest lanes 
             on = subst (λ l. SendsOn readings m t l script.entries next.entries) (sym tags) (sends_on-more readings m t (map (λ (z : Frame). z.tag) (take n frames)) (f.tag ∷ []) script.entries done.entries next.entries before.on step.on);
           };
       fates = λ first keeps. keeps-one first t now after done next left rest hung kept all more f (so_far.fates first keeps) one;
+    }
+
+-- the next frame can be sent
+pub can-send : (t n : ℕ) (frames : List Frame) (book now : BookView) (script done : TranscriptView) (waiting left : List Arrival) (lanes hung : List Slot) (posts all : List Post) (spare : ℕ) (f : Frame)
+    → f ≡ get_or frames n f → n < length frames → Sending t n frames book now script done waiting left lanes hung posts all spare
+    → CanSendAll t frames book script waiting → CanSend t f now done left
+can-send t n frames book now script done waiting left lanes hung posts all spare f at lt so_far can =
+    let before = so_far.running can.readings can.masks can.running can.due in
+    record {
+      readings = can.readings;
+      masks = can.masks;
+      running = before.running;
+      due = before.on.still f (subst (IsDue (run_shape can.readings) (clock_of can.readings.plan) (run_contents can.readings can.masks) (past_of_entries script.entries) t) (sym at) (can.due n f lt));
     }
 
 -- all frames are sent

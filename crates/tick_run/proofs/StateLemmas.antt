@@ -135,7 +135,7 @@ batch_of t k added phases = record {
     none [] = All-nil (λ (l : Line). ◌≡◌ {A = List ℕ} [] [])
     none (l ∷ ls) = All-cons (λ (z : Line). ◌≡◌ {A = List ℕ} [] []) l ls refl (none ls)
 
-lines_quiet : (t : ℕ) (added : List Line) → lines_of (map (quiet t) added) ≡ added
+pub lines_quiet : (t : ℕ) (added : List Line) → lines_of (map (quiet t) added) ≡ added
 lines_quiet t [] = refl
 lines_quiet t (l ∷ added) = ap (λ ls. l ∷ ls) (lines_quiet t added)
 

@@ -69,3 +69,17 @@ pub record GoesOn (readings : ReadingsView) (m : Masks) (t : ℕ) (frames : List
 -- each of these frames is to be sent at tick t
 abbrev pub AreDue : ReadingsView → Masks → ℕ → TranscriptView → List Frame → Type 0
 AreDue readings m t script frames = All (IsDue (run_shape readings) (clock_of readings.plan) (run_contents readings m) (past_of_entries script.entries) t) frames
+
+-- by some readings and masks the run goes on, and the frame is due
+pub record CanSend (t : ℕ) (f : Frame) (book : BookView) (script : TranscriptView) (waiting : List Arrival) : Type 0 where
+  pub readings : ReadingsView
+  pub masks : Masks
+  pub running : IsRunning readings masks (sending_at t) book script waiting
+  pub due : IsDue (run_shape readings) (clock_of readings.plan) (run_contents readings masks) (past_of_entries script.entries) t f
+
+-- so are all of these frames
+pub record CanSendAll (t : ℕ) (frames : List Frame) (book : BookView) (script : TranscriptView) (waiting : List Arrival) : Type 0 where
+  pub readings : ReadingsView
+  pub masks : Masks
+  pub running : IsRunning readings masks (sending_at t) book script waiting
+  pub due : AreDue readings masks t script frames

@@ -1,8 +1,9 @@
 //! The head end's two batches of a tick: its Takes, and its Closes and Ends.
 
-ghost use Rattle.std.specs.Prelude.{◌≡◌, ◌++◌, ◌-◌, ◌≤◌, ◌<◌, List, [], ◌∷◌, length, map, drop, All, Some, None, IfOk, OnOk, if◌then◌else◌};
+ghost use Rattle.std.specs.Prelude.{◌≡◌, ◌++◌, ◌-◌, ◌≤◌, ◌<◌, List, [], ◌∷◌, length, map, take, drop, All, Some, None, IfOk, OnOk, if◌then◌else◌};
 ghost use Rattle.transcript_log.specs.declared.Event.{Event};
 ghost use Rattle.transcript_log.specs.declared.Event.TheVariants.{Take};
+ghost use Rattle.transcript_log.specs.Events.{lines_of};
 ghost use Rattle.transcript_log.specs.Transcripts.{last_tick_from, FitsLine};
 ghost use Rattle.tick_run.specs.Batches.{CanTake, Batched};
 ghost use Rattle.tick_run.specs.OnTheWay.{frames_in, tags_of};
@@ -20,7 +21,7 @@ use shared_book::Parcel;
 use std::alloc::{AllocError, Global};
 use std::sync::Wait;
 use std::thread::Threads;
-use transcript_log::{Entry, Lines, Transcript};
+use transcript_log::{Draft, Entry, Lines};
 
 /// The copies as parcels, in order.
 fn parcels_in(alloc: Global, copies: &[[u8; 52]]) -> Result<Vec<Parcel>, AllocError>
@@ -43,24 +44,26 @@ fn no_copies() -> Fate
     }
 }
 
-/// Adds the lines of a journal, from a place on, at a tick to the transcript.
+/// Adds the lines of a journal, from a place on, at a tick to the transcript, which has those before.
 fn push_lines(
-    transcript: &mut Transcript,
+    transcript: &mut Draft,
     journal: &Lines,
     from: usize,
     tick: u32,
 ) -> Result<(), AllocError>
     requires later { last_tick_from 0 transcript.old.entries ≤ tick }
     requires within { from ≤ length journal.now.items }
+    requires before { lines_of transcript.old.entries ≡ take from journal.now.items }
     requires lines { All (FitsLine transcript.old.plan []) (drop from journal.now.items) }
     ensures { OnOk result (transcript.new ≡ record transcript.old { entries = transcript.old.entries ++ map (quiet tick) (drop from journal.now.items) }) }
 {
     for at in from..journal.len() {
-        transcript.push(Entry {
+        let entry = Entry {
             tick,
             fate: no_copies(),
             line: journal.at(at),
-        })?;
+        };
+        transcript.push(entry, journal)?;
     }
     Ok(())
 }
@@ -75,6 +78,7 @@ fn commit_batch<R: Threads + Wait + Sync, G: Gate>(
     requires workers { (1 ≤ crew.now.workers) × (crew.now.workers ≤ 16) }
     requires later { last_tick_from 0 run.transcript.entries ≤ tick }
     requires plan { run.transcript.plan ≡ run.book.presence.plan }
+    requires lines { run.book.journal ≡ lines_of run.transcript.entries }
     ensures { (events : List Event) → Ask run.book events batch.items → IfOk result (λ after. Batched tick events run.book after.book run.transcript after.transcript run.link after.link) }
 {
     if batch.len() > u32::MAX as usize {
@@ -110,6 +114,7 @@ pub(crate) fn take_copies<R: Threads + Wait + Sync, G: Gate>(
     requires workers { (1 ≤ crew.now.workers) × (crew.now.workers ≤ 16) }
     requires later { last_tick_from 0 run.transcript.entries ≤ tick }
     requires plan { run.transcript.plan ≡ run.book.presence.plan }
+    requires lines { run.book.journal ≡ lines_of run.transcript.entries }
     requires copies { All (CanTake run.book) copies.now }
     ensures { IfOk result (λ after. Batched tick (map Take (tags_of (frames_in copies.now))) run.book after.book run.transcript after.transcript run.link after.link) }
 {
@@ -164,6 +169,7 @@ pub(crate) fn close_rounds<R: Threads + Wait + Sync, G: Gate>(
     requires workers { (1 ≤ crew.now.workers) × (crew.now.workers ≤ 16) }
     requires later { last_tick_from 0 run.transcript.entries ≤ tick }
     requires plan { run.transcript.plan ≡ run.book.presence.plan }
+    requires lines { run.book.journal ≡ lines_of run.transcript.entries }
     ensures { IfOk result (λ after. Batched tick (calls_due (clock_of run.book.presence.plan) (length run.book.presence.plan.groups) tick) run.book after.book run.transcript after.transcript run.link after.link) }
 {
     let batch = calls_at(crew.alloc, run.book.plan(), tick)?;

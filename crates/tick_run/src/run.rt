@@ -33,13 +33,13 @@ use pair_keys::KeyTable;
 use std::alloc::{AllocError, Global};
 use std::sync::Wait;
 use std::thread::Threads;
-use transcript_log::Transcript;
+use transcript_log::Draft;
 
-/// What a run that is over has made: its book, and its transcript.
+/// What a run that is over has made: its book, and its transcript, of which the lines stand in the book's journal.
 #[derive(Drop)]
 pub struct Finished {
     pub book: Book,
-    pub transcript: Transcript,
+    pub transcript: Draft,
 }
 
 /// Makes all ticks, from 0 to the last.
@@ -147,7 +147,7 @@ pub fn run_plan<R: Threads + Wait + Sync, G: Gate>(
     let lines = lines_about(plan);
     let run = Running {
         book: new_book(alloc, plan, &presence, lines)?,
-        transcript: Transcript::with_room(alloc, plan, lines)?,
+        transcript: Draft::with_room(alloc, plan, lines)?,
         link: Link::new(alloc),
     };
     let mut meters = Meters::new(alloc, readings)?;

@@ -8,7 +8,7 @@ ghost use Rattle.link_lanes.specs.Racks.{slots, posts_of, spare_of, HasRoom};
 ghost use Rattle.transcript_log.specs.Transcripts.{last_tick_from};
 ghost use Rattle.tick_run.specs.Progress.{IsDelay};
 ghost use Rattle.tick_run.specs.Running.{IsRunning, sending_at};
-ghost use Rattle.tick_run.specs.Sending.{IsOfPlan, SendsOne, KeepsFates, GoesOn, AreDue};
+ghost use Rattle.tick_run.specs.Sending.{IsOfPlan, SendsOne, KeepsFates, GoesOn, AreDue, CanSend, CanSendAll};
 
 use crate::running::Running;
 use link_lanes::{Fate, Lane, Rack};
@@ -27,6 +27,7 @@ fn send_one(tick: u32, frame: &Frame, run: &mut Running, rack: &mut Rack) -> Res
     requires tick { tick < 2 ^ 31 }
     requires later { last_tick_from 0 run.old.transcript.entries ≤ tick }
     requires frame { IsOfPlan run.old.transcript.plan frame.now }
+    requires due { CanSend tick frame.now run.old.book run.old.transcript run.old.link }
     requires spare { 0 < run.old.book.spare }
     requires posts { 1 ≤ spare_of rack.old }
     requires few { length (posts_of rack.old) < 2 ^ 32 }
@@ -40,14 +41,15 @@ fn send_one(tick: u32, frame: &Frame, run: &mut Running, rack: &mut Rack) -> Res
     let fate = rack.pass(tick, frame.tag);
     fate_is(fate);
     run.link.post(tick, encode(frame), fate)?;
-    run.transcript.push(Entry {
+    let entry = Entry {
         tick,
         fate,
         line: Line::Send {
             tag: frame.tag,
             frame: Some(*frame),
         },
-    })
+    };
+    run.transcript.push(entry, run.book.journal())
 }
 
 /// Makes room for so many Sends.
@@ -82,6 +84,7 @@ pub(crate) fn send_all(
     requires tick { tick < 2 ^ 31 }
     requires later { last_tick_from 0 run.old.transcript.entries ≤ tick }
     requires frames { All (IsOfPlan run.old.transcript.plan) frames.now }
+    requires due { CanSendAll tick frames.now run.old.book run.old.transcript run.old.link }
     requires room { HasRoom (λ b. meaning (b.vtable, b.value)) rack.old }
     ensures running { (readings : ReadingsView) (m : Masks) → IsRunning readings m (sending_at tick) run.old.book run.old.transcript run.old.link → AreDue readings m tick run.old.transcript frames.now →
         OnOk result (GoesOn readings m tick frames.now run.old.transcript run.new.book run.new.transcript run.new.link) }

@@ -12,3 +12,4 @@ mod KeptLines
 pub mod RoundMembers
 mod StampLemmas
 mod Pushing
+mod Drafting

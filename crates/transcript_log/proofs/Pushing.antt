@@ -27,7 +27,7 @@ falls_no_more : (last : ℕ) (es : List Entry) (e : Entry) → NeverFalls last e
 falls_no_more last [] e h le = (le, tt)
 falls_no_more last (x ∷ xs) e h le = (h.0, falls_no_more x.tick xs e h.1 le)
 
-one_more : (t : TranscriptView) (e : Entry) → IsTranscript t → Fits t.plan e → IsEntry e → last_tick_from 0 t.entries ≤ e.tick → IsTranscript (record { plan = t.plan; entries = t.entries ++ e ∷ [] })
+pub one_more : (t : TranscriptView) (e : Entry) → IsTranscript t → Fits t.plan e → IsEntry e → last_tick_from 0 t.entries ≤ e.tick → IsTranscript (record { plan = t.plan; entries = t.entries ++ e ∷ [] })
 one_more t e is fits entry le = record {
   plan = is.plan;
   fit = All-push (Fits t.plan) t.entries e is.fit fits;

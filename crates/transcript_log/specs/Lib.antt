@@ -10,3 +10,4 @@ pub mod Lines
 pub mod SmallLines
 pub mod Transcripts
 pub mod Stamps
+pub mod Drafts

@@ -4,11 +4,13 @@
 ghost use Rattle.std.specs.Prelude.{◌≡◌};
 ghost use Rattle.transcript_log.specs.Events.{event_of};
 
+mod draft;
 mod lines;
 mod round_members;
 mod small;
 mod transcript;
 
+pub use draft::Draft;
 use group_plan::Tag;
 pub use lines::Lines;
 use link_lanes::Fate;

@@ -66,7 +66,7 @@ pub(crate) enum SmallLine {
     },
 }
 
-// A run keeps every line twice, so its size counts.
+// A run keeps every line, so its size counts.
 const _: () = prove!(size_of::<SmallLine>() <= 24);
 
 fn small_tag(tag: Tag) -> SmallTag

@@ -17,17 +17,17 @@ use std::marker::Model;
 
 /// When a line was written, and the fate of its frame.
 #[derive(Clone, Copy, Debug, PartialEq, Eq)]
-struct Stamp {
-    tick: u32,
-    fate: Fate,
+pub(crate) struct Stamp {
+    pub tick: u32,
+    pub fate: Fate,
 }
 
 /// A plan, and the entries of a run of it. Their ticks never fall.
 #[derive(Debug, Drop)]
 pub struct Transcript {
-    plan: Plan,
-    stamps: Vec<Stamp>,
-    lines: Lines,
+    pub(crate) plan: Plan,
+    pub(crate) stamps: Vec<Stamp>,
+    pub(crate) lines: Lines,
 }
 
 impl Model for Transcript {
@@ -121,7 +121,7 @@ fn tick_is(tick: u32)
 {}
 
 /// What the types of an entry's parts say of them.
-fn entry_is(entry: &Entry)
+pub(crate) fn entry_is(entry: &Entry)
     ensures { IsEntry entry.now }
 {
     tick_is(entry.tick);

@@ -1,6 +1,6 @@
 use Rattle.std.proofs.Common.{sym, subst, arith}
 use Rattle.tick_run.specs.Sending.{IsOfPlan}
-use Rattle.tick_run.proofs.SendingLoop.{sending-none, sending-more, sent-all}
+use Rattle.tick_run.proofs.SendingLoop.{sending-none, sending-more, can-send, sent-all}
 use Rattle.tick_run.proofs.sends.send_all.Goals as goal
 
 pub loop-frame-init : goal.loop-frame-init
@@ -17,6 +17,9 @@ pub send_one-requires-clause-frame : goal.send_one-requires-clause-frame
 send_one-requires-clause-frame g c =
     subst (λ p. IsOfPlan p c.frame-item.result) (sym c.loop-frame.invariant.sending.plan)
     (subst (IsOfPlan c.args.run.now.transcript.plan) (sym c.frame-item.is) (c.requires.frames c.loop-frame.frame-index c.frame-item.result c.loop-frame-test.true))
+
+pub send_one-requires-clause-due : goal.send_one-requires-clause-due
+send_one-requires-clause-due g c = can-send _ _ _ _ _ _ _ _ _ _ _ _ _ _ c.frame-item.result c.frame-item.is c.loop-frame-test.true c.loop-frame.invariant.sending c.requires.due
 
 pub send_one-requires-clause-spare : goal.send_one-requires-clause-spare
 send_one-requires-clause-spare g c = let lines = c.loop-frame.invariant.sending.lines in omega arith

@@ -19,6 +19,9 @@ take_copies-requires-clause-later g c κs within =
     let out = emptied-of readings m t book script c.args.run.link c.due.new.self c.deref.result.now c.requires.running found.1 (c.deref.ensures.value ∙ found.0) in
     last-running readings m (emptied t) t book script c.due.new.self out.0 (omega arith)
 
+pub take_copies-requires-clause-lines : goal.take_copies-requires-clause-lines
+take_copies-requires-clause-lines g c κs within = c.requires.running.journal
+
 pub take_copies-requires-clause-copies : goal.take_copies-requires-clause-copies
 take_copies-requires-clause-copies g c κs within =
     let readings = c.args.context.now.known.readings.now in
@@ -42,6 +45,19 @@ close_rounds-requires-clause-later g c κs within =
     let one = c.in_ok-run.run' in
     let took = takes-batched readings m t book one.book script one.transcript c.due.new.self one.link c.deref.result.now out.0 out.1 c.in_ok-run.ensures in
     last-running readings m (taken t) t one.book one.transcript one.link took.0 (omega arith)
+
+pub close_rounds-requires-clause-lines : goal.close_rounds-requires-clause-lines
+close_rounds-requires-clause-lines g c κs within =
+    let readings = c.args.context.now.known.readings.now in
+    let m = words_of c.args.context.now.known.masks.now in
+    let t = c.args.tick in
+    let book = c.args.run.book in
+    let script = c.args.run.transcript in
+    let found = c.in_ok-copies.ensures in
+    let out = emptied-of readings m t book script c.args.run.link c.due.new.self c.deref.result.now c.requires.running found.1 (c.deref.ensures.value ∙ found.0) in
+    let one = c.in_ok-run.run' in
+    let took = takes-batched readings m t book one.book script one.transcript c.due.new.self one.link c.deref.result.now out.0 out.1 c.in_ok-run.ensures in
+    took.0.journal
 
 pub send_tick-requires-clause-running : goal.send_tick-requires-clause-running
 send_tick-requires-clause-running g c κs within =

@@ -43,6 +43,26 @@ send_all-requires-clause-frames g c =
     let due = group-due readings m t k tags script c.loop-frames.run.book c.loop-frames.run.transcript c.loop-frames.run.link _ _ _ _ c.deref.result.now heard frames sent in
     due-of_plan readings m t c.loop-frames.run.transcript.plan c.loop-frames.run.transcript c.deref.result.now sent.running.plan due
 
+pub send_all-requires-clause-due : goal.send_all-requires-clause-due
+send_all-requires-clause-due g c =
+    let readings = c.args.context.now.known.readings.now in
+    let m = words_of c.args.context.now.known.masks.now in
+    let t = c.args.tick in
+    let tags = tags_of (frames_in c.args.copies.now) in
+    let script = c.args.run.now.transcript in
+    let k = c.loop-frames.frames-index in
+    let sent = c.loop-frames.invariant.sent in
+    let all = subst (λ (l : List _). AllZip (IsOfGroup readings m t c.args.run.now.book tags) (range_with_len 0 (length readings.plan.groups)) l) (sym c.deref-frames-items.ensures.value) c.in_ok-groups.ensures.frames in
+    let frames : c.deref.result.now ≡ group_frames_of readings m t script tags k
+    = group-at readings m t tags c.args.run.now.book script c.args.run.now.link c.deref-frames-items.result.now (length readings.plan.groups) k c.frames-item.result c.in-Ok.frames c.deref.result.now c.requires.running all c.loop-frames-test.true c.frames-item.is c.in-Ok.is c.deref.ensures.value in
+    let heard = hears readings m t c.args.run.now.book script c.args.run.now.link tags c.requires.running c.requires.came.due in
+    record {
+      readings = readings;
+      masks = m;
+      running = sent.running;
+      due = group-due readings m t k tags script c.loop-frames.run.book c.loop-frames.run.transcript c.loop-frames.run.link _ _ _ _ c.deref.result.now heard frames sent;
+    }
+
 pub loop-frames-preserved : goal.loop-frames-preserved
 loop-frames-preserved g c =
     let readings = c.args.context.now.known.readings.now in

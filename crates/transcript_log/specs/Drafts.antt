@@ -1,0 +1,17 @@
+-- How a draft is kept: a stamp for each entry, and a journal that begins with their lines.
+use Rattle.std.specs.Prelude.{◌≡◌, ◌≤◌, List, ◌++◌, length}
+use Rattle.group_plan.specs.Plans.{PlanView}
+use Rattle.transcript_log.specs.declared.Line.{Line}
+use Rattle.transcript_log.specs.declared.transcript.Stamp.{Stamp}
+use Rattle.transcript_log.specs.Transcripts.{IsTranscript}
+use Rattle.transcript_log.specs.Stamps.{entries_of}
+
+-- the journal begins with these lines
+pub record Begins (journal lines : List Line) : Type 0 where
+  pub rest : List Line
+  pub is : journal ≡ lines ++ rest
+
+-- each stamp has its line, and with them they are a transcript of the plan
+pub record IsDrafted (plan : PlanView) (stamps : List Stamp) (lines : List Line) : Type 0 where
+  pub long : length stamps ≤ length lines
+  pub transcript : IsTranscript (record { plan = plan; entries = entries_of stamps lines })

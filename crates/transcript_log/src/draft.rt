@@ -1,0 +1,92 @@
+//! Transcripts in the making: their lines stand in a journal.
+
+ghost use Rattle.std.specs.Prelude.{◌≡◌, ◌≤◌, [], ◌∷◌, ◌++◌, IfOk, OnOk, OnErr};
+ghost use Rattle.transcript_log.specs.Drafts.{Begins};
+ghost use Rattle.transcript_log.specs.Events.{lines_of};
+ghost use Rattle.transcript_log.specs.Transcripts.{Fits, Pushes, last_tick_from, no_entries};
+
+use crate::transcript::{Stamp, entry_is};
+use crate::{Entry, Lines, Transcript};
+use group_plan::Plan;
+use std::alloc::{AllocError, Global};
+use std::marker::Model;
+use std::snapshot::Snapshot;
+
+/// A transcript in the making. It keeps when its lines were written and the fates of their frames; the lines stand in a
+/// journal, which it is shown.
+#[derive(Drop)]
+pub struct Draft {
+    plan: Plan,
+    stamps: Vec<Stamp>,
+    lines: Snapshot<Lines>,
+}
+
+impl Model for Draft {
+    ghost use Rattle.transcript_log.specs.Transcripts.{TranscriptView};
+
+    ghost Value = { TranscriptView };
+
+    ghost use Rattle.transcript_log.specs.Stamps.{entries_of};
+    ghost use Rattle.transcript_log.specs.Drafts.{IsDrafted};
+
+    ghost view = { λ d. record { plan = d.plan; entries = entries_of d.stamps.items d.lines.value.items } };
+
+    ghost invariant = { λ d. IsDrafted d.plan d.stamps.items d.lines.value.items };
+}
+
+/// Adds the stamp of an entry.
+fn add_stamp(stamps: &mut Vec<Stamp>, entry: &Entry) -> Result<(), AllocError>
+    ensures ok { OnOk result (stamps.new.items ≡ stamps.old.items ++ record { tick = entry.now.tick; fate = entry.now.fate } ∷ []) }
+    ensures err { OnErr result (stamps.new.items ≡ stamps.old.items) }
+{
+    stamps.reserve(1)?;
+    stamps.push_reserved(Stamp {
+        tick: entry.tick,
+        fate: entry.fate,
+    });
+    Ok(())
+}
+
+impl Draft {
+    /// The draft of a plan before its first entry, with room for so many entries.
+    pub fn with_room(alloc: Global, plan: &Plan, entries: usize) -> Result<Draft, AllocError>
+        ensures { IfOk result (λ draft. draft ≡ no_entries plan.now) }
+    {
+        let _groups = plan.groups();
+        Ok(Draft {
+            plan: plan.try_copy()?,
+            stamps: Vec::with_capacity(alloc, entries)?,
+            lines: Snapshot::of(&Lines::new(alloc)),
+        })
+    }
+
+    /// Adds an entry at the end. Its line is the next one of the journal, which has those of all entries before it.
+    pub fn push(&mut self, entry: Entry, journal: &Lines) -> Result<(), AllocError>
+        requires tick { last_tick_from 0 self.old.entries ≤ entry.tick }
+        requires fits { Fits self.old.plan entry }
+        requires next { Begins journal.now.items (lines_of self.old.entries ++ entry.line ∷ []) }
+        ensures { Pushes self.old entry result self.new }
+    {
+        entry_is(&entry);
+        add_stamp(&mut self.stamps, &entry)?;
+        self.lines = Snapshot::of(journal);
+        Ok(())
+    }
+
+    /// The transcript, with the journal that has just the lines of its entries.
+    pub fn finish(self, journal: Lines) -> Transcript
+        requires { journal.items ≡ lines_of self.entries }
+        ensures { result ≡ self }
+    {
+        let Draft {
+            plan,
+            stamps,
+            lines: _,
+        } = self;
+        Transcript {
+            plan,
+            stamps,
+            lines: journal,
+        }
+    }
+}
