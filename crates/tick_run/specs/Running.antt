@@ -15,6 +15,7 @@ use Rattle.transcript_log.specs.Transcript.{Contents, contents_of_tables}
 use Rattle.transcript_log.specs.Journal.{HasFramesOf}
 use Rattle.run_rows.specs.Ticks.{Clock, clock_of, copies}
 use Rattle.transcript_log.specs.Transcripts.{TranscriptView}
+pub use Rattle.transcript_log.specs.Drafts.{quiet}
 use Rattle.group_book.specs.Books.{BookView}
 use Rattle.shared_book.specs.declared.parcel.Parcel.{Parcel}
 use Rattle.shared_book.specs.declared.parcel.Parcel.TheVariants.{Close as CloseParcel, End as EndParcel}
@@ -67,10 +68,6 @@ pub record IsRunning (readings : ReadingsView) (m : Masks) (at : Stage) (book : 
   pub link : AreOnTheWay at.onward t.entries waiting
 
 -- ---- batches
-
--- the entry of a line that is no Send
-abbrev pub quiet : ℕ → Line → Entry
-quiet t line = record { tick = t; fate = []; line = line }
 
 -- these are the tags of the copies that are due at tick t
 abbrev pub AreCopiesDue : ℕ → List Entry → List Tag → Type 0

@@ -1,13 +1,13 @@
 //! The head end's two batches of a tick: its Takes, and its Closes and Ends.
 
-ghost use Rattle.std.specs.Prelude.{◌≡◌, ◌++◌, ◌-◌, ◌≤◌, ◌<◌, List, [], ◌∷◌, length, map, take, drop, All, Some, None, IfOk, OnOk, if◌then◌else◌};
+ghost use Rattle.std.specs.Prelude.{◌≡◌, ◌++◌, ◌-◌, ◌≤◌, ◌<◌, List, length, map, All, Some, None, IfOk, OnOk, if◌then◌else◌};
 ghost use Rattle.transcript_log.specs.declared.Event.{Event};
 ghost use Rattle.transcript_log.specs.declared.Event.TheVariants.{Take};
 ghost use Rattle.transcript_log.specs.Events.{lines_of};
-ghost use Rattle.transcript_log.specs.Transcripts.{last_tick_from, FitsLine};
+ghost use Rattle.transcript_log.specs.Transcripts.{last_tick_from};
 ghost use Rattle.tick_run.specs.Batches.{CanTake, Batched};
 ghost use Rattle.tick_run.specs.OnTheWay.{frames_in, tags_of};
-ghost use Rattle.tick_run.specs.Running.{Ask, quiet, is_due, calls_due, parcels_of, parcels_due};
+ghost use Rattle.tick_run.specs.Running.{Ask, is_due, calls_due, parcels_of, parcels_due};
 ghost use Rattle.run_rows.specs.Ticks.{clock_of};
 ghost use Rattle.shared_book.specs.declared.parcel.Parcel.TheVariants.{Bytes, Close as CloseParcel, End as EndParcel};
 
@@ -16,12 +16,10 @@ use crate::context::Crew;
 use crate::running::Running;
 use collector_workers::{Collected, Gate, collect};
 use group_plan::Plan;
-use link_lanes::Fate;
 use shared_book::Parcel;
 use std::alloc::{AllocError, Global};
 use std::sync::Wait;
 use std::thread::Threads;
-use transcript_log::{Draft, Entry, Lines};
 
 /// The copies as parcels, in order.
 fn parcels_in(alloc: Global, copies: &[[u8; 52]]) -> Result<Vec<Parcel>, AllocError>
@@ -32,40 +30,6 @@ fn parcels_in(alloc: Global, copies: &[[u8; 52]]) -> Result<Vec<Parcel>, AllocEr
         batch.push(Parcel::Bytes(*bytes))?;
     }
     Ok(batch)
-}
-
-/// The fate of a line that is no Send.
-fn no_copies() -> Fate
-    ensures { result ≡ [] }
-{
-    match Fate::new(&[]) {
-        Ok(fate) => fate,
-        Err(_) => unreachable!(),
-    }
-}
-
-/// Adds the lines of a journal, from a place on, at a tick to the transcript, which has those before.
-fn push_lines(
-    transcript: &mut Draft,
-    journal: &Lines,
-    from: usize,
-    tick: u32,
-) -> Result<(), AllocError>
-    requires later { last_tick_from 0 transcript.old.entries ≤ tick }
-    requires within { from ≤ length journal.now.items }
-    requires before { lines_of transcript.old.entries ≡ take from journal.now.items }
-    requires lines { All (FitsLine transcript.old.plan []) (drop from journal.now.items) }
-    ensures { OnOk result (transcript.new ≡ record transcript.old { entries = transcript.old.entries ++ map (quiet tick) (drop from journal.now.items) }) }
-{
-    for at in from..journal.len() {
-        let entry = Entry {
-            tick,
-            fate: no_copies(),
-            line: journal.at(at),
-        };
-        transcript.push(entry, journal)?;
-    }
-    Ok(())
 }
 
 /// Commits a batch by workers, and adds the lines that the book gained to the transcript at the tick.
@@ -89,12 +53,11 @@ fn commit_batch<R: Threads + Wait + Sync, G: Gate>(
         mut transcript,
         link,
     } = run;
-    let before = book.journal().len();
     match collect(crew.rt, crew.alloc, book, batch, crew.workers, crew.gate) {
         Err(_) => Err(RunError::Memory),
         Ok(collected) => {
             let Collected { book, replies: _ } = collected;
-            push_lines(&mut transcript, book.journal(), before, tick)?;
+            transcript.push_all(tick, book.journal())?;
             Ok(Running {
                 book,
                 transcript,

@@ -1,5 +1,5 @@
 -- Small lines under a list of sets that grows.
-use Rattle.std.proofs.Common.{◌≡◌, ℕ, ◌+◌, ◌-◌, ◌^◌, ◌<◌, ◌≤◌, List, [], ◌∷◌, ◌++◌, length, map, All, refl, ap, ◌∙◌, arith}
+use Rattle.std.proofs.Common.{◌≡◌, ℕ, ◌+◌, ◌-◌, ◌^◌, ◌<◌, ◌≤◌, List, [], ◌∷◌, ◌++◌, length, map, All, refl, sym, subst, ap, ◌∙◌, arith}
 use Rattle.std.proofs.lemmas.List.{map-append}
 use Rattle.std.proofs.lemmas.List.Elements.{All-head, All-tail, All-push, All-weaker}
 use Rattle.round_machine.specs.declared.Closing.TheVariants as closing
@@ -13,6 +13,7 @@ use Rattle.transcript_log.specs.declared.small.SmallEnding.TheVariants as small_
 use Rattle.transcript_log.specs.declared.small.SmallLine.{SmallLine}
 use Rattle.transcript_log.specs.declared.small.SmallLine.TheVariants as small
 use Rattle.transcript_log.specs.SmallLines.{tag_in, closing_in, ending_in, line_in, ClosingIsPlaced, EndingIsPlaced, IsPlaced, IsKept, Grows, AreKept, spare_of}
+use Rattle.transcript_log.specs.Transcripts.{IsLine}
 use Rattle.std.specs.Prelude.{Some}
 
 -- ---- a longer list of sets gives the same line, where its place is one of the shorter one
@@ -66,17 +67,18 @@ placed-more n m (small.Ended g r e) le lt = ending_placed-more n m e le lt
 
 -- ---- one line more
 
-pub still_kept : (xs ys : List (List ℕ)) (ls : List SmallLine) (l : SmallLine) (line : Line) → AreKept xs ls → length xs < 2 ^ 32 - 1 → Grows xs ys → IsKept ys line l → AreKept ys (ls ++ l ∷ [])
-still_kept xs ys ls l line kept few grows is = record {
-  few = omega (arith, few, grows.most);
-  placed = All-push (IsPlaced (length ys)) ls l (All-weaker (IsPlaced (length xs)) (IsPlaced (length ys)) (λ (x : SmallLine) (p : IsPlaced (length xs) x). placed-more (length xs) (length ys) x grows.least p) ls kept.placed) is.0;
-}
-
 pub one_line_more : (xs ys : List (List ℕ)) (ls : List SmallLine) (l : SmallLine) (line : Line) → AreKept xs ls → Grows xs ys → IsKept ys line l → map (line_in ys) (ls ++ l ∷ []) ≡ map (line_in xs) ls ++ line ∷ []
 one_line_more xs ys ls l line kept grows is =
     map-append (line_in ys) ls (l ∷ [])
     ∙ ap (λ (front : List Line). front ++ line_in ys l ∷ []) (lines-grown xs ys ls grows kept.placed)
     ∙ ap (λ (x : Line). map (line_in xs) ls ++ x ∷ []) is.1
+
+pub still_kept : (xs ys : List (List ℕ)) (ls : List SmallLine) (l : SmallLine) (line : Line) → AreKept xs ls → length xs < 2 ^ 32 - 1 → Grows xs ys → IsKept ys line l → IsLine line → AreKept ys (ls ++ l ∷ [])
+still_kept xs ys ls l line kept few grows is one = record {
+  few = omega (arith, few, grows.most);
+  placed = All-push (IsPlaced (length ys)) ls l (All-weaker (IsPlaced (length xs)) (IsPlaced (length ys)) (λ (x : SmallLine) (p : IsPlaced (length xs) x). placed-more (length xs) (length ys) x grows.least p) ls kept.placed) is.0;
+  sound = subst (All IsLine) (sym (one_line_more xs ys ls l line kept grows is)) (All-push IsLine (map (line_in xs) ls) line kept.sound one);
+}
 
 -- ---- room
 

@@ -1,7 +1,8 @@
 -- How a draft is kept: a stamp for each entry, and a journal that begins with their lines.
-use Rattle.std.specs.Prelude.{◌≡◌, ◌≤◌, List, ◌++◌, length}
+use Rattle.std.specs.Prelude.{◌≡◌, ℕ, ◌≤◌, List, [], ◌++◌, length}
 use Rattle.group_plan.specs.Plans.{PlanView}
 use Rattle.transcript_log.specs.declared.Line.{Line}
+use Rattle.transcript_log.specs.declared.Entry.{Entry}
 use Rattle.transcript_log.specs.declared.transcript.Stamp.{Stamp}
 use Rattle.transcript_log.specs.Transcripts.{IsTranscript}
 use Rattle.transcript_log.specs.Stamps.{entries_of}
@@ -10,6 +11,10 @@ use Rattle.transcript_log.specs.Stamps.{entries_of}
 pub record Begins (journal lines : List Line) : Type 0 where
   pub rest : List Line
   pub is : journal ≡ lines ++ rest
+
+-- the entry of a line that has no copies
+abbrev pub quiet : ℕ → Line → Entry
+quiet t line = record { tick = t; fate = []; line = line }
 
 -- each stamp has its line, and with them they are a transcript of the plan
 pub record IsDrafted (plan : PlanView) (stamps : List Stamp) (lines : List Line) : Type 0 where

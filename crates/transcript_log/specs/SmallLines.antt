@@ -1,5 +1,5 @@
 -- Lines in a small form: each names its set of meters by a place in a list of sets.
-use Rattle.std.specs.Prelude.{◌≡◌, ℕ, ◌+◌, ◌-◌, ◌^◌, ◌<◌, ◌≤◌, min, List, [], length, All, slice_index_or, Option, Some, None}
+use Rattle.std.specs.Prelude.{◌≡◌, ℕ, ◌+◌, ◌-◌, ◌^◌, ◌<◌, ◌≤◌, min, List, [], length, All, map, slice_index_or, Option, Some, None}
 use Rattle.group_plan.specs.declared.Tag.{Tag}
 use Rattle.round_machine.specs.declared.Closing.{Closing}
 use Rattle.round_machine.specs.declared.Closing.TheVariants as closing
@@ -7,6 +7,7 @@ use Rattle.round_machine.specs.declared.Ending.{Ending}
 use Rattle.round_machine.specs.declared.Ending.TheVariants as ending
 use Rattle.transcript_log.specs.declared.Line.{Line}
 use Rattle.transcript_log.specs.declared.Line.TheVariants.{Send, Take, Close, End}
+use Rattle.transcript_log.specs.Transcripts.{IsLine}
 use Rattle.transcript_log.specs.declared.small.SmallTag.{SmallTag}
 use Rattle.transcript_log.specs.declared.small.SmallClosing.{SmallClosing}
 use Rattle.transcript_log.specs.declared.small.SmallClosing.TheVariants as small_closing
@@ -112,10 +113,11 @@ pub record Grows (old new : List (List ℕ)) : Type 0 where
   pub most : length new ≤ length old + 1
   pub same : (place : ℕ) → place < length old → set_at new place ≡ set_at old place
 
--- there are fewer than 2^32 sets, and each line names one of them
+-- there are fewer than 2^32 sets, each line names one of them, and all are lines by the types of their parts
 pub record AreKept (sets : List (List ℕ)) (lines : List SmallLine) : Type 0 where
   pub few : length sets ≤ 2 ^ 32 - 1
   pub placed : All (IsPlaced (length sets)) lines
+  pub sound : All IsLine (map (line_in sets) lines)
 
 -- for how many more lines there is room, each with a set: in the list of lines, and in that of sets, which has fewer than 2^32
 abbrev pub spare_of : ℕ → ℕ → ℕ → ℕ → ℕ

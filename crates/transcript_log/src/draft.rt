@@ -1,13 +1,14 @@
 //! Transcripts in the making: their lines stand in a journal.
 
-ghost use Rattle.std.specs.Prelude.{◌≡◌, ◌≤◌, [], ◌∷◌, ◌++◌, IfOk, OnOk, OnErr};
-ghost use Rattle.transcript_log.specs.Drafts.{Begins};
+ghost use Rattle.std.specs.Prelude.{◌≡◌, ◌≤◌, ◌-◌, [], ◌∷◌, ◌++◌, IfOk, OnOk, OnErr, All, length, map, drop, replicate};
+ghost use Rattle.transcript_log.specs.Drafts.{Begins, quiet};
 ghost use Rattle.transcript_log.specs.Events.{lines_of};
-ghost use Rattle.transcript_log.specs.Transcripts.{Fits, Pushes, last_tick_from, no_entries};
+ghost use Rattle.transcript_log.specs.Transcripts.{Fits, FitsLine, Pushes, last_tick_from, no_entries};
 
-use crate::transcript::{Stamp, entry_is};
+use crate::transcript::{Stamp, entry_is, fate_is, tick_is};
 use crate::{Entry, Lines, Transcript};
 use group_plan::Plan;
+use link_lanes::Fate;
 use std::alloc::{AllocError, Global};
 use std::marker::Model;
 use std::snapshot::Snapshot;
@@ -47,6 +48,25 @@ fn add_stamp(stamps: &mut Vec<Stamp>, entry: &Entry) -> Result<(), AllocError>
     Ok(())
 }
 
+/// The fate of a line that is no Send.
+fn no_copies() -> Fate
+    ensures { result ≡ [] }
+{
+    match Fate::new(&[]) {
+        Ok(fate) => fate,
+        Err(_) => unreachable!(),
+    }
+}
+
+/// Adds a stamp until there are so many.
+fn add_stamps(stamps: &mut Vec<Stamp>, count: usize, stamp: Stamp) -> Result<(), AllocError>
+    requires { length stamps.old.items ≤ count }
+    ensures ok { OnOk result (stamps.new.items ≡ stamps.old.items ++ replicate (count - length stamps.old.items) stamp) }
+    ensures err { OnErr result (stamps.new.items ≡ stamps.old.items) }
+{
+    stamps.resize(count, stamp)
+}
+
 impl Draft {
     /// The draft of a plan before its first entry, with room for so many entries.
     pub fn with_room(alloc: Global, plan: &Plan, entries: usize) -> Result<Draft, AllocError>
@@ -69,6 +89,23 @@ impl Draft {
     {
         entry_is(&entry);
         add_stamp(&mut self.stamps, &entry)?;
+        self.lines = Snapshot::of(journal);
+        Ok(())
+    }
+
+    /// Adds an entry for each line that the journal has beyond those of the entries, all at one tick and with no copies.
+    pub fn push_all(&mut self, tick: u32, journal: &Lines) -> Result<(), AllocError>
+        requires tick { last_tick_from 0 self.old.entries ≤ tick }
+        requires before { Begins journal.now.items (lines_of self.old.entries) }
+        requires fits { All (FitsLine self.old.plan []) (drop (length self.old.entries) journal.now.items) }
+        ensures ok { OnOk result (self.new ≡ record self.old { entries = self.old.entries ++ map (quiet tick) (drop (length self.old.entries) journal.now.items) }) }
+        ensures err { OnErr result (self.new ≡ self.old) }
+    {
+        journal.are_lines();
+        tick_is(tick);
+        let fate = no_copies();
+        fate_is(fate);
+        add_stamps(&mut self.stamps, journal.len(), Stamp { tick, fate })?;
         self.lines = Snapshot::of(journal);
         Ok(())
     }

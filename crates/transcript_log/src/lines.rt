@@ -1,11 +1,13 @@
 //! A list of lines that is kept small: 24 bytes a line, beside the sets of meters that lines name.
 
-ghost use Rattle.std.specs.Prelude.{◌≡◌, ◌↔◌, ◌^◌, ◌-◌, ◌+◌, ◌<◌, ◌≤◌, ◌++◌, [], ◌∷◌, Some, IsTrue, IfOk, OnOk, OnErr, length, slice_get, slice_index_or, vec_len, vec_capacity};
+ghost use Rattle.std.specs.Prelude.{◌≡◌, ◌↔◌, ◌^◌, ◌-◌, ◌+◌, ◌<◌, ◌≤◌, ◌++◌, [], ◌∷◌, Some, IsTrue, IfOk, OnOk, OnErr, All, length, slice_get, slice_index_or, vec_len, vec_capacity};
 ghost use Rattle.transcript_log.specs.Lines.{HasOwnTag};
 ghost use Rattle.transcript_log.specs.SmallLines.{set_of, StandsAt, Grows};
+ghost use Rattle.transcript_log.specs.Transcripts.{IsLine};
 
 use crate::Line;
 use crate::small::{SmallLine, line_in, set_of, small_line};
+use crate::transcript::line_is;
 use missing_round::MeterSet;
 use std::alloc::{AllocError, Global};
 use std::marker::Model;
@@ -114,6 +116,13 @@ impl Lines {
         self.lines.as_slice().len()
     }
 
+    /// What the types of their parts say of all lines.
+    pub(crate) fn are_lines(&self)
+        ensures { All IsLine self.now.items }
+    {
+        let _lines = self.lines.len();
+    }
+
     /// For how many more lines there is room.
     pub fn spare(&self) -> u64
         ensures { result ≡ self.now.spare }
@@ -138,6 +147,7 @@ impl Lines {
         ensures items { self.new.items ≡ self.old.items ++ line.now ∷ [] }
         ensures spare { self.old.spare ≤ self.new.spare + 1 }
     {
+        line_is(line);
         let place = add_set_of(&mut self.sets, line);
         self.lines.push_reserved(small_line(line, place));
     }

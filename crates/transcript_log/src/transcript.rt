@@ -91,7 +91,7 @@ fn ending_is(group: u16, round: u32, ending: Ending)
     }
 }
 
-fn line_is(line: &Line)
+pub(crate) fn line_is(line: &Line)
     ensures { IsLine line.now }
 {
     match line {
@@ -110,13 +110,13 @@ fn line_is(line: &Line)
     }
 }
 
-fn fate_is(fate: Fate)
+pub(crate) fn fate_is(fate: Fate)
     ensures { IsFate fate }
 {
     let _delays = fate.delays();
 }
 
-fn tick_is(tick: u32)
+pub(crate) fn tick_is(tick: u32)
     ensures { tick < 2 ^ 32 }
 {}
 

@@ -13,7 +13,7 @@ invariant_of-self c =
     let sets = c.self.inside.sets.ok.0 in
     subst (AreKept c.add_set_of-place.new.sets.items) (sym c.push_reserved.ensures.items)
     (still_kept c.self.inside.sets.items c.add_set_of-place.new.sets.items c.self.inside.lines.items c.small_line.result c.args.line.now c.self.invariant
-    (omega (arith, c.requires.room, spare, sets)) c.add_set_of-place.ensures.sets (is_kept c))
+    (omega (arith, c.requires.room, spare, sets)) c.add_set_of-place.ensures.sets (is_kept c) c.line_is.ensures)
 
 pub returns-clause-items : goal.returns-clause-items
 returns-clause-items c =
