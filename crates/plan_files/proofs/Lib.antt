@@ -3,6 +3,7 @@ pub mod AllRecords
 pub mod DistinctLemmas
 pub mod FormLemmas
 pub mod GatherLemmas
+pub mod KeyLemmas
 pub mod KeyOrder
 pub mod MissingLemmas
 pub mod PieceLemmas

@@ -5,6 +5,7 @@ mod entry;
 mod fault;
 mod gathering;
 mod head;
+mod key;
 pub mod laws;
 mod pieces;
 mod plan;

@@ -4,11 +4,11 @@ ghost use Rattle.csv.specs.Records.{fields_of};
 ghost use Rattle.plan_files.specs.PlanRows.{has_fields, key_in, name_in, number_in, starts_with};
 
 use crate::fault::FileCause;
+use crate::key::read_key;
 use crate::table::field;
 use csv::ByteRecord;
 use field_texts::read_number_within;
 use group_plan::Name;
-use hex::FromHex;
 
 /// The bound of all numbers but readings.
 const NUMBER_BOUND: u64 = 1 << 32;
@@ -47,9 +47,9 @@ pub fn number_field(row: &ByteRecord, place: usize) -> Result<u32, FileCause>
 pub fn key_field(row: &ByteRecord, place: usize) -> Result<[u8; 32], FileCause>
     ensures { result ≡ key_in (fields_of row.now) place }
 {
-    match <[u8; 32] as FromHex>::from_hex(field(row, place)) {
-        Ok(key) => Ok(key),
-        Err(_) => Err(FileCause::Hex),
+    match read_key(field(row, place)) {
+        Some(key) => Ok(key),
+        None => Err(FileCause::Hex),
     }
 }
 
