@@ -76,7 +76,7 @@ unfolding next_record
 next_in_empty s h = rw h refl
 
 -- so each record takes a byte
-next_shrinks : (n : ℕ) (s : State) (text : List ℕ) (p : Read) → IsBetween s → length text < suc n → next_record default_config s [] [] text ≡ Some p → IsBetween p.1 × (length p.2 < n)
+pub next_shrinks : (n : ℕ) (s : State) (text : List ℕ) (p : Read) → IsBetween s → length text < suc n → next_record default_config s [] [] text ≡ Some p → IsBetween p.1 × (length p.2 < n)
 next_shrinks n s [] p h lt e = absurd (let none = next_in_empty s h in cc)
 next_shrinks n s (c ∷ rest) p h lt e = let l = rw e at (next_leaves s [] [] (c ∷ rest)) in (l.0, omega arith)
 
@@ -110,9 +110,15 @@ length-strip_bom (a ∷ b ∷ []) = omega arith
 length-strip_bom (a ∷ b ∷ c ∷ rest) = elim (is_bom a b c) as (λ t. length (if t then rest else a ∷ b ∷ c ∷ rest) ≤ length (a ∷ b ∷ c ∷ rest)) [ true ↦ omega arith | false ↦ omega arith ]
 
 -- a file has at most one row for each of its bytes, and one
-pub rows_few : (rows : List Row) (bytes : List ℕ) → map fields_of rows ≡ file_rows bytes → length rows ≤ length bytes + 1
-rows_few rows bytes e =
+pub few_rows : (bytes : List ℕ) → length (file_rows bytes) ≤ length bytes + 1
+few_rows bytes =
     let few = few_from (length (strip_bom bytes) + 1) st.StartRecord (strip_bom bytes) in
     let short = length-strip_bom bytes in
+    omega arith
+
+-- and so has what is read of them
+pub rows_few : (rows : List Row) (bytes : List ℕ) → map fields_of rows ≡ file_rows bytes → length rows ≤ length bytes + 1
+rows_few rows bytes e =
+    let few = few_rows bytes in
     let long = ap length e in
     omega (arith, length-map rows fields_of)

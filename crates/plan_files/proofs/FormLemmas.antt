@@ -1,22 +1,22 @@
 -- What follows from the form of rows.
-use Rattle.std.proofs.Common.{◌≡◌, ◌<◌, ◌≤◌, ◌+◌, ℕ, zero, suc, Bool, true, false, not, List, [], ◌∷◌, ◌++◌, length, get_or, drop, map, codes, Result, Ok, Err, refl, sym, ap, arith, add-one, append_assoc, append-nil}
-use Rattle.std.proofs.Math.Seq.{drop-nil}
+use Rattle.std.proofs.Common.{◌≡◌, ◌<◌, ◌≤◌, ◌+◌, ℕ, zero, suc, Bool, true, false, not, List, [], ◌∷◌, ◌++◌, length, get_or, drop, codes, Result, Ok, Err, refl, sym, ap, ◌∙◌, arith, append_assoc, append-nil, drop-drop, if◌then◌else◌, nat_lt, inl, inr}
+use Rattle.std.proofs.lemmas.Bool.{cases_lt, lt-ltb, ltb-true}
 use Rattle.std.proofs.lemmas.List.Folds.{list_all_at}
 use Rattle.std.proofs.lemmas.List.Quantifiers.{position-Some}
 use Rattle.std.specs.List.{list_all}
-use Rattle.csv.specs.Records.{Row, fields_of}
 use Rattle.group_plan.specs.declared.plan.GroupPlan.{GroupPlan}
 use Rattle.link_lanes.specs.ArgBytes.{is_arg_byte}
 use Rattle.link_lanes.specs.Args.{MakesArg}
 use Rattle.link_lanes.specs.declared.row.ArgError.{ArgError}
 use Rattle.link_lanes.specs.declared.row.ArgError.TheVariants.{Byte, Memory}
-use Rattle.plan_files.specs.Faults.{◌>>=◌, ButMemory, in_row}
-use Rattle.plan_files.specs.PlanForms.{entries_from, groups_from}
-use Rattle.plan_files.specs.PlanRows.{entry_of, group_row, starts_with}
+use Rattle.plan_files.specs.Faults.{◌>>=◌, ButMemory, at_row, in_row}
+use Rattle.plan_files.specs.PlanForms.{entries_from, first_due, groups_from, head_of, row_due}
+use Rattle.plan_files.specs.PlanRows.{entry_of, group_row, plan_row, rounds_row, starts_with, windows_row}
 use Rattle.plan_files.specs.declared.entry.Entry.{Entry}
 use Rattle.plan_files.specs.declared.fault.FileCause.{FileCause}
 use Rattle.plan_files.specs.declared.fault.FileCause.TheVariants as cause
 use Rattle.plan_files.specs.declared.fault.FileError.{FileError}
+use Rattle.plan_files.specs.declared.head.Windows.{Windows}
 
 not_true : (b : Bool) → not b ≡ true → b ≡ false
 not_true true h = cc
@@ -44,57 +44,96 @@ after_one xs x (Err fault) = refl
 after_none : {A : Type 0} (xs : List A) → after xs (Ok []) ≡ Ok xs
 after_none xs = ap Ok (append-nil xs)
 
--- the rows from the i-th on, which is x
-rows_at : (rows : List Row) (i : ℕ) (x : Row) → i < length rows → x ≡ get_or rows i x → map fields_of (drop i rows) ≡ fields_of x ∷ map fields_of (drop (i + 1) rows)
-rows_at [] i x h is = absurd (omega arith)
-rows_at (r ∷ rs) zero x h is = ap (λ (y : Row). fields_of y ∷ map fields_of rs) (sym is)
-rows_at (r ∷ rs) (suc i) x h is = simp add-one (simp add-one at (rows_at rs i x (omega arith) is))
+-- ---- the first rows
 
-pub rows_past : (rows : List Row) (i : ℕ) → length rows ≤ i → map fields_of (drop i rows) ≡ []
-rows_past [] i h = rw (drop-nil i) refl
-rows_past (r ∷ rs) zero h = absurd (omega arith)
-rows_past (r ∷ rs) (suc i) h = rows_past rs i (omega arith)
+due_by : {A : Type 0} (form : List (List ℕ) → Result A FileCause) (there : Bool) (rows : List (List (List ℕ))) (place n : ℕ)
+    → (there ≡ true → place < length rows) → (there ≡ false → length rows ≤ place)
+    → (if there then at_row n (form (get_or rows place [])) else Err (in_row n cause.Short)) ≡ first_due form n (drop place rows)
+due_by form true [] place n h k = absurd (let lt = h refl in omega arith)
+due_by form false [] zero n h k = refl
+due_by form false [] (suc place) n h k = refl
+due_by form true (row ∷ rows) zero n h k = refl
+due_by form false (row ∷ rows) zero n h k = absurd (let le = k refl in omega arith)
+due_by form there (row ∷ rows) (suc place) n h k = due_by form there rows place n (λ e. let lt = h e in omega arith) (λ e. let le = k e in omega arith)
+
+not_there : (place count : ℕ) → nat_lt place count ≡ false → count ≤ place
+not_there place count e = elim (cases_lt place count) [ inl lt ↦ absurd (let there = lt-ltb place count lt in cc) | inr ge ↦ ge ]
+
+-- a row at a place is the first of those from there on
+due_at : {A : Type 0} (form : List (List ℕ) → Result A FileCause) (rows : List (List (List ℕ))) (place n : ℕ)
+    → (if nat_lt place (length rows) then at_row n (form (get_or rows place [])) else Err (in_row n cause.Short)) ≡ first_due form n (drop place rows)
+due_at form rows place n = due_by form (nat_lt place (length rows)) rows place n (ltb-true place (length rows)) (not_there place (length rows))
+
+first_row : (rows : List (List (List ℕ))) → row_due plan_row rows 0 ≡ first_due plan_row 1 rows
+unfolding row_due
+first_row rows = due_at plan_row rows 0 1
+
+second_row : (rows second : List (List (List ℕ))) → second ≡ drop 1 rows → row_due rounds_row rows 1 ≡ first_due rounds_row 2 second
+unfolding row_due
+second_row rows second is = due_at rounds_row rows 1 2 ∙ ap (first_due rounds_row 2) (sym is)
+
+third_row : (rows second third : List (List (List ℕ))) → second ≡ drop 1 rows → third ≡ drop 1 second → row_due windows_row rows 2 ≡ first_due windows_row 3 third
+unfolding row_due
+third_row rows second third is next =
+    due_at windows_row rows 2 3 ∙ ap (first_due windows_row 3) (sym (next ∙ ap (drop 1) is ∙ drop-drop 1 1 rows))
+
+pub no_version : (rows : List (List (List ℕ))) (error : FileError) → first_due plan_row 1 rows ≡ Err error → head_of rows ≡ Err error
+unfolding head_of
+no_version rows error wrong = rw (first_row rows, wrong) refl
+
+pub no_rounds : (rows second : List (List (List ℕ))) (error : FileError) → first_due plan_row 1 rows ≡ Ok tt → second ≡ drop 1 rows
+    → first_due rounds_row 2 second ≡ Err error → head_of rows ≡ Err error
+unfolding head_of
+no_rounds rows second error version is wrong = rw (first_row rows, version, second_row rows second is, wrong) refl
+
+pub no_windows : (rows second third : List (List (List ℕ))) (rounds : ℕ) (error : FileError) → first_due plan_row 1 rows ≡ Ok tt → second ≡ drop 1 rows
+    → first_due rounds_row 2 second ≡ Ok rounds → third ≡ drop 1 second → first_due windows_row 3 third ≡ Err error → head_of rows ≡ Err error
+unfolding head_of
+no_windows rows second third rounds error version is read next wrong = rw (first_row rows, version, second_row rows second is, read, third_row rows second third is next, wrong) refl
+
+pub whole_head : (rows second third : List (List (List ℕ))) (rounds : ℕ) (windows : Windows) → first_due plan_row 1 rows ≡ Ok tt → second ≡ drop 1 rows
+    → first_due rounds_row 2 second ≡ Ok rounds → third ≡ drop 1 second → first_due windows_row 3 third ≡ Ok windows
+    → head_of rows ≡ Ok (record { rounds = rounds; windows = windows })
+unfolding head_of
+whole_head rows second third rounds windows version is read next given = rw (first_row rows, version, second_row rows second is, read, third_row rows second third is next, given) refl
 
 -- ---- groups
 
-pub groups_more : (rows : List Row) (i n : ℕ) (x : Row) (groups : List GroupPlan) (group : GroupPlan) → i < length rows → x ≡ get_or rows i x
-    → starts_with (codes "group") (fields_of x) ≡ true → Ok group ≡ group_row (fields_of x)
-    → after groups (groups_from n (map fields_of (drop i rows))) ≡ after (groups ++ group ∷ []) (groups_from (n + 1) (map fields_of (drop (i + 1) rows)))
+pub groups_more : (rows rest : List (List (List ℕ))) (n m : ℕ) (row : List (List ℕ)) (groups : List GroupPlan) (group : GroupPlan) → rows ≡ row ∷ rest → n + 1 ≡ m
+    → starts_with (codes "group") row ≡ true → Ok group ≡ group_row row → after groups (groups_from n rows) ≡ after (groups ++ group ∷ []) (groups_from m rest)
 unfolding groups_from
-groups_more rows i n x groups group h is word read =
-    rw (rows_at rows i x h is, word, ← read) (after_one groups group (groups_from (n + 1) (map fields_of (drop (i + 1) rows))))
+groups_more rows rest n m row groups group is next word read =
+    rw (is, word, ← read) (after_one groups group (groups_from (n + 1) rest) ∙ ap (λ k. after (groups ++ group ∷ []) (groups_from k rest)) next)
 
-pub groups_fault : (rows : List Row) (i n : ℕ) (x : Row) (groups : List GroupPlan) (what : FileCause) → i < length rows → x ≡ get_or rows i x
-    → starts_with (codes "group") (fields_of x) ≡ true → Err what ≡ group_row (fields_of x)
-    → after groups (groups_from n (map fields_of (drop i rows))) ≡ Err (in_row n what)
+pub groups_fault : (rows rest : List (List (List ℕ))) (n : ℕ) (row : List (List ℕ)) (groups : List GroupPlan) (what : FileCause) → rows ≡ row ∷ rest
+    → starts_with (codes "group") row ≡ true → Err what ≡ group_row row → after groups (groups_from n rows) ≡ Err (in_row n what)
 unfolding groups_from
-groups_fault rows i n x groups what h is word read = rw (rows_at rows i x h is, word, ← read) refl
+groups_fault rows rest n row groups what is word read = rw (is, word, ← read) refl
 
-pub groups_stop : (rows : List Row) (i n : ℕ) (x : Row) (groups : List GroupPlan) → i < length rows → x ≡ get_or rows i x
-    → starts_with (codes "group") (fields_of x) ≡ false → after groups (groups_from n (map fields_of (drop i rows))) ≡ Ok groups
+pub groups_stop : (rows rest : List (List (List ℕ))) (n : ℕ) (row : List (List ℕ)) (groups : List GroupPlan) → rows ≡ row ∷ rest
+    → starts_with (codes "group") row ≡ false → after groups (groups_from n rows) ≡ Ok groups
 unfolding groups_from
-groups_stop rows i n x groups h is word = rw (rows_at rows i x h is, word) (after_none groups)
+groups_stop rows rest n row groups is word = rw (is, word) (after_none groups)
 
-pub groups_end : (rows : List Row) (i n : ℕ) (groups : List GroupPlan) → length rows ≤ i → after groups (groups_from n (map fields_of (drop i rows))) ≡ Ok groups
+pub groups_end : (rows : List (List (List ℕ))) (n : ℕ) (groups : List GroupPlan) → rows ≡ [] → after groups (groups_from n rows) ≡ Ok groups
 unfolding groups_from
-groups_end rows i n groups h = rw (rows_past rows i h) (after_none groups)
+groups_end rows n groups none = rw none (after_none groups)
 
 -- ---- the rows after the groups
 
-pub entries_more : (rows : List Row) (i n : ℕ) (x : Row) (entries : List Entry) (entry : Entry) → i < length rows → x ≡ get_or rows i x → entry_of n (fields_of x) ≡ Ok entry
-    → after entries (entries_from n (map fields_of (drop i rows))) ≡ after (entries ++ entry ∷ []) (entries_from (n + 1) (map fields_of (drop (i + 1) rows)))
+pub entries_more : (rows rest : List (List (List ℕ))) (n : ℕ) (row : List (List ℕ)) (entries : List Entry) (entry : Entry) → rows ≡ row ∷ rest
+    → entry_of n row ≡ Ok entry → after entries (entries_from n rows) ≡ after (entries ++ entry ∷ []) (entries_from (n + 1) rest)
 unfolding entries_from
-entries_more rows i n x entries entry h is read =
-    rw (rows_at rows i x h is, read) (after_one entries entry (entries_from (n + 1) (map fields_of (drop (i + 1) rows))))
+entries_more rows rest n row entries entry is read = rw (is, read) (after_one entries entry (entries_from (n + 1) rest))
 
-pub entries_fault : (rows : List Row) (i n : ℕ) (x : Row) (entries : List Entry) (what : FileCause) → i < length rows → x ≡ get_or rows i x → entry_of n (fields_of x) ≡ Err what
-    → after entries (entries_from n (map fields_of (drop i rows))) ≡ Err (in_row n what)
+pub entries_fault : (rows rest : List (List (List ℕ))) (n : ℕ) (row : List (List ℕ)) (entries : List Entry) (what : FileCause) → rows ≡ row ∷ rest
+    → entry_of n row ≡ Err what → after entries (entries_from n rows) ≡ Err (in_row n what)
 unfolding entries_from
-entries_fault rows i n x entries what h is read = rw (rows_at rows i x h is, read) refl
+entries_fault rows rest n row entries what is read = rw (is, read) refl
 
-pub entries_end : (rows : List Row) (i n : ℕ) (entries : List Entry) → length rows ≤ i → after entries (entries_from n (map fields_of (drop i rows))) ≡ Ok entries
+pub entries_end : (rows : List (List (List ℕ))) (n : ℕ) (entries : List Entry) → rows ≡ [] → after entries (entries_from n rows) ≡ Ok entries
 unfolding entries_from
-entries_end rows i n entries h = rw (rows_past rows i h) (after_none entries)
+entries_end rows n entries none = rw none (after_none entries)
 
 -- ---- want of memory
 

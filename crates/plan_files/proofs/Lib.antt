@@ -6,12 +6,12 @@ pub mod GatherLemmas
 pub mod KeyLemmas
 pub mod KeyOrder
 pub mod MissingLemmas
-pub mod PieceLemmas
 pub mod PlainRowLemmas
 pub mod PlainTexts
 pub mod PlanLemmas
 pub mod ReadingLemmas
 pub mod RowLemmas
+pub mod RowsLeft
 pub mod SoundPlans
 pub mod SpelledForms
 pub mod SpelledKeys

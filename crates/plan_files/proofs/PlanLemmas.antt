@@ -73,9 +73,9 @@ good_entries plan new fault n entries spans gathered is settles right = filled p
 
 -- ---- the rows of a file
 
-pub bad_head : (rows : List (List (List ℕ))) (error : FileError) → head_of rows ≡ Err error → plan_from rows ≡ Err error
+pub bad_head : (rows : List (List (List ℕ))) (error : FileError) → ButMemory error.cause (head_of rows ≡ Err error) → ButMemory error.cause (plan_from rows ≡ Err error)
 unfolding plan_from
-bad_head rows error wrong = rw wrong refl
+bad_head rows error wrong = but_memory error.cause (λ (w : head_of rows ≡ Err error). rw w refl) wrong
 
 -- the first steps went well
 pub record IsBegun (rows : List (List (List ℕ))) (first : Head) (named : List GroupPlan) : Type 0 where

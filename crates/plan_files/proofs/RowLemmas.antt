@@ -1,5 +1,5 @@
 -- Fields of a row, rows of a file, and lists compared item by item.
-use Rattle.std.proofs.Common.{◌≡◌, ◌∙◌, ◌<◌, ◌+◌, ℕ, zero, suc, Bool, true, false, ◌&&◌, List, [], ◌∷◌, length, drop, take, get_or, Option, Some, None, refl, arith, add-one, ◌-◌, length-drop, take_all}
+use Rattle.std.proofs.Common.{◌≡◌, ◌∙◌, ◌<◌, ◌+◌, ℕ, zero, suc, Bool, true, false, ◌&&◌, List, [], ◌∷◌, length, drop, get_or, Option, Some, None, refl, arith, add-one}
 use Rattle.std.specs.Cmp.Lexicographic.{pointwise}
 use Rattle.csv.specs.Records.{field_at}
 
@@ -30,7 +30,3 @@ same_more same xs ys i d x y h k p q t = same_step same xs ys i d x y h k p q �
 pub same_less : {A : Type 0} (same : A → A → Bool) (xs ys : List A) (i : ℕ) (d x y : A) → i < length xs → i < length ys → get_or xs i d ≡ x → get_or ys i d ≡ y
     → same x y ≡ false → pointwise same (drop i xs) (drop i ys) ≡ false
 same_less same xs ys i d x y h k p q t = same_step same xs ys i d x y h k p q ∙ rw t refl
-
--- what is left behind a place, cut to its length
-pub rest_of : {A : Type 0} (xs : List A) (n : ℕ) → take (length xs - n) (drop n xs) ≡ drop n xs
-rest_of xs n = take_all (length xs - n) (drop n xs) (omega (arith, length-drop n xs))

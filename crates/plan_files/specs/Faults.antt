@@ -20,6 +20,10 @@ abbrev pub ButMemory : FileCause → Type 0 → Type 0
 ButMemory cause.Memory claim = Unit {0}
 ButMemory other claim = claim
 
+-- memory ran out
+abbrev pub IsWantOfMemory : FileError → Type 0
+IsWantOfMemory fault = fault.cause ≡ cause.Memory
+
 -- a step after one that went well
 infixl 10 ◌>>=◌
 abbrev pub ◌>>=◌ : {A B E : Type 0} → Result A E → (A → Result B E) → Result B E

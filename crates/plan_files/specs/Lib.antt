@@ -3,12 +3,12 @@ pub mod Faults
 pub mod Filling
 pub mod Gathering
 pub mod MissingKeys
-pub mod Pieces
 pub mod PlanFiles
 pub mod PlainRows
 pub mod PlanForms
 pub mod PlanRows
 pub mod Readings
 pub mod Rows
+pub mod RowsLeft
 pub mod SpelledFiles
 pub mod Spelling

@@ -14,6 +14,11 @@ unfoldable pub row_due : {A : Type 0} → (List (List ℕ) → Result A FileCaus
 row_due form rows place =
     if nat_lt place (length rows) then at_row (place + 1) (form (slice_index_or rows place [])) else Err (in_row (place + 1) cause.Short)
 
+-- what the first of these rows, row n of the file, says by its form; a file without it is short
+abbrev pub first_due : {A : Type 0} → (List (List ℕ) → Result A FileCause) → ℕ → List (List (List ℕ)) → Result A FileError
+first_due form n [] = Err (in_row n cause.Short)
+first_due form n (row ∷ rows) = at_row n (form row)
+
 -- what the first three rows say
 unfoldable pub head_of : List (List (List ℕ)) → Result Head FileError
 head_of rows = do

@@ -1,11 +1,14 @@
 //! The rows of a plan file after the groups: keys, lanes and members.
-ghost use Rattle.std.specs.Prelude.{◌≡◌};
+ghost use Rattle.std.specs.Prelude.{◌≡◌, ◌≤◌, ◌+◌, ◌^◌, IfErr, IfOk, Ok, Err, length};
 ghost use Rattle.csv.specs.Records.{fields_of};
-ghost use Rattle.plan_files.specs.Faults.{Answers};
+ghost use Rattle.plan_files.specs.Faults.{Answers, ButMemory};
+ghost use Rattle.plan_files.specs.PlanForms.{entries_from};
 ghost use Rattle.plan_files.specs.PlanRows.{arg_in, entry_of, lane_row, member_row, own_row, pair_row};
+ghost use Rattle.plan_files.specs.RowsLeft.{CanGoOn, rows_left};
 
-use crate::fault::FileCause;
+use crate::fault::{FileCause, FileError, NO_MEMORY};
 use crate::row::{check_fields, key_field, name_field, number_field, starts_with};
+use crate::row_reader::RowReader;
 use crate::table::field;
 use csv::ByteRecord;
 use group_plan::Span;
@@ -129,4 +132,33 @@ pub fn read_entry(alloc: Global, number: u32, row: &ByteRecord) -> Result<Entry,
     } else {
         Err(FileCause::Row)
     }
+}
+
+/// What the rows that are left say, up to the first fault of form. The first of them is row `first` of the file.
+pub fn read_entries(
+    alloc: Global,
+    first: u32,
+    rows: &mut RowReader<'_>,
+) -> Result<Vec<Entry>, FileError>
+    requires sound { CanGoOn rows.old }
+    requires few { first + length (rows_left rows.old) ≤ 2 ^ 28 + 2 }
+    ensures read { IfOk result (λ entries. entries_from first (rows_left rows.old) ≡ Ok entries.items) }
+    ensures few { IfOk result (λ entries. length entries.items ≤ length (rows_left rows.old)) }
+    ensures fault { IfErr result (λ fault. ButMemory fault.cause (entries_from first (rows_left rows.old) ≡ Err fault)) }
+{
+    let mut entries = Vec::new(alloc);
+    let mut number = first;
+    while let Some(row) = rows.current() {
+        match read_entry(alloc, number, row) {
+            Ok(entry) => {
+                if entries.push(entry).is_err() {
+                    return Err(NO_MEMORY);
+                }
+            }
+            Err(cause) => return Err(FileError { row: number, cause }),
+        }
+        number += 1;
+        rows.advance()?;
+    }
+    Ok(entries)
 }

@@ -1,13 +1,15 @@
 //! The first rows of a plan file: its version, its rounds and windows, and its groups.
-ghost use Rattle.std.specs.Prelude.{◌≡◌, ◌≤◌, ◌+◌, ◌^◌, IfErr, IfOk, Ok, Err, length, map};
+ghost use Rattle.std.specs.Prelude.{◌≡◌, ◌≤◌, ◌+◌, ◌^◌, IfErr, IfOk, OnOk, Ok, Err, drop, length};
 ghost use Rattle.csv.specs.Records.{fields_of};
 ghost use Rattle.plan_files.specs.Faults.{ButMemory};
-ghost use Rattle.plan_files.specs.PlanForms.{groups_from, head_of, row_due};
+ghost use Rattle.plan_files.specs.PlanForms.{first_due, groups_from, head_of};
 ghost use Rattle.plan_files.specs.PlanRows.{group_row, plan_row, rounds_row, windows_row};
+ghost use Rattle.plan_files.specs.RowsLeft.{CanGoOn, rows_left};
 
 use crate::fault::{FileCause, FileError, NO_MEMORY};
 use crate::row::{check_fields, name_field, number_field, starts_with};
-use crate::table::{is_row, row_at};
+use crate::row_reader::RowReader;
+use crate::table::is_row;
 use csv::ByteRecord;
 use group_plan::GroupPlan;
 use std::alloc::Global;
@@ -80,79 +82,82 @@ fn read_group(row: &ByteRecord) -> Result<GroupPlan, FileCause>
 }
 
 /// Whether the file starts with its version.
-#[tactic(auto, unfolding(crate::specs::PlanForms::row_due))]
-fn check_first_row(rows: &[ByteRecord]) -> Result<(), FileError>
-    ensures { result ≡ row_due plan_row (map fields_of rows.now) 0 }
+fn check_first_row(rows: &RowReader<'_>) -> Result<(), FileError>
+    ensures { result ≡ first_due plan_row 1 (rows_left rows.now) }
 {
-    if rows.is_empty() {
+    let Some(row) = rows.current() else {
         return Err(FileError {
             row: 1,
             cause: FileCause::Short,
         });
-    }
-    match check_version(row_at(rows, 0)) {
+    };
+    match check_version(row) {
         Ok(()) => Ok(()),
         Err(cause) => Err(FileError { row: 1, cause }),
     }
 }
 
-/// The rounds of the plan.
-#[tactic(auto, unfolding(crate::specs::PlanForms::row_due))]
-fn read_second_row(rows: &[ByteRecord]) -> Result<u32, FileError>
-    ensures { result ≡ row_due rounds_row (map fields_of rows.now) 1 }
+/// The rounds of the plan, in its second row.
+fn read_second_row(rows: &RowReader<'_>) -> Result<u32, FileError>
+    ensures { result ≡ first_due rounds_row 2 (rows_left rows.now) }
 {
-    if rows.len() <= 1 {
+    let Some(row) = rows.current() else {
         return Err(FileError {
             row: 2,
             cause: FileCause::Short,
         });
-    }
-    match read_rounds(row_at(rows, 1)) {
+    };
+    match read_rounds(row) {
         Ok(rounds) => Ok(rounds),
         Err(cause) => Err(FileError { row: 2, cause }),
     }
 }
 
-/// The windows of the plan.
-#[tactic(auto, unfolding(crate::specs::PlanForms::row_due))]
-fn read_third_row(rows: &[ByteRecord]) -> Result<Windows, FileError>
-    ensures value { result ≡ row_due windows_row (map fields_of rows.now) 2 }
-    ensures long { IfOk result (λ _. 3 ≤ length rows.now) }
+/// The windows of the plan, in its third row.
+fn read_third_row(rows: &RowReader<'_>) -> Result<Windows, FileError>
+    ensures { result ≡ first_due windows_row 3 (rows_left rows.now) }
 {
-    if rows.len() <= 2 {
+    let Some(row) = rows.current() else {
         return Err(FileError {
             row: 3,
             cause: FileCause::Short,
         });
-    }
-    match read_windows(row_at(rows, 2)) {
+    };
+    match read_windows(row) {
         Ok(windows) => Ok(windows),
         Err(cause) => Err(FileError { row: 3, cause }),
     }
 }
 
 /// What the first three rows say.
-#[tactic(auto, unfolding(crate::specs::PlanForms::head_of))]
-pub fn read_head(rows: &[ByteRecord]) -> Result<Head, FileError>
-    ensures value { result ≡ head_of (map fields_of rows.now) }
-    ensures long { IfOk result (λ _. 3 ≤ length rows.now) }
+pub fn read_head(rows: &mut RowReader<'_>) -> Result<Head, FileError>
+    requires { CanGoOn rows.old }
+    ensures read { IfOk result (λ head. head_of (rows_left rows.old) ≡ Ok head) }
+    ensures rest { OnOk result (rows_left rows.new ≡ drop 3 (rows_left rows.old)) }
+    ensures sound { OnOk result (CanGoOn rows.new) }
+    ensures fault { IfErr result (λ fault. ButMemory fault.cause (head_of (rows_left rows.old) ≡ Err fault)) }
 {
     check_first_row(rows)?;
+    rows.advance()?;
     let rounds = read_second_row(rows)?;
+    rows.advance()?;
     let windows = read_third_row(rows)?;
+    rows.advance()?;
     Ok(Head { rounds, windows })
 }
 
 /// The group rows with which these rows start. The first of these is row 4 of the file.
-#[tactic(auto, using(crate::proofs::FormLemmas::groups_more, crate::proofs::FormLemmas::groups_fault, crate::proofs::FormLemmas::groups_stop, crate::proofs::FormLemmas::groups_end))]
-pub fn read_groups(alloc: Global, rows: &[ByteRecord]) -> Result<Vec<GroupPlan>, FileError>
-    requires { length rows.now ≤ 2 ^ 28 + 1 }
-    ensures read { IfOk result (λ groups. groups_from 4 (map fields_of rows.now) ≡ Ok groups.items) }
-    ensures few { IfOk result (λ groups. length groups.items ≤ length rows.now) }
-    ensures fault { IfErr result (λ fault. ButMemory fault.cause (groups_from 4 (map fields_of rows.now) ≡ Err fault)) }
+pub fn read_groups(alloc: Global, rows: &mut RowReader<'_>) -> Result<Vec<GroupPlan>, FileError>
+    requires sound { CanGoOn rows.old }
+    requires few { length (rows_left rows.old) ≤ 2 ^ 28 + 1 }
+    ensures read { IfOk result (λ groups. groups_from 4 (rows_left rows.old) ≡ Ok groups.items) }
+    ensures few { IfOk result (λ groups. length groups.items ≤ length (rows_left rows.old)) }
+    ensures rest { IfOk result (λ groups. rows_left rows.new ≡ drop (length groups.items) (rows_left rows.old)) }
+    ensures sound { OnOk result (CanGoOn rows.new) }
+    ensures fault { IfErr result (λ fault. ButMemory fault.cause (groups_from 4 (rows_left rows.old) ≡ Err fault)) }
 {
     let mut groups = Vec::new(alloc);
-    for row in rows {
+    while let Some(row) = rows.current() {
         if !starts_with(row, b"group") {
             return Ok(groups);
         }
@@ -169,6 +174,7 @@ pub fn read_groups(alloc: Global, rows: &[ByteRecord]) -> Result<Vec<GroupPlan>,
                 });
             }
         }
+        rows.advance()?;
     }
     Ok(groups)
 }

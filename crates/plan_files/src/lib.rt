@@ -7,10 +7,10 @@ mod gathering;
 mod head;
 mod key;
 pub mod laws;
-mod pieces;
 mod plan;
 mod readings;
 mod row;
+mod row_reader;
 mod table;
 
 pub use fault::{FileCause, FileError};

@@ -1,19 +1,17 @@
 //! The plan file: a plan, its keys and its lanes.
-ghost use Rattle.std.specs.Prelude.{◌≡◌, ◌≤◌, ◌+◌, ◌^◌, IfErr, IfOk, Ok, Err, length, map, OnOk, Some, None, MatchResult};
-ghost use Rattle.csv.specs.Records.{fields_of};
+ghost use Rattle.std.specs.Prelude.{◌≡◌, ◌≤◌, ◌+◌, ◌^◌, IfErr, IfOk, Ok, Err, length, OnOk, Some, None, MatchResult};
 ghost use Rattle.pair_keys.specs.Keys.{keys_of, table_of};
 ghost use Rattle.plan_files.specs.Faults.{ButMemory};
 ghost use Rattle.plan_files.specs.Gathering.{gathered_by};
 ghost use Rattle.plan_files.specs.MissingKeys.{first_missing};
 ghost use Rattle.plan_files.specs.PlanFiles.{PlanEnds, completed, plan_from, plan_of, stated_plan, with_entries};
+ghost use Rattle.plan_files.specs.RowsLeft.{CanGoOn, rows_left};
 
-use crate::entry::Entry;
+use crate::entry::{Entry, read_entries};
 use crate::fault::{FileCause, FileError, NO_MEMORY};
 use crate::gathering::{Gathering, gather, member_spans, settle};
 use crate::head::{Head, read_groups, read_head};
-use crate::pieces::read_entries;
-use crate::table::{rows, rows_from};
-use csv::ByteRecord;
+use crate::row_reader::RowReader;
 use group_plan::{GroupPlan, Plan};
 use link_lanes::LaneRow;
 use pair_keys::{KeyError, KeyId, KeyPile, KeyTable};
@@ -106,27 +104,24 @@ fn with_entries(
 }
 
 /// What the rows of a file say.
-fn plan_from(
-    rt: &(impl Threads + Sync),
-    alloc: Global,
-    rows: &[ByteRecord],
-) -> Result<PlanFile, FileError>
-    requires { length rows.now ≤ 2 ^ 28 + 1 }
-    ensures file { PlanEnds (plan_from (map fields_of rows.now)) result }
+fn plan_from(alloc: Global, rows: &mut RowReader<'_>) -> Result<PlanFile, FileError>
+    requires sound { CanGoOn rows.old }
+    requires few { length (rows_left rows.old) ≤ 2 ^ 28 + 1 }
+    ensures file { PlanEnds (plan_from (rows_left rows.old)) result }
     ensures same { IfOk result (λ file. (table_of file.keys).plan ≡ file.plan) }
 {
     let head = read_head(rows)?;
-    let groups = read_groups(alloc, rows_from(rows, 3))?;
+    let groups = read_groups(alloc, rows)?;
     let first = 4 + groups.len() as u32;
-    let entries = read_entries(rt, alloc, first, rows_from(rows, 3 + groups.len()))?;
+    let entries = read_entries(alloc, first, rows)?;
     let plan = stated_plan(alloc, head, &groups)?;
     with_entries(alloc, plan, first, entries)
 }
 
-/// What the bytes of a plan file say, or their first fault.
+/// What the bytes of a plan file say, or their first fault. One thread reads them all, so none is started.
 #[tactic(auto, unfolding(crate::specs::PlanFiles::plan_of))]
 pub fn read_plan(
-    rt: &(impl Threads + Sync),
+    _rt: &(impl Threads + Sync),
     alloc: Global,
     bytes: &[u8],
 ) -> Result<PlanFile, FileError>
@@ -134,8 +129,6 @@ pub fn read_plan(
     ensures file { PlanEnds (plan_of bytes.now) result }
     ensures same { IfOk result (λ file. (table_of file.keys).plan ≡ file.plan) }
 {
-    let Ok(rows) = rows(alloc, bytes) else {
-        return Err(NO_MEMORY);
-    };
-    plan_from(rt, alloc, rows.as_slice())
+    let mut rows = RowReader::new(alloc, bytes)?;
+    plan_from(alloc, &mut rows)
 }

@@ -38,23 +38,6 @@ pub fn field<'r>(row: &'r ByteRecord, place: usize) -> &'r [u8]
     }
 }
 
-/// The row at a place, counted from 0.
-pub fn row_at<'r>(rows: &'r [ByteRecord], place: usize) -> &'r ByteRecord
-    requires { place < length rows.now }
-    ensures { fields_of result.now ≡ slice_index_or (map fields_of rows.now) place [] }
-{
-    &rows[place]
-}
-
-/// The rows from a place on, counted from 0.
-pub fn rows_from<'r>(rows: &'r [ByteRecord], place: usize) -> &'r [ByteRecord]
-    requires { place ≤ length rows.now }
-    ensures rest { map fields_of result.now ≡ drop place (map fields_of rows.now) }
-    ensures long { length result.now + place ≡ length rows.now }
-{
-    &rows[place..]
-}
-
 /// Whether these are the fields of the row, no more and no less.
 pub fn is_row(row: &ByteRecord, texts: &[&[u8]]) -> bool
     ensures { result ≡ pointwise bytes_eq (fields_of row.now) (map (λ f. f.now) texts.now) }
