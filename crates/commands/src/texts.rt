@@ -69,7 +69,7 @@ pub fn run_texts<R: Threads + Wait + Sync, G: Gate>(
     requires most { workers ≤ 16 }
     ensures { TextsEnd (map (λ b. meaning b) cupboard.items) plan_bytes.items readings_bytes.items result }
 {
-    let file = match read_plan(rt, alloc, &plan_bytes) {
+    let file = match read_plan(alloc, &plan_bytes) {
         Ok(file) => file,
         Err(fault) => match fault.cause {
             FileCause::Memory => return Err(Refusal::Memory),

@@ -83,7 +83,6 @@ fn refusal<'a>(transcript: &'a str, error: TwinError) -> Outcome<'a>
 
 // The mask words that move from the first readings to the other ones.
 fn compare<'a>(
-    rt: &(impl Threads + Sync),
     alloc: Global,
     files: TwinFiles<'a>,
     texts: TwinTexts<'_>,
@@ -92,7 +91,7 @@ fn compare<'a>(
     ensures ends { BytesCompared (twin_names_of files.entry) (bytes_of texts.entry) result }
     ensures no_fault { IfErr result (λ outcome. ¬ IsFault outcome) }
 {
-    let file = match read_plan(rt, alloc, texts.plan) {
+    let file = match read_plan(alloc, texts.plan) {
         Ok(file) => file,
         Err(fault) => match fault.cause {
             FileCause::Memory => return Err(Outcome::NoMemory),
@@ -160,7 +159,7 @@ pub fn twin<'a, R: Threads + Sync, D: Desk>(
         other: &other,
         transcript: &transcript,
     };
-    let moved = match compare(rt, alloc, files, texts) {
+    let moved = match compare(alloc, files, texts) {
         Ok(moved) => moved,
         Err(outcome) => return outcome,
     };

@@ -16,7 +16,6 @@ use group_plan::{GroupPlan, Plan};
 use link_lanes::LaneRow;
 use pair_keys::{KeyError, KeyId, KeyPile, KeyTable};
 use std::alloc::Global;
-use std::thread::Threads;
 
 /// What a plan file says.
 #[derive(Drop)]
@@ -118,13 +117,9 @@ fn plan_from(alloc: Global, rows: &mut RowReader<'_>) -> Result<PlanFile, FileEr
     with_entries(alloc, plan, first, entries)
 }
 
-/// What the bytes of a plan file say, or their first fault. One thread reads them all, so none is started.
+/// What the bytes of a plan file say, or their first fault.
 #[tactic(auto, unfolding(crate::specs::PlanFiles::plan_of))]
-pub fn read_plan(
-    _rt: &(impl Threads + Sync),
-    alloc: Global,
-    bytes: &[u8],
-) -> Result<PlanFile, FileError>
+pub fn read_plan(alloc: Global, bytes: &[u8]) -> Result<PlanFile, FileError>
     requires { length bytes.now ≤ 2 ^ 28 }
     ensures file { PlanEnds (plan_of bytes.now) result }
     ensures same { IfOk result (λ file. (table_of file.keys).plan ≡ file.plan) }
