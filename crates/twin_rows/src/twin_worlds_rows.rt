@@ -1,6 +1,6 @@
 //! Masks files of the plain case, the first lines that differ, and the causes that come first.
 
-use crate::fixtures::{LATE, is_writable};
+use crate::fixtures::{LATE, check, is_writable};
 use group_plan::{Plan, Span};
 use ideal_masks::Differ;
 use row_fixtures::{PLAIN, group, keys_of_north, plan_of_north, table, with_line};
@@ -120,16 +120,12 @@ fn moves(alloc: Global, text: &str, second: &[u64], masks: &str) -> Result<bool,
 #[test]
 fn masks_files(rt: HostRuntime) -> Result<(), Fail> {
     for (second, masks) in PLAIN_FILES.iter() {
-        assert!(rt; moves(rt.alloc(), PLAIN, second, masks)?, "{masks}");
+        check(&rt, moves(rt.alloc(), PLAIN, second, masks)?, masks);
     }
-    assert!(rt;
-        moves(rt.alloc(), LATE, &[15, 15, 0], LATE_MASKS)?,
-        "late_reading_left_out"
-    );
-    assert!(rt;
-        moves(rt.alloc(), DEAF, &[1, 2, 3], DEAF_MASKS)?,
-        "lost_announcement_gives_none"
-    );
+    let moves_late = moves(rt.alloc(), LATE, &[15, 15, 0], LATE_MASKS)?;
+    check(&rt, moves_late, "late_reading_left_out");
+    let moves_deaf = moves(rt.alloc(), DEAF, &[1, 2, 3], DEAF_MASKS)?;
+    check(&rt, moves_deaf, "lost_announcement_gives_none");
     Ok(())
 }
 
@@ -212,19 +208,12 @@ fn other_lines(rt: HostRuntime) -> Result<(), Fail> {
     for (number, line, first, expected) in OTHER_LINES.iter() {
         let text = with_line(rt.alloc(), PLAIN, *number, line)?;
         let named = expects(rt.alloc(), &[10, 20, 30], &text, *first, expected)?;
-        assert!(rt; named, "{line}");
+        check(&rt, named, line);
     }
-    let readings_changed_after_run =
+    let line =
         "0,s,0,0,r,0,1,4d02010000000000000000000000000000000000000000000000000000000000000000000000000000000000b0b9d4e209a2296d";
-    assert!(rt;
-        expects(
-            rt.alloc(),
-            &[11, 20, 30],
-            PLAIN,
-            6,
-            readings_changed_after_run
-        )?
-    );
+    let named = expects(rt.alloc(), &[11, 20, 30], PLAIN, 6, line)?;
+    check(&rt, named, "readings_changed_after_run");
     Ok(())
 }
 
@@ -260,28 +249,17 @@ fn first_causes(rt: HostRuntime) -> Result<(), Fail> {
     };
     let cut = with_line(rt.alloc(), PLAIN, 26, "end,19")?;
     let other = with_line(rt.alloc(), PLAIN, 9, "1,t,0,0,r,0,again")?;
-    assert!(rt;
-        refuses(rt.alloc(), 2, LOST, &[1, 2, 3], TwinError::Differ(total))?,
-        "lost_answer_gives_none"
-    );
-    assert!(rt;
-        refuses(rt.alloc(), 2, LOST, &[1, 2], TwinError::Differ(presence))?,
-        "presence"
-    );
-    assert!(rt;
-        refuses(rt.alloc(), 3, &other, &[1, 2], TwinError::Head)?,
-        "other plan"
-    );
-    assert!(rt;
-        refuses(
-            rt.alloc(),
-            3,
-            &cut,
-            &[1, 2],
-            TwinError::Transcript(ReadError::Count(26))
-        )?,
-        "other count"
-    );
+    let total = TwinError::Differ(total);
+    let is_first = refuses(rt.alloc(), 2, LOST, &[1, 2, 3], total)?;
+    check(&rt, is_first, "lost_answer_gives_none");
+    let presence = TwinError::Differ(presence);
+    let is_first = refuses(rt.alloc(), 2, LOST, &[1, 2], presence)?;
+    check(&rt, is_first, "presence");
+    let is_first = refuses(rt.alloc(), 3, &other, &[1, 2], TwinError::Head)?;
+    check(&rt, is_first, "other plan");
+    let count = TwinError::Transcript(ReadError::Count(26));
+    let is_first = refuses(rt.alloc(), 3, &cut, &[1, 2], count)?;
+    check(&rt, is_first, "other count");
     Ok(())
 }
 
@@ -295,6 +273,11 @@ fn is_same_plan(alloc: Global, plan: &Plan, other: &Plan) -> Result<bool, Fail> 
     }
 }
 
+// The plan with this span.
+fn with_member(plan: &Plan, span: Span) -> Result<Plan, Fail> {
+    Ok(plan.with_members(&[span])?)
+}
+
 /// Plans are the same where their groups, rounds, windows and spans are.
 #[test]
 fn other_plans(rt: HostRuntime) -> Result<(), Fail> {
@@ -305,12 +288,17 @@ fn other_plans(rt: HostRuntime) -> Result<(), Fail> {
         from: 0,
         until: 1,
     };
-    let same = plan.with_members(&[joins])?;
-    assert!(rt; is_same_plan(rt.alloc(), &plan, &same)?);
+    let same = with_member(&plan, joins)?;
+    check(&rt, is_same_plan(rt.alloc(), &plan, &same)?, "the same");
     let longer = plan_of_north(rt.alloc(), 2)?;
-    let later = Span { until: 2, ..joins };
-    assert!(rt; !is_same_plan(rt.alloc(), &plan, &longer)?);
-    assert!(rt; is_same_plan(rt.alloc(), &longer, &longer.with_members(&[later])?)?);
-    assert!(rt; !is_same_plan(rt.alloc(), &longer, &longer.with_members(&[joins])?)?);
+    let later = with_member(&longer, Span { until: 2, ..joins })?;
+    check(&rt, !is_same_plan(rt.alloc(), &plan, &longer)?, "rounds");
+    check(
+        &rt,
+        is_same_plan(rt.alloc(), &longer, &later)?,
+        "both rounds",
+    );
+    let first = with_member(&longer, joins)?;
+    check(&rt, !is_same_plan(rt.alloc(), &longer, &first)?, "a span");
     Ok(())
 }

@@ -362,6 +362,11 @@ fn text_of(alloc: Global, lines: &[Line]) -> Result<Vec<u8>, Fail> {
 
 // ---- two worlds
 
+// What the plain program says of these words.
+fn told(alloc: Global, world: &Small, events: &[Event]) -> Result<Vec<Line>, AllocError> {
+    transcript(alloc, &reckon(alloc, world)?, events)
+}
+
 // Whether the plain program gives the second table these lines under the moved words.
 fn is_second_world(
     alloc: Global,
@@ -378,8 +383,7 @@ fn is_second_world(
             return Ok(false);
         }
     }
-    let told = transcript(alloc, &reckon(alloc, &world)?, events)?;
-    Ok(told.as_slice() == lines)
+    Ok(told(alloc, &world, events)?.as_slice() == lines)
 }
 
 /// What a seed comes to.
@@ -390,18 +394,44 @@ enum Found {
     Wrong,
 }
 
+// The keys of a seed, over two rounds.
+fn keys_of(alloc: Global, seed: u8) -> Result<KeyTable, Fail> {
+    keys_of_north(alloc, &plan_of_north(alloc, 2)?, key_bytes(seed))
+}
+
+// What `twin` answers for a text of the plan of these keys.
+fn judged(
+    alloc: Global,
+    keys: &KeyTable,
+    first: &[Option<u64>; 6],
+    second: &[Option<u64>; 6],
+    text: &[u8],
+) -> Result<Result<MovedWords, TwinError>, Fail> {
+    let plan = keys.plan();
+    let first = table(alloc, plan, first)?;
+    let second = table(alloc, plan, second)?;
+    Ok(twin(alloc, plan, keys, &first, &second, text))
+}
+
+// What a refusal comes to.
+fn refused(error: &TwinError) -> Found {
+    match error {
+        TwinError::Differ(Differ::Total { first, second, .. }) if first != second => {
+            Found::OtherTotal
+        }
+        _ => Found::Wrong,
+    }
+}
+
 fn judge(alloc: Global, seed: u8) -> Result<Found, Fail> {
     let mut state = u64::from(seed);
-    let plan = plan_of_north(alloc, 2)?;
-    let keys = keys_of_north(alloc, &plan, key_bytes(seed))?;
+    let keys = keys_of(alloc, seed)?;
     let first = first_world(&keys, &mut state);
     let second = second_readings(&first, &mut state);
     let events = schedule(alloc, &mut state)?;
-    let lines = transcript(alloc, &reckon(alloc, &first)?, &events)?;
+    let lines = told(alloc, &first, &events)?;
     let text = text_of(alloc, &lines)?;
-    let x = table(alloc, &plan, &first.readings)?;
-    let y = table(alloc, &plan, &second)?;
-    match twin(alloc, &plan, &keys, &x, &y, &text) {
+    match judged(alloc, &keys, &first.readings, &second, &text)? {
         Ok(moved) => {
             if is_second_world(alloc, &first, &second, &moved, &events, &lines)? {
                 Ok(Found::Twins)
@@ -409,14 +439,7 @@ fn judge(alloc: Global, seed: u8) -> Result<Found, Fail> {
                 Ok(Found::Wrong)
             }
         }
-        Err(TwinError::Differ(Differ::Total { first, second, .. })) => {
-            Ok(if first == second {
-                Found::Wrong
-            } else {
-                Found::OtherTotal
-            })
-        }
-        Err(_) => Ok(Found::Wrong),
+        Err(error) => Ok(refused(&error)),
     }
 }
 
