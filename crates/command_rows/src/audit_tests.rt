@@ -1,12 +1,18 @@
 //! The command `audit`: what it confirms, and the first line or row that it doesn't.
 
 use crate::fixtures::{
-    NORTH, OLD_TRANSCRIPT, RUN, TRANSCRIPT, desk_of as run_desk, held, replaced, status_of,
+    NORTH, OLD_TRANSCRIPT, RUN, TRANSCRIPT, check_complained, check_complaint, check_said,
+    check_status, desk_of as run_desk, held, replaced,
 };
 use collector_workers::Free;
 use desk_outside::MemoryDesk;
 use std::alloc::Global;
+use std::process::Abort;
+use std::sync::Wait;
 use std::test::Fail;
+use std::thread::Threads;
+
+const AUDIT: &str = "audit t.txt report.csv";
 
 const REPORT: &str = "group,round,survivors,missing,outcome,total\nnorth,0,3,-,total,60\n";
 
@@ -263,6 +269,29 @@ static AUDITS: [(&str, &str, &str, &str, &str, u8, &str); 27] = [
     ),
 ];
 
+// Audits the transcript and the report, with this end: its status, and what is then complained, or said where the status is 0.
+fn check_audit(
+    rt: &(impl Threads + Wait + Abort + Sync),
+    alloc: Global,
+    name: &str,
+    transcript: &str,
+    report: &str,
+    status: u8,
+    text: &str,
+) -> Result<(), Fail> {
+    let mut desk = desk_of(alloc, transcript, report, Vec::new(alloc))?;
+    check_status(rt, alloc, AUDIT, &mut desk, &Free, status, name)?;
+    if status == 0 {
+        let wanted = format!(in alloc; "{text}\n")?;
+        check_said(rt, &desk, &wanted, name);
+        check_complained(rt, &desk, "", name);
+    } else {
+        check_complaint(rt, alloc, &desk, text, name)?;
+        check_said(rt, &desk, "", name);
+    }
+    Ok(())
+}
+
 #[test]
 fn audits(rt: HostRuntime) -> Result<(), Fail> {
     let alloc = rt.alloc();
@@ -270,18 +299,7 @@ fn audits(rt: HostRuntime) -> Result<(), Fail> {
         let (name, there, instead, row, other, status, text) = *case;
         let transcript = replaced(alloc, TRANSCRIPT, there, instead)?;
         let report = replaced(alloc, REPORT, row, other)?;
-        let mut desk = desk_of(alloc, &transcript, &report, Vec::new(alloc))?;
-        let answer = status_of(&rt, alloc, "audit t.txt report.csv", &mut desk, &Free)?;
-        assert_eq!(rt; answer, status, "at {name}");
-        if status == 0 {
-            let wanted = format!(in alloc; "{text}\n")?;
-            assert_eq!(rt; desk.said(), wanted.as_bytes(), "at {name}");
-            assert_eq!(rt; desk.complained(), b"".as_slice(), "at {name}");
-        } else {
-            let wanted = format!(in alloc; "meteragg: {text}\n")?;
-            assert_eq!(rt; desk.complained(), wanted.as_bytes(), "at {name}");
-            assert_eq!(rt; desk.said(), b"".as_slice(), "at {name}");
-        }
+        check_audit(&rt, alloc, name, &transcript, &report, status, text)?;
     }
     Ok(())
 }
@@ -298,8 +316,7 @@ fn explained_and_old(rt: HostRuntime) -> Result<(), Fail> {
         (OLD_TRANSCRIPT, REPORT, 7),
     ] {
         let mut desk = desk_of(alloc, transcript, report, Vec::new(alloc))?;
-        let answer = status_of(&rt, alloc, "audit t.txt report.csv", &mut desk, &Free)?;
-        assert_eq!(rt; answer, status);
+        check_status(&rt, alloc, AUDIT, &mut desk, &Free, status, report)?;
     }
     Ok(())
 }
@@ -313,9 +330,8 @@ fn failing_calls_of_audit(rt: HostRuntime) -> Result<(), Fail> {
         (2, 4, "meteragg: cannot print\n"),
     ] {
         let mut desk = desk_of(alloc, TRANSCRIPT, REPORT, vec![in alloc; failing]?)?;
-        let answer = status_of(&rt, alloc, "audit t.txt report.csv", &mut desk, &Free)?;
-        assert_eq!(rt; answer, status, "at {failing}");
-        assert_eq!(rt; desk.complained(), complaint.as_bytes(), "at {failing}");
+        check_status(&rt, alloc, AUDIT, &mut desk, &Free, status, complaint)?;
+        check_complained(&rt, &desk, complaint, complaint);
     }
     Ok(())
 }
@@ -331,17 +347,12 @@ fn frame_of_no_member(rt: HostRuntime) -> Result<(), Fail> {
         "north,0,10,20,\nnorth,1,1,2,3\n",
         Vec::new(alloc),
     )?;
-    assert_eq!(rt; status_of(&rt, alloc, RUN, &mut desk, &Free)?, 0);
+    check_status(&rt, alloc, RUN, &mut desk, &Free, 0, RUN)?;
     let further =
         "\n0,s,0,0,r,2,1,4d020102000000000000000000000000000000000000000000000000000000000000000000000000000000000000000000000001\n1,t,";
     let text = replaced(alloc, held(&desk, "t.txt"), "\n1,t,", further)?;
     let text = replaced(alloc, &text, "end,34", "end,35")?;
     desk.place("t.txt", text.as_bytes())?;
-    assert_eq!(rt;
-        status_of(&rt, alloc, "audit t.txt report.csv", &mut desk, &Free)?,
-        7
-    );
-    let complaint = b"meteragg: t.txt line 9: impossible\n".as_slice();
-    assert_eq!(rt; desk.complained(), complaint);
-    Ok(())
+    check_status(&rt, alloc, AUDIT, &mut desk, &Free, 7, AUDIT)?;
+    check_complaint(&rt, alloc, &desk, "t.txt line 9: impossible", AUDIT)
 }

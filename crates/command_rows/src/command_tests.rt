@@ -1,11 +1,16 @@
 //! The commands `convert`, `help` and `version`: what they store and say, and what they refuse.
 
-use crate::fixtures::{OLD_TRANSCRIPT, TRANSCRIPT, held, replaced, status_of};
+use crate::fixtures::{
+    OLD_TRANSCRIPT, TRANSCRIPT, check_calls, check_complained, check_complaint, check_said,
+    check_status, check_stored, check_text, held, replaced,
+};
 use collector_workers::Free;
 use commands::{USAGE, VERSION};
 use desk_outside::MemoryDesk;
 use std::alloc::Global;
 use std::test::Fail;
+
+const CONVERT: &str = "convert old.txt t.txt";
 
 // A desk that holds an old transcript, and fails these calls.
 fn desk_of(alloc: Global, text: &str, failing: Vec<u64>) -> Result<MemoryDesk, Fail> {
@@ -18,13 +23,10 @@ fn desk_of(alloc: Global, text: &str, failing: Vec<u64>) -> Result<MemoryDesk, F
 fn old_transcript_converted(rt: HostRuntime) -> Result<(), Fail> {
     let alloc = rt.alloc();
     let mut desk = desk_of(alloc, OLD_TRANSCRIPT, Vec::new(alloc))?;
-    assert_eq!(rt;
-        status_of(&rt, alloc, "convert old.txt t.txt", &mut desk, &Free)?,
-        0
-    );
-    assert_eq!(rt; held(&desk, "t.txt"), TRANSCRIPT);
-    assert_eq!(rt; desk.said(), b"converted: lines=20\n".as_slice());
-    assert_eq!(rt; desk.complained(), b"".as_slice());
+    check_status(&rt, alloc, CONVERT, &mut desk, &Free, 0, CONVERT)?;
+    check_text(&rt, held(&desk, "t.txt"), TRANSCRIPT, "t.txt");
+    check_said(&rt, &desk, "converted: lines=20\n", CONVERT);
+    check_complained(&rt, &desk, "", CONVERT);
     Ok(())
 }
 
@@ -85,12 +87,10 @@ fn old_transcript_refused(rt: HostRuntime) -> Result<(), Fail> {
         let (there, instead, failing, status, complaint, stored) = *case;
         let text = replaced(alloc, OLD_TRANSCRIPT, there, instead)?;
         let mut desk = desk_of(alloc, &text, vec![in alloc; failing]?)?;
-        let answer = status_of(&rt, alloc, "convert old.txt t.txt", &mut desk, &Free)?;
-        assert_eq!(rt; answer, status, "at {complaint}");
-        let wanted = format!(in alloc; "meteragg: {complaint}\n")?;
-        assert_eq!(rt; desk.complained(), wanted.as_bytes(), "at {complaint}");
-        assert_eq!(rt; desk.held("t.txt").is_some(), stored, "at {complaint}");
-        assert_eq!(rt; desk.said(), b"".as_slice(), "at {complaint}");
+        check_status(&rt, alloc, CONVERT, &mut desk, &Free, status, complaint)?;
+        check_complaint(&rt, alloc, &desk, complaint, complaint)?;
+        check_stored(&rt, &desk, "t.txt", stored, complaint);
+        check_said(&rt, &desk, "", complaint);
     }
     Ok(())
 }
@@ -112,10 +112,9 @@ fn usage_and_version(rt: HostRuntime) -> Result<(), Fail> {
         ("convert old.txt t.txt 4", 2, ""),
     ] {
         let mut desk = MemoryDesk::new(Vec::new(alloc));
-        let answer = status_of(&rt, alloc, words, &mut desk, &Free)?;
-        assert_eq!(rt; answer, status, "at {words}");
-        assert_eq!(rt; desk.said(), said.as_bytes(), "at {words}");
-        assert_eq!(rt; desk.calls().len(), 1, "at {words}");
+        check_status(&rt, alloc, words, &mut desk, &Free, status, words)?;
+        check_said(&rt, &desk, said, words);
+        check_calls(&rt, &desk, 1, words);
     }
     Ok(())
 }

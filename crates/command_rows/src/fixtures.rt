@@ -4,6 +4,7 @@ use collector_workers::Gate;
 use commands::with_lanes;
 use desk_outside::MemoryDesk;
 use std::alloc::Global;
+use std::process::Abort;
 use std::sync::Wait;
 use std::test::Fail;
 use std::thread::Threads;
@@ -121,6 +122,69 @@ pub fn status_of<R: Threads + Wait + Sync, G: Gate>(
         words.push(String::from_str(alloc, word)?)?;
     }
     Ok(with_lanes(rt, alloc, &words, desk, gate)?)
+}
+
+/// Runs the program on these words, parted by blanks, and looks for its status.
+pub fn check_status<R: Threads + Wait + Abort + Sync, G: Gate>(
+    rt: &R,
+    alloc: Global,
+    line: &str,
+    desk: &mut MemoryDesk,
+    gate: &G,
+    status: u8,
+    row: &str,
+) -> Result<(), Fail> {
+    let answer = status_of(rt, alloc, line, desk, gate)?;
+    assert_eq!(rt; answer, status, "at {row}");
+    Ok(())
+}
+
+/// Looks for this text.
+pub fn check_text(rt: &impl Abort, came: &str, text: &str, row: &str) {
+    assert_eq!(rt; came, text, "at {row}");
+}
+
+/// Looks for this number.
+pub fn check_number(rt: &impl Abort, came: usize, number: usize, row: &str) {
+    assert_eq!(rt; came, number, "at {row}");
+}
+
+/// Asks whether a fact is so.
+pub fn check(rt: &impl Abort, is_so: bool, row: &str) {
+    assert!(rt; is_so, "at {row}");
+}
+
+/// Looks for all that the program said.
+pub fn check_said(rt: &impl Abort, desk: &MemoryDesk, text: &str, row: &str) {
+    assert_eq!(rt; desk.said(), text.as_bytes(), "at {row}");
+}
+
+/// Looks for all that the program complained.
+pub fn check_complained(rt: &impl Abort, desk: &MemoryDesk, text: &str, row: &str) {
+    assert_eq!(rt; desk.complained(), text.as_bytes(), "at {row}");
+}
+
+/// Looks for one complaint and nothing else, under the program's name.
+pub fn check_complaint(
+    rt: &impl Abort,
+    alloc: Global,
+    desk: &MemoryDesk,
+    complaint: &str,
+    row: &str,
+) -> Result<(), Fail> {
+    let wanted = format!(in alloc; "meteragg: {complaint}\n")?;
+    check_complained(rt, desk, &wanted, row);
+    Ok(())
+}
+
+/// Asks whether a desk holds something under a name.
+pub fn check_stored(rt: &impl Abort, desk: &MemoryDesk, name: &str, is_stored: bool, row: &str) {
+    assert_eq!(rt; desk.held(name).is_some(), is_stored, "{name} at {row}");
+}
+
+/// Looks for the number of calls of a desk.
+pub fn check_calls(rt: &impl Abort, desk: &MemoryDesk, count: usize, row: &str) {
+    check_number(rt, desk.calls().len(), count, row);
 }
 
 /// What a desk holds under a name, as text.

@@ -1,9 +1,13 @@
 //! The commands `make` and `load`: made files that are run and audited, and sizes that are refused.
 
-use crate::fixtures::{held, status_of};
+use crate::fixtures::{
+    check, check_calls, check_complained, check_complaint, check_number, check_said, check_status,
+    check_stored, held,
+};
 use crate::run_tests::Meeting;
 use collector_workers::Free;
 use desk_outside::MemoryDesk;
+use std::alloc::Global;
 use std::test::Fail;
 use transcript_log::Line;
 use transcript_text::read;
@@ -27,33 +31,21 @@ fn made_run_audited(rt: HostRuntime) -> Result<(), Fail> {
         ("load 7 8 20 96 1 t.txt", SUMMARY),
         ("audit t.txt report.csv", "audit: rows=768 totals=632\n"),
     ] {
-        assert_eq!(rt;
-            status_of(&rt, alloc, words, &mut desk, &Free)?,
-            0,
-            "at {words}"
-        );
+        check_status(&rt, alloc, words, &mut desk, &Free, 0, words)?;
         said.push_str(line)?;
-        assert_eq!(rt; desk.said(), said.as_bytes(), "at {words}");
+        check_said(&rt, &desk, &said, words);
     }
-    assert_eq!(rt; desk.complained(), b"".as_slice());
+    check_complained(&rt, &desk, "", "the end");
     Ok(())
 }
 
-#[test]
-fn run_commits_cross_in_load(rt: HostRuntime) -> Result<(), Fail> {
-    let alloc = rt.alloc();
-    let gate = Meeting::new();
-    let mut desk = MemoryDesk::new(Vec::new(alloc));
-    assert_eq!(rt;
-        status_of(&rt, alloc, "load 7 8 20 96 2 t.txt", &mut desk, &gate)?,
-        0
-    );
-    assert!(rt; gate.has_met());
-    let Ok(transcript) = read(alloc, held(&desk, "t.txt").as_bytes()) else {
-        panic!(rt; "no transcript")
+// The numbers of Sends with a frame and of Takes in the text of a transcript.
+fn sends_and_takes(alloc: Global, text: &str) -> Result<(usize, usize), Fail> {
+    let Ok(transcript) = read(alloc, text.as_bytes()) else {
+        return Err(Fail::new("no transcript"));
     };
-    let mut sends = 0_u32;
-    let mut takes = 0_u32;
+    let mut sends = 0_usize;
+    let mut takes = 0_usize;
     for at in 0..transcript.len() {
         match transcript.entry(at).line {
             Line::Send { frame: Some(_), .. } => sends = sends.saturating_add(1),
@@ -61,7 +53,20 @@ fn run_commits_cross_in_load(rt: HostRuntime) -> Result<(), Fail> {
             _ => {}
         }
     }
-    assert_eq!(rt; (sends, takes), (45025, 45251));
+    Ok((sends, takes))
+}
+
+#[test]
+fn run_commits_cross_in_load(rt: HostRuntime) -> Result<(), Fail> {
+    let alloc = rt.alloc();
+    let gate = Meeting::new();
+    let mut desk = MemoryDesk::new(Vec::new(alloc));
+    let words = "load 7 8 20 96 2 t.txt";
+    check_status(&rt, alloc, words, &mut desk, &gate, 0, words)?;
+    check(&rt, gate.has_met(), "the meeting");
+    let (sends, takes) = sends_and_takes(alloc, held(&desk, "t.txt"))?;
+    check_number(&rt, sends, 45025, "sends");
+    check_number(&rt, takes, 45251, "takes");
     Ok(())
 }
 
@@ -118,14 +123,12 @@ fn sizes_at_their_limits(rt: HostRuntime) -> Result<(), Fail> {
     for case in SIZES.iter() {
         let (words, status, text) = *case;
         let mut desk = MemoryDesk::new(Vec::new(alloc));
-        let answer = status_of(&rt, alloc, words, &mut desk, &Free)?;
-        assert_eq!(rt; answer, status, "at {words}");
+        check_status(&rt, alloc, words, &mut desk, &Free, status, words)?;
         if status == 0 {
-            assert_eq!(rt; desk.said(), text.as_bytes(), "at {words}");
+            check_said(&rt, &desk, text, words);
         } else {
-            let wanted = format!(in alloc; "meteragg: {text}\n")?;
-            assert_eq!(rt; desk.complained(), wanted.as_bytes(), "at {words}");
-            assert_eq!(rt; desk.calls().len(), 1, "at {words}");
+            check_complaint(&rt, alloc, &desk, text, words)?;
+            check_calls(&rt, &desk, 1, words);
         }
     }
     Ok(())
@@ -182,16 +185,11 @@ fn failing_calls_of_make_and_load(rt: HostRuntime) -> Result<(), Fail> {
     for case in FAILURES.iter() {
         let (words, failing, complaint, plan, readings, transcript) = *case;
         let mut desk = MemoryDesk::new(vec![in alloc; failing]?);
-        assert_eq!(rt;
-            status_of(&rt, alloc, words, &mut desk, &Free)?,
-            4,
-            "at {complaint}"
-        );
-        let wanted = format!(in alloc; "meteragg: {complaint}\n")?;
-        assert_eq!(rt; desk.complained(), wanted.as_bytes(), "at {complaint}");
-        assert_eq!(rt; desk.held("p.csv").is_some(), plan, "at {complaint}");
-        assert_eq!(rt; desk.held("r.csv").is_some(), readings, "at {complaint}");
-        assert_eq!(rt; desk.held("t.txt").is_some(), transcript, "at {complaint}");
+        check_status(&rt, alloc, words, &mut desk, &Free, 4, complaint)?;
+        check_complaint(&rt, alloc, &desk, complaint, complaint)?;
+        check_stored(&rt, &desk, "p.csv", plan, complaint);
+        check_stored(&rt, &desk, "r.csv", readings, complaint);
+        check_stored(&rt, &desk, "t.txt", transcript, complaint);
     }
     Ok(())
 }

@@ -1,8 +1,12 @@
 //! Refusals, failing calls of the desk, and words, with their statuses and complaints.
 
-use crate::fixtures::{HEAD, NORTH, READINGS, RUN, desk_of, status_of};
+use crate::fixtures::{
+    HEAD, NORTH, READINGS, RUN, check, check_calls, check_complained, check_complaint, check_said,
+    check_status, check_stored, desk_of,
+};
 use collector_workers::Free;
 use desk_outside::MemoryDesk;
+use std::alloc::{AllocError, Global};
 use std::test::Fail;
 
 // Each row: its name, the rows of the plan after its first, the readings, the status, and the complaint.
@@ -191,81 +195,79 @@ static REFUSALS: [(&str, &str, &str, u8, &str); 26] = [
     ),
 ];
 
+// The rows of a plan, with those of `north` for each `N`.
+fn plan_rows(alloc: Global, pattern: &str) -> Result<String, AllocError> {
+    let mut rows = String::new(alloc);
+    let mut is_first = true;
+    for part in pattern.split('N') {
+        if !is_first {
+            rows.push_str(NORTH)?;
+        }
+        rows.push_str(part)?;
+        is_first = false;
+    }
+    Ok(rows)
+}
+
 #[test]
 fn refused_files(rt: HostRuntime) -> Result<(), Fail> {
     let alloc = rt.alloc();
     for case in REFUSALS.iter() {
         let (name, pattern, readings, status, complaint) = *case;
-        let mut rows = String::new(alloc);
-        let mut is_first = true;
-        for part in pattern.split('N') {
-            if !is_first {
-                rows.push_str(NORTH)?;
-            }
-            rows.push_str(part)?;
-            is_first = false;
-        }
+        let rows = plan_rows(alloc, pattern)?;
         let mut desk = desk_of(alloc, &rows, readings, Vec::new(alloc))?;
-        assert_eq!(rt;
-            status_of(&rt, alloc, RUN, &mut desk, &Free)?,
-            status,
-            "at {name}"
-        );
-        let wanted = format!(in alloc; "meteragg: {complaint}\n")?;
-        assert_eq!(rt; desk.complained(), wanted.as_bytes(), "at {name}");
-        assert_eq!(rt; desk.calls().len(), 3, "at {name}");
-        assert_eq!(rt; desk.said(), b"".as_slice(), "at {name}");
+        check_status(&rt, alloc, RUN, &mut desk, &Free, status, name)?;
+        check_complaint(&rt, alloc, &desk, complaint, name)?;
+        check_calls(&rt, &desk, 3, name);
+        check_said(&rt, &desk, "", name);
     }
     Ok(())
 }
 
 // Each row: the failing calls, the status, the complaint, and whether the transcript and the report are stored.
+static FAILURES: [(u64, u64, u8, &str, bool, bool); 6] = [
+    (0, 9, 3, "meteragg: cannot read plan.csv\n", false, false),
+    (
+        1,
+        9,
+        3,
+        "meteragg: cannot read readings.csv\n",
+        false,
+        false,
+    ),
+    (2, 9, 4, "meteragg: cannot write t.txt\n", false, false),
+    (3, 9, 4, "meteragg: cannot write report.csv\n", true, false),
+    (4, 9, 4, "meteragg: cannot print\n", true, true),
+    (0, 1, 3, "", false, false),
+];
+
+// Whether the report was put in the place of an old one.
+fn has_new_report(desk: &MemoryDesk) -> bool {
+    desk.held("report.csv") != Some(b"old".as_slice())
+}
+
 #[test]
 fn failing_desk_calls(rt: HostRuntime) -> Result<(), Fail> {
     let alloc = rt.alloc();
     let rows = format!(in alloc; "{HEAD}{NORTH}")?;
-    for (first, second, status, complaint, transcript, report) in [
-        (0, 9, 3, "meteragg: cannot read plan.csv\n", false, false),
-        (
-            1,
-            9,
-            3,
-            "meteragg: cannot read readings.csv\n",
-            false,
-            false,
-        ),
-        (2, 9, 4, "meteragg: cannot write t.txt\n", false, false),
-        (3, 9, 4, "meteragg: cannot write report.csv\n", true, false),
-        (4, 9, 4, "meteragg: cannot print\n", true, true),
-        (0, 1, 3, "", false, false),
-    ] {
+    for case in FAILURES.iter() {
+        let (first, second, status, complaint, transcript, report) = *case;
         let failing = vec![in alloc; first, second]?;
         let mut desk = desk_of(alloc, &rows, READINGS, failing)?;
         desk.place("report.csv", b"old")?;
-        assert_eq!(rt;
-            status_of(&rt, alloc, RUN, &mut desk, &Free)?,
-            status,
-            "at {first}"
-        );
-        assert_eq!(rt; desk.complained(), complaint.as_bytes());
-        assert_eq!(rt; desk.held("t.txt").is_some(), transcript, "at {first}");
-        assert_eq!(rt;
-            desk.held("report.csv") != Some(b"old".as_slice()),
-            report,
-            "at {first}"
-        );
-        assert_eq!(rt; desk.said(), b"".as_slice());
+        check_status(&rt, alloc, RUN, &mut desk, &Free, status, complaint)?;
+        check_complained(&rt, &desk, complaint, complaint);
+        check_stored(&rt, &desk, "t.txt", transcript, complaint);
+        check(&rt, has_new_report(&desk) == report, complaint);
+        check_said(&rt, &desk, "", complaint);
     }
     let mut empty = MemoryDesk::new(Vec::new(alloc));
-    assert_eq!(rt; status_of(&rt, alloc, RUN, &mut empty, &Free)?, 3);
-    let complaint = b"meteragg: cannot read plan.csv\n".as_slice();
-    assert_eq!(rt; empty.complained(), complaint);
+    check_status(&rt, alloc, RUN, &mut empty, &Free, 3, "an empty desk")?;
+    check_complaint(&rt, alloc, &empty, "cannot read plan.csv", "an empty desk")?;
     let mut lone = MemoryDesk::new(Vec::new(alloc));
     lone.place("plan.csv", b"no plan")?;
-    assert_eq!(rt; status_of(&rt, alloc, RUN, &mut lone, &Free)?, 3);
-    let complaint = b"meteragg: cannot read readings.csv\n".as_slice();
-    assert_eq!(rt; lone.complained(), complaint);
-    Ok(())
+    check_status(&rt, alloc, RUN, &mut lone, &Free, 3, "a lone plan")?;
+    check_complaint(&rt, alloc, &lone, "cannot read readings.csv", "a lone plan")
 }
 
 #[test]
@@ -291,13 +293,9 @@ fn bad_words(rt: HostRuntime) -> Result<(), Fail> {
         "run plan.csv readings.csv report.csv t.txt 4 4",
     ] {
         let mut desk = MemoryDesk::new(Vec::new(alloc));
-        assert_eq!(rt;
-            status_of(&rt, alloc, words, &mut desk, &Free)?,
-            2,
-            "at {words}"
-        );
-        assert_eq!(rt; desk.complained(), b"meteragg: bad words\n".as_slice());
-        assert_eq!(rt; desk.calls().len(), 1);
+        check_status(&rt, alloc, words, &mut desk, &Free, 2, words)?;
+        check_complained(&rt, &desk, "meteragg: bad words\n", words);
+        check_calls(&rt, &desk, 1, words);
     }
     Ok(())
 }

@@ -1,8 +1,11 @@
 //! Worked runs, with their reports, summaries and transcripts, and what their workers do.
 
-use crate::fixtures::{HEAD, NORTH, READINGS, RUN, TRANSCRIPT, desk_of, held, status_of};
+use crate::fixtures::{
+    HEAD, NORTH, READINGS, RUN, TRANSCRIPT, check, check_complained, check_number, check_said,
+    check_status, check_text, desk_of, held,
+};
 use collector_workers::{Free, Gate};
-use desk_outside::DeskKind;
+use desk_outside::{DeskCall, DeskKind};
 use std::alloc::Global;
 use std::process::Abort;
 use std::sync::Wait;
@@ -12,31 +15,40 @@ use std::thread::Threads;
 
 const HEADING: &str = "group,round,survivors,missing,outcome,total\n";
 
+// Looks for the lines of the transcript, in any order, and no more text.
+fn check_lines(rt: &impl Abort, text: &str) {
+    check_number(rt, text.len(), TRANSCRIPT.len(), "the length");
+    for line in TRANSCRIPT.split('\n') {
+        check(rt, text.contains(line), line);
+    }
+}
+
+// The calls of a run.
+static CALLS: [DeskKind; 5] = [
+    DeskKind::Fetch,
+    DeskKind::Fetch,
+    DeskKind::Put,
+    DeskKind::Put,
+    DeskKind::Say,
+];
+
+// Looks for the calls of a run, none of which failed.
+fn check_kinds(rt: &impl Abort, calls: &[DeskCall]) {
+    check_number(rt, calls.len(), CALLS.len(), "the calls");
+    for (call, kind) in calls.iter().zip(CALLS.iter()) {
+        check(rt, call.kind == *kind && !call.failed, "a call");
+    }
+}
+
 #[test]
 fn three_meters_total_60(rt: HostRuntime) -> Result<(), Fail> {
     let alloc = rt.alloc();
     let rows = format!(in alloc; "{HEAD}{NORTH}")?;
     let mut desk = desk_of(alloc, &rows, READINGS, Vec::new(alloc))?;
-    assert_eq!(rt; status_of(&rt, alloc, RUN, &mut desk, &Free)?, 0);
-    let text = held(&desk, "t.txt");
-    assert_eq!(rt; text.len(), TRANSCRIPT.len());
-    for line in TRANSCRIPT.split('\n') {
-        assert!(rt; text.contains(line), "no line {line}");
-    }
-    assert_eq!(rt; desk.complained(), b"".as_slice());
-    let mut calls = Vec::new(alloc);
-    for call in desk.calls() {
-        assert_eq!(rt; call.failed, false);
-        calls.push(call.kind)?;
-    }
-    let wanted = [
-        DeskKind::Fetch,
-        DeskKind::Fetch,
-        DeskKind::Put,
-        DeskKind::Put,
-        DeskKind::Say,
-    ];
-    assert_eq!(rt; calls.as_slice(), wanted.as_slice());
+    check_status(&rt, alloc, RUN, &mut desk, &Free, 0, RUN)?;
+    check_lines(&rt, held(&desk, "t.txt"));
+    check_complained(&rt, &desk, "", RUN);
+    check_kinds(&rt, desk.calls());
     Ok(())
 }
 
@@ -201,12 +213,11 @@ fn check_run(
 ) -> Result<(), Fail> {
     let words = format!(in alloc; "{RUN} {workers}")?;
     let mut desk = desk_of(alloc, rows, readings, Vec::new(alloc))?;
-    let status = status_of(rt, alloc, &words, &mut desk, &Each)?;
-    assert_eq!(rt; status, 0, "at {name}");
-    assert_eq!(rt; held(&desk, "report.csv"), report, "at {name}");
-    assert_eq!(rt; desk.said(), said.as_bytes(), "at {name}");
-    assert!(rt; held(&desk, "t.txt").contains(line), "at {name}");
-    assert_eq!(rt; desk.complained(), b"".as_slice(), "at {name}");
+    check_status(rt, alloc, &words, &mut desk, &Each, 0, name)?;
+    check_text(rt, held(&desk, "report.csv"), report, name);
+    check_said(rt, &desk, said, name);
+    check(rt, held(&desk, "t.txt").contains(line), name);
+    check_complained(rt, &desk, "", name);
     Ok(())
 }
 
@@ -258,9 +269,9 @@ fn greatest_readings(rt: HostRuntime) -> Result<(), Fail> {
             readings.push_str(",1099511627775")?;
         }
         let mut desk = desk_of(alloc, &rows, &readings, Vec::new(alloc))?;
-        assert_eq!(rt; status_of(&rt, alloc, RUN, &mut desk, &Free)?, 0);
+        check_status(&rt, alloc, RUN, &mut desk, &Free, 0, row)?;
         let wanted = format!(in alloc; "{HEADING}{row}")?;
-        assert_eq!(rt; held(&desk, "report.csv"), wanted.as_str());
+        check_text(&rt, held(&desk, "report.csv"), &wanted, row);
     }
     Ok(())
 }
@@ -318,8 +329,8 @@ fn run_commits_cross(rt: HostRuntime) -> Result<(), Fail> {
     let rows = format!(in alloc; "{HEAD}{NORTH}")?;
     let words = format!(in alloc; "{RUN} 2")?;
     let mut desk = desk_of(alloc, &rows, READINGS, Vec::new(alloc))?;
-    assert_eq!(rt; status_of(&rt, alloc, &words, &mut desk, &gate)?, 0);
-    assert!(rt; gate.has_met());
+    check_status(&rt, alloc, &words, &mut desk, &gate, 0, &words)?;
+    check(&rt, gate.has_met(), "the meeting");
     Ok(())
 }
 
@@ -345,7 +356,8 @@ fn one_worker_works_alone(rt: HostRuntime) -> Result<(), Fail> {
     let rows = format!(in alloc; "{HEAD}{NORTH}")?;
     let words = format!(in alloc; "{RUN} 1")?;
     let mut desk = desk_of(alloc, &rows, READINGS, Vec::new(alloc))?;
-    assert_eq!(rt; status_of(&rt, alloc, &words, &mut desk, &gate)?, 0);
-    assert_eq!(rt; gate.worker.load(Ordering::SeqCst), 1);
+    check_status(&rt, alloc, &words, &mut desk, &gate, 0, &words)?;
+    let greatest = gate.worker.load(Ordering::SeqCst) as usize;
+    check_number(&rt, greatest, 1, "the greatest worker");
     Ok(())
 }

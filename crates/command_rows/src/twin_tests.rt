@@ -1,11 +1,14 @@
 //! The command `twin`: the words that move from one table of readings to another, and what it refuses.
 
 use crate::fixtures::{
-    HEAD, NORTH, READINGS, RUN, TRANSCRIPT, desk_of as run_desk, held, replaced, status_of,
+    HEAD, NORTH, READINGS, RUN, TRANSCRIPT, check, check_calls, check_complained, check_complaint,
+    check_number, check_said, check_status, check_stored, check_text, desk_of as run_desk, held,
+    replaced,
 };
 use collector_workers::Free;
 use desk_outside::MemoryDesk;
 use std::alloc::Global;
+use std::process::Abort;
 use std::test::Fail;
 
 const TWIN: &str = "twin plan.csv readings.csv other.csv t.txt masks.txt";
@@ -72,6 +75,26 @@ static TWINS: [(&str, &str, &str, u8, &str, u32); 8] = [
     ),
 ];
 
+// Looks for the masks file of these moved words, for what was said of it after so many bytes, and for no complaint.
+fn check_moved(
+    rt: &impl Abort,
+    alloc: Global,
+    desk: &MemoryDesk,
+    name: &str,
+    text: &str,
+    moved: u32,
+    before: usize,
+) -> Result<(), Fail> {
+    let masks = format!(in alloc; "meteragg masks 1\n{text}end,{moved}\n")?;
+    let said = format!(in alloc; "twin: moved={moved}\n")?;
+    check_complained(rt, desk, "", name);
+    check_text(rt, held(desk, "masks.txt"), &masks, name);
+    let more = desk.said().len().wrapping_sub(before);
+    check_number(rt, more, said.len(), name);
+    check(rt, desk.said().ends_with(said.as_bytes()), name);
+    Ok(())
+}
+
 #[test]
 fn twins(rt: HostRuntime) -> Result<(), Fail> {
     let alloc = rt.alloc();
@@ -79,36 +102,17 @@ fn twins(rt: HostRuntime) -> Result<(), Fail> {
         let (name, lanes, other, status, text, moved) = *case;
         let rows = format!(in alloc; "{HEAD}{NORTH}{lanes}")?;
         let mut desk = run_desk(alloc, &rows, READINGS, Vec::new(alloc))?;
-        assert_eq!(rt;
-            status_of(&rt, alloc, RUN, &mut desk, &Free)?,
-            0,
-            "at {name}"
-        );
+        check_status(&rt, alloc, RUN, &mut desk, &Free, 0, name)?;
         desk.place("other.csv", other.as_bytes())?;
         let before = desk.said().len();
-        assert_eq!(rt;
-            status_of(&rt, alloc, TWIN, &mut desk, &Free)?,
-            status,
-            "at {name}"
-        );
-        let (complaint, masks, said) = if status == 0 {
-            (
-                String::new(alloc),
-                format!(in alloc; "meteragg masks 1\n{text}end,{moved}\n")?,
-                format!(in alloc; "twin: moved={moved}\n")?,
-            )
+        check_status(&rt, alloc, TWIN, &mut desk, &Free, status, name)?;
+        if status == 0 {
+            check_moved(&rt, alloc, &desk, name, text, moved, before)?;
         } else {
-            (
-                format!(in alloc; "meteragg: {text}\n")?,
-                String::from_str(alloc, "nothing")?,
-                String::new(alloc),
-            )
-        };
-        assert_eq!(rt; desk.complained(), complaint.as_bytes(), "at {name}");
-        assert_eq!(rt; held(&desk, "masks.txt"), masks.as_str(), "at {name}");
-        let more = desk.said().len().wrapping_sub(before);
-        assert_eq!(rt; more, said.len(), "at {name}");
-        assert!(rt; desk.said().ends_with(said.as_bytes()), "at {name}");
+            check_complaint(&rt, alloc, &desk, text, name)?;
+            check_text(&rt, held(&desk, "masks.txt"), "nothing", name);
+            check_number(&rt, desk.said().len(), before, name);
+        }
     }
     Ok(())
 }
@@ -238,15 +242,10 @@ fn twins_refused(rt: HostRuntime) -> Result<(), Fail> {
         let mut desk = desk_of(alloc, Vec::new(alloc))?;
         let text = replaced(alloc, held(&desk, file), there, instead)?;
         desk.place(file, text.as_bytes())?;
-        assert_eq!(rt;
-            status_of(&rt, alloc, TWIN, &mut desk, &Free)?,
-            status,
-            "at {name}"
-        );
-        let wanted = format!(in alloc; "meteragg: {complaint}\n")?;
-        assert_eq!(rt; desk.complained(), wanted.as_bytes(), "at {name}");
-        assert_eq!(rt; desk.calls().len(), 5, "at {name}");
-        assert_eq!(rt; desk.held("masks.txt").is_none(), true, "at {name}");
+        check_status(&rt, alloc, TWIN, &mut desk, &Free, status, name)?;
+        check_complaint(&rt, alloc, &desk, complaint, name)?;
+        check_calls(&rt, &desk, 5, name);
+        check_stored(&rt, &desk, "masks.txt", false, name);
     }
     Ok(())
 }
@@ -263,15 +262,10 @@ fn failing_calls_of_twin(rt: HostRuntime) -> Result<(), Fail> {
         (5, 4, "cannot print", true),
     ] {
         let mut desk = desk_of(alloc, vec![in alloc; failing]?)?;
-        assert_eq!(rt;
-            status_of(&rt, alloc, TWIN, &mut desk, &Free)?,
-            status,
-            "at {failing}"
-        );
-        let wanted = format!(in alloc; "meteragg: {complaint}\n")?;
-        assert_eq!(rt; desk.complained(), wanted.as_bytes(), "at {failing}");
-        assert_eq!(rt; desk.held("masks.txt").is_some(), stored, "at {failing}");
-        assert_eq!(rt; desk.said(), b"".as_slice(), "at {failing}");
+        check_status(&rt, alloc, TWIN, &mut desk, &Free, status, complaint)?;
+        check_complaint(&rt, alloc, &desk, complaint, complaint)?;
+        check_stored(&rt, &desk, "masks.txt", stored, complaint);
+        check_said(&rt, &desk, "", complaint);
     }
     for words in [
         "twin plan.csv readings.csv other.csv t.txt",
@@ -281,12 +275,8 @@ fn failing_calls_of_twin(rt: HostRuntime) -> Result<(), Fail> {
         "twin plan.csv readings.csv other.csv t.txt ",
     ] {
         let mut desk = MemoryDesk::new(Vec::new(alloc));
-        assert_eq!(rt;
-            status_of(&rt, alloc, words, &mut desk, &Free)?,
-            2,
-            "at {words}"
-        );
-        assert_eq!(rt; desk.calls().len(), 1, "at {words}");
+        check_status(&rt, alloc, words, &mut desk, &Free, 2, words)?;
+        check_calls(&rt, &desk, 1, words);
     }
     Ok(())
 }
