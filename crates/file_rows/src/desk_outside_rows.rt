@@ -1,5 +1,6 @@
 //! The desk in memory, and the desk over real files.
 
+use crate::fixtures::{check, check_bytes, check_same};
 use desk_outside::{Desk, DeskCall, DeskError, DeskKind, FetchError, FileDesk, MemoryDesk};
 use std::alloc::Global;
 use std::fs::Permissions;
@@ -38,11 +39,8 @@ static CALLS: [(DeskKind, &str, &str, bool); 9] = [
 // Makes the listed calls.
 fn make_calls(rt: &impl Abort, desk: &mut MemoryDesk, alloc: Global) {
     for (kind, name, text, failed) in CALLS.iter() {
-        assert_eq!(rt;
-            fails(desk, alloc, *kind, name, text),
-            *failed,
-            "{name}{text}"
-        );
+        let row = if name.is_empty() { text } else { name };
+        check_same(rt, &fails(desk, alloc, *kind, name, text), failed, row);
     }
 }
 
@@ -53,19 +51,19 @@ fn is_call(call: &DeskCall, kind: DeskKind, name: &str, failed: bool) -> bool {
 
 // Looks for the listed calls among those that the desk has counted.
 fn check_calls(rt: &impl Abort, calls: &[DeskCall]) {
-    assert_eq!(rt; calls.len(), 9);
+    check_same(rt, &calls.len(), &9, "the calls");
     for (call, (kind, name, _, failed)) in calls.iter().zip(CALLS.iter()) {
-        assert!(rt; is_call(call, *kind, name, *failed), "{name}");
+        check(rt, is_call(call, *kind, name, *failed), name);
     }
 }
 
 // Looks for what the names hold, and for what was said and complained.
 fn check_views(rt: &impl Abort, desk: &MemoryDesk) {
-    for (name, bytes) in [("a", Some("old")), ("b", Some("new")), ("c", None)] {
-        assert_eq!(rt; desk.held(name), bytes.map(|text| text.as_bytes()));
-    }
-    assert_eq!(rt; desk.said(), b"one three".as_slice());
-    assert_eq!(rt; desk.complained(), b"two".as_slice());
+    check_same(rt, &desk.held("a"), &Some(b"old".as_slice()), "a");
+    check_same(rt, &desk.held("b"), &Some(b"new".as_slice()), "b");
+    check_same(rt, &desk.held("c"), &None, "c");
+    check_bytes(rt, desk.said(), b"one three", "what was said");
+    check_bytes(rt, desk.complained(), b"two", "what was complained");
 }
 
 // Fetches these bytes under a name, with this limit.
@@ -77,7 +75,7 @@ fn check_held(
     bytes: &[u8],
 ) -> Result<(), FetchError> {
     let held = desk.fetch(alloc, name, most)?;
-    assert_eq!(rt; held.as_slice(), bytes, "{name}");
+    check_bytes(rt, &held, bytes, name);
     Ok(())
 }
 
@@ -104,7 +102,7 @@ fn memory_desk_fails_the_listed_calls_and_absent_names(rt: HostRuntime) -> Resul
     desk.place("a", b"old")?;
     make_calls(&rt, &mut desk, alloc);
     check_calls(&rt, desk.calls());
-    assert_eq!(rt; desk.faults(), 4);
+    check_same(&rt, &desk.faults(), &4, "the faults");
     check_views(&rt, &desk);
     check_held(&rt, alloc, &mut desk, ("b", 3), b"new")?;
     check_fetches(
@@ -128,7 +126,7 @@ fn check_count(
     folder: &str,
     count: usize,
 ) -> io::Result<()> {
-    assert_eq!(rt; fs::read_dir(rt, folder)?.count(), count, "{folder}");
+    check_same(rt, &fs::read_dir(rt, folder)?.count(), &count, folder);
     Ok(())
 }
 
@@ -139,15 +137,16 @@ fn check_puts(
     puts: &[(&str, &[u8], Result<(), DeskError>)],
 ) {
     for (name, bytes, done) in puts {
-        assert_eq!(rt; desk.put(name, bytes), *done, "{name}");
+        check_same(rt, &desk.put(name, bytes), done, name);
     }
 }
 
 // Says and complains.
 fn check_said(rt: &impl Abort, desk: &mut impl Desk) {
-    assert_eq!(rt; desk.say(b"said\n"), Ok(()));
-    assert_eq!(rt; desk.complain(b"complained\n"), Ok(()));
-    assert_eq!(rt; desk.complain(b"\xff"), Err(DeskError::Failed));
+    check_same(rt, &desk.say(b"said\n"), &Ok(()), "said");
+    check_same(rt, &desk.complain(b"complained\n"), &Ok(()), "complained");
+    let failed = Err(DeskError::Failed);
+    check_same(rt, &desk.complain(b"\xff"), &failed, "no text");
 }
 
 #[test]
@@ -203,16 +202,19 @@ fn check_put(
     done: Result<(), DeskError>,
     left: Option<&str>,
 ) {
-    assert_eq!(rt; desk.put(name, b"new bytes"), done, "{name}");
+    check_same(rt, &desk.put(name, b"new bytes"), &done, name);
     let held = fs::read_to_string(rt, name).ok();
-    assert_eq!(rt; held.as_deref(), left, "{name}");
+    check_same(rt, &held.as_deref(), &left, name);
 }
 
 // What is held under a link has new bytes and its old permissions, and no other file came but the one that was made.
 fn check_left(rt: &(impl Files + AllocGlobal + Abort + Clone)) -> io::Result<()> {
     let held = fs::symlink_metadata(rt, "whole_test/held")?;
-    assert_eq!(rt; (held.len(), held.permissions().mode() & 0o777), (9, 0o600));
-    assert!(rt; fs::symlink_metadata(rt, "whole_test/to_held")?.is_symlink());
+    check_same(rt, &held.len(), &9, "the length");
+    let mode = held.permissions().mode() & 0o777;
+    check_same(rt, &mode, &0o600, "the permissions");
+    let link = fs::symlink_metadata(rt, "whole_test/to_held")?;
+    check(rt, link.is_symlink(), "the link");
     check_count(rt, "whole_test", 7)
 }
 
@@ -253,8 +255,8 @@ fn file_desk_puts_whole_files(rt: HostRuntime) -> Result<(), Fail> {
 // Reads what was put into a pipe.
 fn check_piped(rt: &impl Abort, reader: &mut impl Read) -> io::Result<()> {
     let mut got = [0u8; 8];
-    assert_eq!(rt; reader.read(&mut got)?, 5);
-    assert_eq!(rt; &got[..5], b"piped".as_slice());
+    check_same(rt, &reader.read(&mut got)?, &5, "the length");
+    check_bytes(rt, &got[..5], b"piped", "the pipe");
     Ok(())
 }
 
@@ -263,9 +265,9 @@ fn file_desk_writes_a_pipe_as_it_is(rt: HostRuntime) -> Result<(), Fail> {
     let (mut reader, writer) = io::pipe(&rt)?;
     let name = format!(in rt.alloc(); "/proc/self/fd/{}", writer.as_raw_fd())?;
     let mut desk = FileDesk::new(&rt);
-    assert_eq!(rt; desk.put(&name, b"piped"), Ok(()));
+    check_puts(&rt, &mut desk, &[(&name, b"piped", Ok(()))]);
     check_piped(&rt, &mut reader)?;
-    assert_eq!(rt; desk.put("/dev/null", b"gone"), Ok(()));
-    assert!(rt; !fs::metadata(&rt, "/dev/null")?.is_file());
+    check_puts(&rt, &mut desk, &[("/dev/null", b"gone", Ok(()))]);
+    check(&rt, !fs::metadata(&rt, "/dev/null")?.is_file(), "no file");
     Ok(())
 }

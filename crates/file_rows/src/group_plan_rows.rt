@@ -1,5 +1,6 @@
 //! Names, the order in which plans are refused, and readings put into a table.
 
+use crate::fixtures::{check, check_same};
 use group_plan::{GroupPlan, Name, Plan, PlanError, Presence, Readings, Span, SpanError};
 use row_fixtures::{group, plan_of_north, put, reading_tag};
 use std::alloc::Global;
@@ -124,27 +125,22 @@ fn meter_joins_in_round_1(rt: HostRuntime) -> Result<(), Fail> {
     let joined = plan.with_members(&[span])?.try_copy()?;
     for (round, meter, is_member) in [(0, 0, true), (0, 2, false), (1, 2, true)] {
         assert!(rt; joined.holds(reading_tag(0, round, meter)));
-        assert_eq!(rt; joined.is_member(0, round, meter), is_member);
+        check(
+            &rt,
+            joined.is_member(0, round, meter) == is_member,
+            "a member",
+        );
     }
-    assert_eq!(rt; joined.last_tick(), 36);
-    assert_eq!(rt;
-        span_refusal(
-            &plan,
-            &[
-                span,
-                Span {
-                    from: 1,
-                    until: 1,
-                    ..span
-                }
-            ]
-        ),
-        Some(SpanError::Range(1))
-    );
-    assert_eq!(rt;
-        span_refusal(&plan, &[span, Span { from: 0, ..span }]),
-        Some(SpanError::Twice(1))
-    );
+    check_same(&rt, &joined.last_tick(), &36, "the last tick");
+    let empty = Span {
+        from: 1,
+        until: 1,
+        ..span
+    };
+    let refusal = span_refusal(&plan, &[span, empty]);
+    check_same(&rt, &refusal, &Some(SpanError::Range(1)), "an empty span");
+    let refusal = span_refusal(&plan, &[span, Span { from: 0, ..span }]);
+    check_same(&rt, &refusal, &Some(SpanError::Twice(1)), "a second span");
     Ok(())
 }
 
@@ -178,15 +174,20 @@ fn is_member(plan: &Plan, meter: u8) -> bool {
     plan.holds(reading_tag(0, 1, meter)) && plan.is_member(0, 1, meter)
 }
 
-// The readings 20 and 30 of meters 1 and 2 in round 1, of which the first is taken out again.
-fn small_table(alloc: Global, plan: &Plan) -> Result<Readings, Fail> {
-    let mut readings = Readings::new(alloc, plan)?;
-    if reading_of(&readings, 2)?.is_some() {
+// Puts the readings 20 and 30 of meters 1 and 2 in round 1, of which the first is taken out again.
+fn fill(readings: &mut Readings) -> Result<(), Fail> {
+    if reading_of(readings, 2)?.is_some() {
         return Err(Fail::new("a reading before the first"));
     }
-    put(&mut readings, 1, 2, 30)?;
-    put(&mut readings, 1, 1, 20)?;
-    take_out(&mut readings, 1)?;
+    put(readings, 1, 2, 30)?;
+    put(readings, 1, 1, 20)?;
+    take_out(readings, 1)
+}
+
+// A table of these readings.
+fn small_table(alloc: Global, plan: &Plan) -> Result<Readings, Fail> {
+    let mut readings = Readings::new(alloc, plan)?;
+    fill(&mut readings)?;
     Ok(readings)
 }
 
@@ -203,6 +204,6 @@ fn readings_put_and_taken_out(rt: HostRuntime) -> Result<(), Fail> {
     assert!(rt; is_member(&plan, 2));
     assert!(rt; is_member(&plan, 1));
     let readings = small_table(rt.alloc(), &plan)?;
-    assert_eq!(rt; reading_of(&readings, 2)?, Some(30));
+    check_same(&rt, &reading_of(&readings, 2)?, &Some(30), "a reading");
     check_presence(&rt, rt.alloc(), &readings)
 }

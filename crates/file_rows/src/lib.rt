@@ -7,6 +7,8 @@
 #[cfg(test)]
 mod desk_outside_rows;
 #[cfg(test)]
+mod fixtures;
+#[cfg(test)]
 mod group_plan_rows;
 #[cfg(test)]
 mod link_lanes_rows;

@@ -3,6 +3,7 @@
 ghost use Rattle.std.specs.Prelude.{◌≡◌, ◌<◌, ◌≤◌, ◌+◌, ◌^◌, length};
 ghost use Rattle.link_lanes.specs.Racks.{posts_of, spare_of, HasRoom};
 
+use crate::fixtures::{check, check_bytes, check_same};
 use group_plan::{Kind, Name, Tag};
 use link_lanes::{
     Arg, ArgError, Burst, Clear, EveryNth, Fate, FateError, Lane, LaneError, LaneRow, Post, Rack,
@@ -15,18 +16,23 @@ use std::process::Abort;
 use std::rc::Rc;
 use std::test::Fail;
 
+// Whether these delays are refused so.
+fn fails(delays: &[u8], error: FateError) -> bool {
+    Fate::new(delays) == Err(error)
+}
+
 #[test]
 fn fates_by_delays(rt: HostRuntime) {
     let first_to_last = Fate::new(&[1, 16, 16]);
-    assert!(&rt; first_to_last.is_ok());
+    check(&rt, first_to_last.is_ok(), "first to last");
     if let Ok(fate) = first_to_last {
-        assert!(&rt; fate.delays() == [1, 16, 16].as_slice());
+        check_bytes(&rt, fate.delays(), &[1, 16, 16], "first to last");
     }
-    assert!(&rt; Fate::new(&[]).is_ok());
-    assert!(&rt; Fate::new(&[0, 17, 1, 1]) == Err(FateError::Copies));
-    assert!(&rt; Fate::new(&[3, 0]) == Err(FateError::Delay));
-    assert!(&rt; Fate::new(&[17]) == Err(FateError::Delay));
-    assert!(&rt; Fate::new(&[2, 4, 3]) == Err(FateError::Order));
+    check(&rt, Fate::new(&[]).is_ok(), "no delay");
+    check(&rt, fails(&[0, 17, 1, 1], FateError::Copies), "copies");
+    check(&rt, fails(&[3, 0], FateError::Delay), "delay 0");
+    check(&rt, fails(&[17], FateError::Delay), "delay 17");
+    check(&rt, fails(&[2, 4, 3], FateError::Order), "order");
 }
 
 fn takes<L: Lane>(alloc: Global, lane: &mut L, arg: &str) -> Result<bool, LaneError> {
@@ -129,45 +135,47 @@ static BURST: [(&str, bool); 10] = [
     ("01:1", false),
 ];
 
+// Looks for whether a lane takes an argument.
+fn check_fits(rt: &impl Abort, takes: bool, fits: bool, lane: &str, arg: &str) {
+    assert_eq!(rt; takes, fits, "{lane} {arg}");
+}
+
 fn check_clear(rt: &impl Abort, alloc: Global) -> Result<(), Fail> {
     for (arg, fits) in CLEAR.iter() {
-        assert_eq!(rt; takes(alloc, &mut Clear::new(), arg)?, *fits, "clear {arg}");
+        let takes = takes(alloc, &mut Clear::new(), arg)?;
+        check_fits(rt, takes, *fits, "clear", arg);
     }
     Ok(())
 }
 
 fn check_rules(rt: &impl Abort, alloc: Global) -> Result<(), Fail> {
     for (arg, fits) in RULES.iter() {
-        assert_eq!(rt; takes(alloc, &mut Rules::new(), arg)?, *fits, "rules {arg}");
+        let takes = takes(alloc, &mut Rules::new(), arg)?;
+        check_fits(rt, takes, *fits, "rules", arg);
     }
     Ok(())
 }
 
 fn check_seeded(rt: &impl Abort, alloc: Global) -> Result<(), Fail> {
     for (arg, fits) in SEEDED.iter() {
-        assert_eq!(rt;
-            takes(alloc, &mut Seeded::new(), arg)?,
-            *fits,
-            "seeded {arg}"
-        );
+        let takes = takes(alloc, &mut Seeded::new(), arg)?;
+        check_fits(rt, takes, *fits, "seeded", arg);
     }
     Ok(())
 }
 
 fn check_every(rt: &impl Abort, alloc: Global) -> Result<(), Fail> {
     for (arg, fits) in EVERY.iter() {
-        assert_eq!(rt;
-            takes(alloc, &mut EveryNth::new(), arg)?,
-            *fits,
-            "every {arg}"
-        );
+        let takes = takes(alloc, &mut EveryNth::new(), arg)?;
+        check_fits(rt, takes, *fits, "every", arg);
     }
     Ok(())
 }
 
 fn check_burst(rt: &impl Abort, alloc: Global) -> Result<(), Fail> {
     for (arg, fits) in BURST.iter() {
-        assert_eq!(rt; takes(alloc, &mut Burst::new(), arg)?, *fits, "burst {arg}");
+        let takes = takes(alloc, &mut Burst::new(), arg)?;
+        check_fits(rt, takes, *fits, "burst", arg);
     }
     Ok(())
 }
@@ -175,19 +183,23 @@ fn check_burst(rt: &impl Abort, alloc: Global) -> Result<(), Fail> {
 // A lane takes 64 rules and no more.
 fn check_most_rules(rt: &impl Abort, alloc: Global) -> Result<(), Fail> {
     let most = many_rules(alloc, 64)?;
-    assert!(rt; takes(alloc, &mut Rules::new(), most.as_str())?);
+    let takes_most = takes(alloc, &mut Rules::new(), &most)?;
+    check_fits(rt, takes_most, true, "rules", &most);
     let more = many_rules(alloc, 65)?;
-    assert!(rt; !takes(alloc, &mut Rules::new(), more.as_str())?);
+    let takes_more = takes(alloc, &mut Rules::new(), &more)?;
+    check_fits(rt, takes_more, false, "rules", &more);
     Ok(())
 }
 
 // The texts that are arguments at all.
 fn check_texts(rt: &impl Abort, alloc: Global) -> Result<(), Fail> {
-    assert!(rt; Arg::new(alloc, b"a b").err() == Some(ArgError::Byte(1)));
-    assert!(rt; Arg::new(alloc, b"!~\x7f").err() == Some(ArgError::Byte(2)));
+    let blank = Arg::new(alloc, b"a b").err();
+    check(rt, blank == Some(ArgError::Byte(1)), "a blank");
+    let deleted = Arg::new(alloc, b"!~\x7f").err();
+    check(rt, deleted == Some(ArgError::Byte(2)), "byte 127");
     let plain = Arg::new(alloc, b"!,\"~")?;
-    assert!(rt; plain.text() == "!,\"~");
-    assert!(rt; Arg::new(alloc, b"")?.text() == "");
+    check(rt, plain.text() == "!,\"~", "a plain text");
+    check(rt, Arg::new(alloc, b"")?.text() == "", "an empty text");
     Ok(())
 }
 
@@ -238,7 +250,7 @@ fn lane_rows(alloc: Global, rows: &[(&str, &str, (u32, u32))]) -> Result<Vec<Lan
 
 // Looks for these fates in the posts.
 fn check_posts(rt: &impl Abort, posts: &[Post], fates: &[&[u8]]) {
-    assert_eq!(rt; posts.len(), fates.len());
+    check_same(rt, &posts.len(), &fates.len(), "the posts");
     for (post, delays) in posts.iter().zip(fates) {
         assert_eq!(rt; post.fate.delays(), *delays, "{:?}", post.tag);
     }
@@ -404,6 +416,28 @@ fn rows_around(alloc: Global, name: &str, arg: &str) -> Result<Vec<LaneRow>, Fai
     Ok(rows)
 }
 
+// The row that a cupboard of two lanes doesn't fit, and the cause.
+fn refusal(alloc: Global, rows: &[LaneRow]) -> Result<(u32, RackCause), Fail> {
+    let mut cupboard: Vec<Box<dyn Lane>> = Vec::new(alloc);
+    cupboard.push(Box::new(alloc, Burst::new())?)?;
+    cupboard.push(Box::new(alloc, EveryNth::new())?)?;
+    match Rack::fit(alloc, cupboard, rows) {
+        Ok(_rack) => Err(Fail::new("fitted")),
+        Err(error) => Ok((error.row, error.cause)),
+    }
+}
+
+// Looks for this row and cause.
+fn check_refusal(
+    rt: &impl Abort,
+    came: (u32, RackCause),
+    refusal: (u32, RackCause),
+    name: &str,
+    arg: &str,
+) {
+    assert_eq!(rt; came, refusal, "{name} {arg}");
+}
+
 #[test]
 fn rows_refused(rt: HostRuntime) -> Result<(), Fail> {
     let alloc = rt.alloc();
@@ -413,17 +447,8 @@ fn rows_refused(rt: HostRuntime) -> Result<(), Fail> {
         ("every", "x", RackCause::NoSuchLane),
         ("burst", "3:0", RackCause::BadArgument),
     ] {
-        let mut cupboard: Vec<Box<dyn Lane>> = Vec::new(alloc);
-        cupboard.push(Box::new(alloc, Burst::new())?)?;
-        cupboard.push(Box::new(alloc, EveryNth::new())?)?;
         let rows = rows_around(alloc, name, arg)?;
-        match Rack::fit(alloc, cupboard, &rows) {
-            Ok(_rack) => return Err(Fail::new("fitted")),
-            Err(error) => {
-                assert_eq!(&rt; error.row, 12, "{name} {arg}");
-                assert_eq!(&rt; error.cause, cause, "{name} {arg}");
-            }
-        }
+        check_refusal(&rt, refusal(alloc, &rows)?, (12, cause), name, arg);
     }
     Ok(())
 }
@@ -441,9 +466,12 @@ fn lane_hung_by_hand(rt: HostRuntime) -> Result<(), Fail> {
         return Err(Fail::new("want of memory"));
     }
     rack.reserve(3)?;
-    assert!(&rt; rack.pass(0, reading_tag(0, 0, 0)).delays() == [1].as_slice());
-    assert!(&rt; rack.pass(0, reading_tag(0, 0, 1)).delays() == [1].as_slice());
-    assert!(&rt; rack.pass(0, reading_tag(0, 0, 2)).delays() == [2].as_slice());
+    let fate = rack.pass(0, reading_tag(0, 0, 0));
+    check_bytes(&rt, fate.delays(), &[1], "meter 0");
+    let fate = rack.pass(0, reading_tag(0, 0, 1));
+    check_bytes(&rt, fate.delays(), &[1], "meter 1");
+    let fate = rack.pass(0, reading_tag(0, 0, 2));
+    check_bytes(&rt, fate.delays(), &[2], "meter 2");
     Ok(())
 }
 
@@ -495,11 +523,11 @@ fn retired_lane_dropped_once(rt: HostRuntime) -> Result<(), Fail> {
         return Err(Fail::new("want of memory"));
     }
     rack.retire(0);
-    assert_eq!(&rt; drops.get(), 0);
+    check_same(&rt, &drops.get(), &0, "tick 0");
     rack.retire(1);
-    assert_eq!(&rt; drops.get(), 1);
+    check_same(&rt, &drops.get(), &1, "tick 1");
     rack.retire(2);
     drop(rack);
-    assert_eq!(&rt; drops.get(), 1);
+    check_same(&rt, &drops.get(), &1, "the end");
     Ok(())
 }

@@ -1,5 +1,6 @@
 //! Keys that are put, refused and missing.
 
+use crate::fixtures::{check, check_same};
 use group_plan::Plan;
 use pair_keys::{KeyError, KeyId, KeyPile};
 use row_fixtures::group;
@@ -17,14 +18,15 @@ fn check_own(rt: &impl Abort, pile: &mut KeyPile) {
         (1, 0, Err(KeyError::Range)),
         (65536, 0, Err(KeyError::Range)),
     ] {
-        assert_eq!(rt; pile.put_own(group, meter, [7; 32]), expected);
+        check_same(rt, &pile.put_own(group, meter, [7; 32]), &expected, "own");
     }
 }
 
 // Puts keys of pairs outside the plan.
 fn check_pairs(rt: &impl Abort, pile: &mut KeyPile) {
     for (low, high) in [(0, 0), (1, 0), (1, 1), (0, 2)] {
-        assert_eq!(rt; pile.put_pair(0, low, high, [7; 32]), Err(KeyError::Range));
+        let put = pile.put_pair(0, low, high, [7; 32]);
+        check_same(rt, &put, &Err(KeyError::Range), "a pair");
     }
 }
 
@@ -43,9 +45,9 @@ fn keys_of_two_meters(rt: HostRuntime) -> Result<(), Fail> {
         },
     ] {
         match pile.finish() {
-            Ok(_) => return Ok(assert!(&rt; false)),
+            Ok(_) => return Err(Fail::new("no key is missing")),
             Err(unfinished) => {
-                assert_eq!(&rt; unfinished.missing, missing);
+                check_same(&rt, &unfinished.missing, &missing, "a missing key");
                 pile = unfinished.pile;
             }
         }
@@ -53,8 +55,8 @@ fn keys_of_two_meters(rt: HostRuntime) -> Result<(), Fail> {
             KeyId::Own { group, meter } => pile.put_own(group, meter, [8; 32]),
             KeyId::Pair { group, low, high } => pile.put_pair(group, low, high, [9; 32]),
         };
-        assert_eq!(&rt; put, Ok(()));
+        check_same(&rt, &put, &Ok(()), "a key that was missing");
     }
-    assert!(&rt; pile.finish().is_ok());
+    check(&rt, pile.finish().is_ok(), "the end");
     Ok(())
 }

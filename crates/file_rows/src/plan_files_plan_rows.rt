@@ -1,5 +1,6 @@
 //! Plan files: their values and their first faults.
 
+use crate::fixtures::{check, check_bytes, check_same};
 use group_plan::{Plan, PlanError, SpanError};
 use link_lanes::LaneRow;
 use pair_keys::{KeyError, KeyId, KeyTable};
@@ -336,16 +337,18 @@ static FAULTS: [(usize, usize, &str, &str, u32, FileCause); 103] = [
     ),
 ];
 
+// Looks for this fault.
+fn check_fault(rt: &impl Abort, came: &FileError, fault: &FileError, text: &str, more: &str) {
+    assert_eq!(rt; came, fault, "{text} {more}");
+}
+
 #[test]
 fn first_faults_of_plans(rt: HostRuntime) -> Result<(), Fail> {
     for case in FAULTS.iter() {
         let (from, until, text, more, row, cause) = *case;
         let file = plan_file(rt.alloc(), from, until, text, more)?;
-        assert_eq!(rt;
-            fault_of(&rt, rt.alloc(), file.as_slice()),
-            FileError { row, cause },
-            "{text} {more}"
-        );
+        let fault = fault_of(&rt, rt.alloc(), &file);
+        check_fault(&rt, &fault, &FileError { row, cause }, text, more);
     }
     Ok(())
 }
@@ -378,17 +381,16 @@ fn accepted_plans(rt: HostRuntime) -> Result<(), Fail> {
     for case in ACCEPTED.iter() {
         let (from, until, text, more) = *case;
         let file = plan_file(rt.alloc(), from, until, text, more)?;
-        assert!(rt;
-            read(&rt, rt.alloc(), file.as_slice()).is_ok(),
-            "{text} {more}"
-        );
+        let row = if more.is_empty() { text } else { more };
+        check(&rt, read(&rt, rt.alloc(), &file).is_ok(), row);
     }
     Ok(())
 }
 
 // Three rounds with windows of 4 and 5 ticks, of which the first is one without the second meter.
 fn check_plan(rt: &impl Abort, plan: &Plan) {
-    assert_eq!(rt; [plan.rounds(), plan.w1(), plan.w2()], [3, 4, 5]);
+    let numbers = [plan.rounds(), plan.w1(), plan.w2()];
+    check_same(rt, &numbers, &[3, 4, 5], "the numbers");
     for (round, is_member) in [(0, false), (1, true), (2, true)] {
         let tag = reading_tag(0, round, 1);
         assert!(rt; plan.holds(tag) && plan.is_member(0, round, 1) == is_member);
@@ -397,11 +399,18 @@ fn check_plan(rt: &impl Abort, plan: &Plan) {
 
 // A seeded lane and a clear one.
 fn check_lanes(rt: &impl Abort, lanes: &[LaneRow]) {
-    assert_eq!(rt; lanes.len(), 2);
-    assert_eq!(rt; lanes[0].name.bytes(), b"seeded".as_slice());
-    assert_eq!(rt; lanes[0].arg.text(), "1:2:3:4");
-    assert_eq!(rt; [lanes[0].row, lanes[0].from, lanes[0].to], [6, 0, 43]);
-    assert_eq!(rt; [lanes[1].row, lanes[1].from, lanes[1].to], [10, 2, 2]);
+    assert!(rt; lanes.len() == 2);
+    check_bytes(rt, lanes[0].name.bytes(), b"seeded", "a name");
+    check_bytes(
+        rt,
+        lanes[0].arg.text().as_bytes(),
+        b"1:2:3:4",
+        "an argument",
+    );
+    let first = [lanes[0].row, lanes[0].from, lanes[0].to];
+    check_same(rt, &first, &[6, 0, 43], "a seeded lane");
+    let second = [lanes[1].row, lanes[1].from, lanes[1].to];
+    check_same(rt, &second, &[10, 2, 2], "a clear lane");
 }
 
 // The own keys of two meters end in f1 and f2, and the key of their pair begins with 3.
@@ -495,12 +504,10 @@ fn plans_of_many_keys(rt: HostRuntime) -> Result<(), Fail> {
         let (first, second, row) = *case;
         let file = long_plan(rt.alloc(), [first, second])?;
         let cause = FileCause::Hex;
-        assert_eq!(rt;
-            fault_of(&rt, rt.alloc(), file.as_slice()),
-            FileError { row, cause }
-        );
+        let fault = fault_of(&rt, rt.alloc(), &file);
+        check_fault(&rt, &fault, &FileError { row, cause }, "a long plan", "");
     }
     let file = long_plan(rt.alloc(), [(0, 0), (0, 0)])?;
-    assert!(rt; read(&rt, rt.alloc(), file.as_slice()).is_ok());
+    check(&rt, read(&rt, rt.alloc(), &file).is_ok(), "a long plan");
     Ok(())
 }

@@ -1,5 +1,6 @@
 //! Readings files: their values and their first faults.
 
+use crate::fixtures::check_same;
 use group_plan::{Plan, Readings, Span};
 use plan_files::{FileCause, FileError, read_readings};
 use row_fixtures::{group, reading_tag};
@@ -55,7 +56,8 @@ fn readings_of_two_groups(rt: HostRuntime) -> Result<(), Fail> {
         (1, 1, 0, None),
         (1, 1, 1, Some(0)),
     ] {
-        assert_eq!(rt; reading_at(&readings, group, round, meter), reading);
+        let came = reading_at(&readings, group, round, meter);
+        check_same(&rt, &came, &reading, "a reading");
     }
     Ok(())
 }
@@ -128,22 +130,16 @@ static FAULTS: [(&str, u32, FileCause); 34] = [
 fn first_faults_of_readings(rt: HostRuntime) -> Result<(), Fail> {
     let plan = small_plan(rt.alloc())?;
     for text in WHOLE.iter() {
-        assert_eq!(rt;
-            fault_of_readings(rt.alloc(), &plan, text.as_bytes()),
-            None,
-            "{text}"
-        );
+        let came = fault_of_readings(rt.alloc(), &plan, text.as_bytes());
+        check_same(&rt, &came, &None, text);
     }
     for (text, row, cause) in FAULTS.iter() {
         let fault = FileError {
             row: *row,
             cause: *cause,
         };
-        assert_eq!(rt;
-            fault_of_readings(rt.alloc(), &plan, text.as_bytes()),
-            Some(fault),
-            "{text}"
-        );
+        let came = fault_of_readings(rt.alloc(), &plan, text.as_bytes());
+        check_same(&rt, &came, &Some(fault), text);
     }
     Ok(())
 }

@@ -1,5 +1,6 @@
 //! Rows of reports, read and written, and their first faulty lines.
 
+use crate::fixtures::{check, check_bytes, check_same};
 use missing_round::MeterSet;
 use std::alloc::Global;
 use std::test::Fail;
@@ -55,12 +56,12 @@ fn rows_read_and_written(rt: HostRuntime) -> Result<(), Fail> {
         let Ok(report) = read_report(alloc, text.as_slice()) else {
             panic!(rt; "refused {line}")
         };
-        assert_eq!(rt; report.rows().len(), 1);
+        check_same(&rt, &report.rows().len(), &1, line);
         for row in report.rows() {
-            assert!(&rt; row.name.bytes() == b"north".as_slice());
-            assert!(&rt; row.round == round && row.survivors == survivors);
-            assert!(&rt; row.missing == missing && row.outcome == outcome);
-            assert!(&rt; row_text(alloc, row)?.as_slice() == line.as_bytes());
+            check_bytes(&rt, row.name.bytes(), b"north", line);
+            check(&rt, row.round == round && row.survivors == survivors, line);
+            check(&rt, row.missing == missing && row.outcome == outcome, line);
+            check_bytes(&rt, &row_text(alloc, row)?, line.as_bytes(), line);
         }
     }
     Ok(())
@@ -120,17 +121,11 @@ static LINES: [(&str, Option<u64>); 30] = [
 fn first_faulty_lines(rt: HostRuntime) -> Result<(), Fail> {
     let alloc = rt.alloc();
     for (text, line) in TEXTS.iter() {
-        assert!(&rt;
-            matches!(fault_of(alloc, text.as_bytes()), Ok(found) if found == *line),
-            "{text}"
-        );
+        check_same(&rt, &fault_of(alloc, text.as_bytes())?, line, text);
     }
     for (lines, line) in LINES.iter() {
         let text = with_heading(alloc, lines)?;
-        assert!(&rt;
-            matches!(fault_of(alloc, text.as_slice()), Ok(found) if found == *line),
-            "{lines}"
-        );
+        check_same(&rt, &fault_of(alloc, &text)?, line, lines);
     }
     Ok(())
 }

@@ -1,10 +1,12 @@
 //! Texts of transcripts, read and written, and their first faults.
 
+use crate::fixtures::{check, check_bytes, check_same};
 use group_plan::{Plan, Span};
 use link_lanes::Fate;
 use round_machine::Verdict;
 use row_fixtures::{PLAIN, plan_of_north, reading_tag, with_line};
 use std::alloc::Global;
+use std::process::Abort;
 use std::test::Fail;
 use transcript_log::{Entry, Line, Transcript, members};
 use transcript_text::{ReadError, line_text, read, read_old, write};
@@ -47,20 +49,36 @@ fn fault_of(alloc: Global, bytes: &[u8]) -> Option<ReadError> {
     }
 }
 
+// The plain case, as it is read in this version or in the old one.
+fn plain_case(alloc: Global, old: bool) -> Result<Transcript, Fail> {
+    let read_back = if old {
+        read_old(alloc, OLD.as_bytes())
+    } else {
+        read(alloc, PLAIN.as_bytes())
+    };
+    match read_back {
+        Ok(transcript) => Ok(transcript),
+        Err(_) => Err(Fail::new("refused")),
+    }
+}
+
+// Looks for the text of a transcript.
+fn check_text(
+    rt: &impl Abort,
+    alloc: Global,
+    transcript: &Transcript,
+    text: &str,
+) -> Result<(), Fail> {
+    check_bytes(rt, &write(alloc, transcript)?, text.as_bytes(), "the text");
+    Ok(())
+}
+
 #[test]
 fn texts_written_again(rt: HostRuntime) -> Result<(), Fail> {
     for old in [false, true] {
-        let read_back = if old {
-            read_old(rt.alloc(), OLD.as_bytes())
-        } else {
-            read(rt.alloc(), PLAIN.as_bytes())
-        };
-        let Ok(transcript) = read_back else {
-            panic!(rt; "refused")
-        };
-        assert_eq!(rt; transcript.len(), 20);
-        let text = write(rt.alloc(), &transcript)?;
-        assert!(&rt; text.as_slice() == PLAIN.as_bytes());
+        let transcript = plain_case(rt.alloc(), old)?;
+        check_same(&rt, &transcript.len(), &20, "the length");
+        check_text(&rt, rt.alloc(), &transcript, PLAIN)?;
     }
     Ok(())
 }
@@ -142,7 +160,7 @@ static FAULTS: [(usize, &str, Option<ReadError>); 40] = [
 fn first_faults(rt: HostRuntime) -> Result<(), Fail> {
     for (number, line, expected) in FAULTS.iter() {
         let text = with_line(rt.alloc(), PLAIN, *number, line)?;
-        assert_eq!(rt; fault_of(rt.alloc(), text.as_bytes()), *expected, "{line}");
+        check_same(&rt, &fault_of(rt.alloc(), text.as_bytes()), expected, line);
     }
     Ok(())
 }
@@ -161,8 +179,8 @@ fn small_plan(alloc: Global) -> Result<Plan, Fail> {
 fn members_of_a_round(rt: HostRuntime) -> Result<(), Fail> {
     let plan = small_plan(rt.alloc())?;
     if plan.groups().len() == 1 && plan.rounds() == 2 {
-        assert!(&rt; members(&plan, 0, 0).len() == 2);
-        assert!(&rt; members(&plan, 0, 1).has(2));
+        check(&rt, members(&plan, 0, 0).len() == 2, "round 0");
+        check(&rt, members(&plan, 0, 1).has(2), "round 1");
     } else {
         panic!(rt; "another plan")
     }
@@ -193,12 +211,10 @@ fn entry_pushed(rt: HostRuntime) -> Result<(), Fail> {
         },
     };
     let line = line_text(rt.alloc(), &entry)?;
-    assert!(&rt; line.as_slice() == b"7,t,0,1,r,2,late".as_slice());
+    check_bytes(&rt, &line, b"7,t,0,1,r,2,late", "the line");
     let mut transcript = Transcript::empty(rt.alloc(), &plan)?;
     if plan.holds(tag) && fate.delays().is_empty() {
         transcript.push(entry)?;
     }
-    let text = write(rt.alloc(), &transcript)?;
-    assert!(&rt; text.as_slice() == SMALL.as_bytes());
-    Ok(())
+    check_text(&rt, rt.alloc(), &transcript, SMALL)
 }

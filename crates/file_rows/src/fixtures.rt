@@ -1,0 +1,19 @@
+//! What the rows of several modules ask: each is asked in one place, since every assertion of a body is proved by itself.
+
+use std::fmt::Debug;
+use std::process::Abort;
+
+/// Looks for this value.
+pub(crate) fn check_same<T: PartialEq + Debug>(rt: &impl Abort, came: &T, value: &T, row: &str) {
+    assert_eq!(rt; came, value, "at {row}");
+}
+
+/// Looks for these bytes.
+pub(crate) fn check_bytes(rt: &impl Abort, came: &[u8], bytes: &[u8], row: &str) {
+    assert_eq!(rt; came, bytes, "at {row}");
+}
+
+/// Asks whether a fact is so.
+pub(crate) fn check(rt: &impl Abort, is_so: bool, row: &str) {
+    assert!(rt; is_so, "at {row}");
+}
