@@ -312,98 +312,91 @@ fn check_six(
     check_fates(rt, alloc, rows, &posts, fates)
 }
 
+/// A lane's name, its argument and its span.
+type Hanging = (&'static str, &'static str, (u32, u32));
+
+// Lanes, and the fates that they give the six posts.
+static SIX: [(&[Hanging], [&[u8]; 6]); 10] = [
+    (&[], [&[1], &[1], &[1], &[1], &[1], &[1]]),
+    (
+        &[("burst", "1:1", (0, 9)), ("clear", "", (0, 9))],
+        [&[1], &[1], &[1], &[1], &[1], &[1]],
+    ),
+    (
+        &[("rules", "0.0.r.1=-;*.*.*.2=4;*.*.m.*=2+2", (0, 9))],
+        [&[1], &[], &[4], &[2, 2], &[1], &[4]],
+    ),
+    // Numbers that no tag can have match nothing.
+    (
+        &[("rules", "65536.*.*.*=9;*.*.*.256=9;*.*.*.*=3", (0, 9))],
+        [&[3], &[3], &[3], &[3], &[3], &[3]],
+    ),
+    (
+        &[("every", "2:1+3", (0, 9))],
+        [&[1], &[1, 3], &[1], &[1, 3], &[1], &[1, 3]],
+    ),
+    // Posts before the span are not counted.
+    (
+        &[("every", "2:5", (1, 2))],
+        [&[1], &[1], &[1], &[1], &[5], &[1]],
+    ),
+    (
+        &[("burst", "2:1", (0, 9))],
+        [&[1], &[1], &[], &[1], &[1], &[]],
+    ),
+    // A post that comes without a copy is counted, and may get one.
+    (
+        &[("burst", "1:1", (0, 9)), ("every", "2:3", (0, 9))],
+        [&[1], &[3], &[1], &[3], &[1], &[3]],
+    ),
+    (
+        &[("every", "1:2", (0, 9)), ("burst", "1:1", (0, 9))],
+        [&[2], &[], &[2], &[], &[2], &[]],
+    ),
+    (
+        &[("seeded", "7:300:500:16", (0, 9))],
+        [&[6], &[3], &[], &[], &[2, 9], &[]],
+    ),
+];
+
+// The fates of twenty posts, every second of which comes without a copy. They take more words than one refill of the stream
+// has.
+static TWENTY: [&[u8]; 20] = [
+    &[6],
+    &[],
+    &[],
+    &[],
+    &[2, 9],
+    &[],
+    &[8, 16],
+    &[],
+    &[4, 14],
+    &[],
+    &[13, 16],
+    &[],
+    &[],
+    &[],
+    &[],
+    &[],
+    &[7],
+    &[],
+    &[3],
+    &[],
+];
+
 #[test]
 fn fates_by_lanes(rt: HostRuntime) -> Result<(), Fail> {
     let alloc = rt.alloc();
-    let none: &[u8] = &[];
-    let one: &[u8] = &[1];
-    check_six(&rt, alloc, &[], &[one, one, one, one, one, one])?;
-    check_six(
-        &rt,
-        alloc,
-        &[("burst", "1:1", (0, 9)), ("clear", "", (0, 9))],
-        &[one, one, one, one, one, one],
-    )?;
-    check_six(
-        &rt,
-        alloc,
-        &[("rules", "0.0.r.1=-;*.*.*.2=4;*.*.m.*=2+2", (0, 9))],
-        &[one, none, &[4], &[2, 2], one, &[4]],
-    )?;
-    // Numbers that no tag can have match nothing.
-    check_six(
-        &rt,
-        alloc,
-        &[("rules", "65536.*.*.*=9;*.*.*.256=9;*.*.*.*=3", (0, 9))],
-        &[&[3], &[3], &[3], &[3], &[3], &[3]],
-    )?;
-    check_six(
-        &rt,
-        alloc,
-        &[("every", "2:1+3", (0, 9))],
-        &[one, &[1, 3], one, &[1, 3], one, &[1, 3]],
-    )?;
-    // Posts before the span are not counted.
-    check_six(
-        &rt,
-        alloc,
-        &[("every", "2:5", (1, 2))],
-        &[one, one, one, one, &[5], one],
-    )?;
-    check_six(
-        &rt,
-        alloc,
-        &[("burst", "2:1", (0, 9))],
-        &[one, one, none, one, one, none],
-    )?;
-    // A post that comes without a copy is counted, and may get one.
-    check_six(
-        &rt,
-        alloc,
-        &[("burst", "1:1", (0, 9)), ("every", "2:3", (0, 9))],
-        &[one, &[3], one, &[3], one, &[3]],
-    )?;
-    check_six(
-        &rt,
-        alloc,
-        &[("every", "1:2", (0, 9)), ("burst", "1:1", (0, 9))],
-        &[&[2], none, &[2], none, &[2], none],
-    )?;
-    check_six(
-        &rt,
-        alloc,
-        &[("seeded", "7:300:500:16", (0, 9))],
-        &[&[6], &[3], none, none, &[2, 9], none],
-    )?;
-    // Every second post comes without a copy, and the twenty take more words than one refill of the stream has.
+    for (rows, fates) in SIX.iter() {
+        check_six(&rt, alloc, rows, fates)?;
+    }
     let many = [(0, reading_tag(0, 0, 0)); 20];
     check_fates(
         &rt,
         alloc,
         &[("burst", "1:1", (0, 0)), ("seeded", "7:300:500:16", (0, 0))],
         &many,
-        &[
-            &[6],
-            none,
-            none,
-            none,
-            &[2, 9],
-            none,
-            &[8, 16],
-            none,
-            &[4, 14],
-            none,
-            &[13, 16],
-            none,
-            none,
-            none,
-            none,
-            none,
-            &[7],
-            none,
-            &[3],
-            none,
-        ],
+        &TWENTY,
     )
 }
 
