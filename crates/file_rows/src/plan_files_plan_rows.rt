@@ -9,7 +9,6 @@ use row_fixtures::reading_tag;
 use std::alloc::{AllocError, Global};
 use std::process::Abort;
 use std::test::Fail;
-use std::thread::Threads;
 
 // The rows of the plain plan. A Z stands for 64 zeros.
 static ROWS: [&str; 10] = [
@@ -62,18 +61,18 @@ fn plan_file(
     Ok(file)
 }
 
-fn read(rt: &(impl Threads + Sync), alloc: Global, bytes: &[u8]) -> Result<PlanFile, FileError> {
+fn read(alloc: Global, bytes: &[u8]) -> Result<PlanFile, FileError> {
     if bytes.len() > 1 << 28 {
         return Err(FileError {
             row: 0,
             cause: FileCause::Memory,
         });
     }
-    read_plan(rt, alloc, bytes)
+    read_plan(alloc, bytes)
 }
 
-fn fault_of(rt: &(impl Threads + Sync), alloc: Global, bytes: &[u8]) -> FileError {
-    match read(rt, alloc, bytes) {
+fn fault_of(alloc: Global, bytes: &[u8]) -> FileError {
+    match read(alloc, bytes) {
         Ok(_) => FileError {
             row: 0,
             cause: FileCause::Extra,
@@ -347,7 +346,7 @@ fn first_faults_of_plans(rt: HostRuntime) -> Result<(), Fail> {
     for case in FAULTS.iter() {
         let (from, until, text, more, row, cause) = *case;
         let file = plan_file(rt.alloc(), from, until, text, more)?;
-        let fault = fault_of(&rt, rt.alloc(), &file);
+        let fault = fault_of(rt.alloc(), &file);
         check_fault(&rt, &fault, &FileError { row, cause }, text, more);
     }
     Ok(())
@@ -382,7 +381,7 @@ fn accepted_plans(rt: HostRuntime) -> Result<(), Fail> {
         let (from, until, text, more) = *case;
         let file = plan_file(rt.alloc(), from, until, text, more)?;
         let row = if more.is_empty() { text } else { more };
-        check(&rt, read(&rt, rt.alloc(), &file).is_ok(), row);
+        check(&rt, read(rt.alloc(), &file).is_ok(), row);
     }
     Ok(())
 }
@@ -429,7 +428,7 @@ fn value_of_a_plan(rt: HostRuntime) -> Result<(), Fail> {
         "rounds,3\nwindows,4,5\ngroup,east,2,2\nmember,0,1,1,3",
         "lane,seeded,1:2:3:4,0,43\nown,0,0,00000000000000000000000000000000000000000000000000000000000000f1\nown,0,1,00000000000000000000000000000000000000000000000000000000000000F2\npair,0,0,1,0300000000000000000000000000000000000000000000000000000000000000\nlane,clear,,2,2",
     )?;
-    let Ok(value) = read(&rt, rt.alloc(), file.as_slice()) else {
+    let Ok(value) = read(rt.alloc(), file.as_slice()) else {
         panic!(rt; "refused")
     };
     check_plan(&rt, &value.plan);
@@ -504,10 +503,10 @@ fn plans_of_many_keys(rt: HostRuntime) -> Result<(), Fail> {
         let (first, second, row) = *case;
         let file = long_plan(rt.alloc(), [first, second])?;
         let cause = FileCause::Hex;
-        let fault = fault_of(&rt, rt.alloc(), &file);
+        let fault = fault_of(rt.alloc(), &file);
         check_fault(&rt, &fault, &FileError { row, cause }, "a long plan", "");
     }
     let file = long_plan(rt.alloc(), [(0, 0), (0, 0)])?;
-    check(&rt, read(&rt, rt.alloc(), &file).is_ok(), "a long plan");
+    check(&rt, read(rt.alloc(), &file).is_ok(), "a long plan");
     Ok(())
 }
