@@ -2,10 +2,12 @@
 
 ghost use Rattle.std.specs.Prelude.{◌+◌, ◌-◌, ◌*◌, [], ◌∷◌, replicate, slice_index_or};
 
+use crate::fixtures::{check_all, check_same};
 use blind_core::{answer, answers, masked, masked_group, masked_rounds};
 use mask_stream::Masks;
 use missing_round::MeterSet;
 use mod_word::Word;
+use std::process::Abort;
 use std::sync::atomic::{AtomicU32, Ordering};
 use std::test::Fail;
 
@@ -61,19 +63,19 @@ const IDEAL: Listed = Listed {
 #[test]
 fn words_over_ideal_table(rt: HostRuntime) {
     let all = MeterSet::full(3);
-    assert_eq!(rt; masked(&IDEAL, 0, &all, 0, 0, 10), Word(122));
-    assert_eq!(rt; masked(&IDEAL, 0, &all, 0, 1, 20), Word(226));
-    assert_eq!(rt; masked(&IDEAL, 0, &all, 0, 2, 30), Word(312));
+    let words = [
+        masked(&IDEAL, 0, &all, 0, 0, 10),
+        masked(&IDEAL, 0, &all, 0, 1, 20),
+        masked(&IDEAL, 0, &all, 0, 2, 30),
+    ];
+    check_same(&rt, &words, &[Word(122), Word(226), Word(312)], "the words");
 }
 
 #[test]
 fn group_words_at_once(rt: HostRuntime) -> Result<(), Fail> {
     let readings = [Some(10), Some(20), Some(30)];
     let words = masked_group(rt.alloc(), &IDEAL, 0, &MeterSet::full(3), 0, &readings)?;
-    assert_eq!(rt;
-        words.as_slice(),
-        [Word(122), Word(226), Word(312)].as_slice()
-    );
+    check_all(&rt, &words, &[Word(122), Word(226), Word(312)], "the words");
     Ok(())
 }
 
@@ -105,7 +107,7 @@ fn group_as_one_by_one(rt: HostRuntime) -> Result<(), Fail> {
             masked(&masks, 0, &all, 0, 1, 1 << 39),
             masked(&masks, 0, &all, 0, 2, 1_099_511_627_775),
         ];
-        assert_eq!(rt; group.as_slice(), alone.as_slice());
+        check_all(&rt, &group, &alone, "a group");
     }
     Ok(())
 }
@@ -113,17 +115,22 @@ fn group_as_one_by_one(rt: HostRuntime) -> Result<(), Fail> {
 #[test]
 fn answers_open_total_30(rt: HostRuntime) {
     let missing = MeterSet::empty().with(2);
-    assert_eq!(rt; answer(&IDEAL, 0, 0, 0, &missing), Word(107));
-    assert_eq!(rt; answer(&IDEAL, 0, 0, 1, &missing), Word(211));
+    let first = answer(&IDEAL, 0, 0, 0, &missing);
+    check_same(&rt, &first, &Word(107), "meter 0");
+    let second = answer(&IDEAL, 0, 0, 1, &missing);
+    check_same(&rt, &second, &Word(211), "meter 1");
     let both = answers(&IDEAL, 0, 0, &MeterSet::full(2), &missing);
-    assert_eq!(rt; [both[0], both[1]], [107, 211]);
+    check_same(&rt, &[both[0], both[1]], &[107, 211], "both meters");
 }
 
 #[test]
 fn words_over_two_members(rt: HostRuntime) {
     let two = MeterSet::full(2);
-    assert_eq!(rt; masked(&IDEAL, 0, &two, 0, 0, 10), Word(115));
-    assert_eq!(rt; masked(&IDEAL, 0, &two, 0, 1, 20), Word(215));
+    let words = [
+        masked(&IDEAL, 0, &two, 0, 0, 10),
+        masked(&IDEAL, 0, &two, 0, 1, 20),
+    ];
+    check_same(&rt, &words, &[Word(115), Word(215)], "the words");
 }
 
 #[test]
@@ -132,9 +139,17 @@ fn higher_meter_subtracts(rt: HostRuntime) {
         own: [0, 0, 0],
         pair: [1, 0, 0],
     };
-    assert_eq!(rt;
-        masked(&one, 0, &MeterSet::full(2), 0, 1, 0),
-        Word(0xffff_ffff_ffff_ffff)
+    let word = masked(&one, 0, &MeterSet::full(2), 0, 1, 0);
+    check_same(&rt, &word, &Word(0xffff_ffff_ffff_ffff), "the word");
+}
+
+// Looks for the number of pair words that were asked.
+fn check_asked(rt: &impl Abort, masks: &Counting, count: u32) {
+    check_same(
+        rt,
+        &masks.asked.load(Ordering::SeqCst),
+        &count,
+        "pair words",
     );
 }
 
@@ -145,11 +160,11 @@ fn each_pair_word_asked_once(rt: HostRuntime) -> Result<(), Fail> {
     };
     let readings = [Some(1); 64];
     let words = masked_group(rt.alloc(), &masks, 0, &MeterSet::full(64), 0, &readings)?;
-    assert_eq!(rt; words.len(), 64);
-    assert_eq!(rt; masks.asked.load(Ordering::SeqCst), 2016);
+    check_same(&rt, &words.len(), &64, "the words");
+    check_asked(&rt, &masks, 2016);
     let missing = MeterSet::empty().with(5).with(6);
     let _answers = answers(&masks, 0, 0, &MeterSet::full(4), &missing);
-    assert_eq!(rt; masks.asked.load(Ordering::SeqCst), 2016 + 8);
+    check_asked(&rt, &masks, 2016 + 8);
     Ok(())
 }
 
@@ -160,12 +175,12 @@ fn eight_rounds_as_one_by_one(rt: HostRuntime) -> Result<(), Fail> {
     };
     let all = MeterSet::full(64);
     let words = masked_rounds(rt.alloc(), &masks, 0, &all, 1, &[[Some(3); 8]; 64])?;
-    assert_eq!(rt; words.len(), 64);
-    assert_eq!(rt; masks.asked.load(Ordering::SeqCst), 8 * 2016);
+    check_same(&rt, &words.len(), &64, "the words");
+    check_asked(&rt, &masks, 8 * 2016);
     for round in 0..8u32 {
         let group = masked_group(rt.alloc(), &masks, 0, &all, 1 + round, &[Some(3); 64])?;
         for (row, word) in words.iter().zip(&group) {
-            assert_eq!(rt; row[round as usize], word.value());
+            check_same(&rt, &row[round as usize], &word.value(), "a word");
         }
     }
     Ok(())

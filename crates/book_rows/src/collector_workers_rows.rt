@@ -1,22 +1,26 @@
 //! Worked rows. The book of the plain case has one group of three meters with floor 2, and one round, in which each has a
 //! reading; the words are those of the readings 10, 20 and 30 under keys of zeros.
 
-ghost use Rattle.std.specs.Prelude.{◌^◌, ◌<◌, vec_len};
+ghost use Rattle.std.specs.Prelude.{◌≡◌, ◌≤◌, IfOk, [], length};
+ghost use Rattle.shared_book.specs.Passes.{new_pass};
+ghost use Rattle.shared_book.specs.Ends.{view, opening, IsPassOf};
 
-use crate::fixtures::{book_of_north, parcel, reading_frame, send_reading};
-use collector_workers::{Free, Gate, Mark, collect, gather};
+use crate::fixtures::{
+    book_of_north, check, check_all, check_same, parcel, reading_frame, send_reading,
+};
+use collector_workers::{Collected, Free, Gate, Mark, collect, gather};
 use group_book::{Book, TakeError};
 use meter_frames::{FrameError, encode};
 use missing_round::MeterSet;
 use round_machine::{Closing, Verdict};
-use shared_book::{CommitError, Parcel, Reply, SharedBook};
+use shared_book::{CommitError, Parcel, Pass, Reply, SharedBook, Shut};
 use std::alloc::Global;
 use std::process::Abort;
 use std::sync::Wait;
 use std::sync::atomic::{AtomicU64, Ordering};
 use std::test::Fail;
 use std::thread::Threads;
-use transcript_log::{Event, Line};
+use transcript_log::{Event, Line, Lines};
 
 const WORDS: [u64; 3] = [
     0xb0b9_d4e2_09a2_296c,
@@ -37,6 +41,56 @@ fn sent_book(alloc: Global) -> Result<Book, Fail> {
     Ok(book)
 }
 
+// The marks of a batch that so many workers collect into a book, and the number of lines that the book then has.
+fn collected(
+    rt: &(impl Threads + Wait + Sync),
+    alloc: Global,
+    book: Book,
+    batch: Vec<Parcel>,
+    workers: u32,
+    gate: &impl Gate,
+) -> Result<(Vec<Mark>, usize), Fail> {
+    if batch.len() > 10_000 || workers < 1 || workers > 16 {
+        return Err(Fail::new("too many"));
+    }
+    let Ok(collected) = collect(rt, alloc, book, batch, workers, gate) else {
+        return Err(Fail::new("no memory"));
+    };
+    let Collected { book, replies } = collected;
+    Ok((replies, book.journal().len()))
+}
+
+// A shared book of the three readings, with room for these parcels, and its first pass.
+fn begun(alloc: Global, batch: &[Parcel]) -> Result<(SharedBook, Pass), Fail>
+    requires { length batch.now ≤ 4 }
+    ensures pass { IfOk result (λ r. IsPassOf r.0 r.1 × (view r.1 ≡ new_pass 0 [])) }
+    ensures parcels { IfOk result (λ r. (opening r.0).parcels ≡ batch.now) }
+{
+    let mut book = sent_book(alloc)?;
+    book.reserve(batch.len() as u64)?;
+    let parcels = Vec::from_slice(alloc, batch)?;
+    match SharedBook::begin(alloc, book, parcels) {
+        Ok(begun) => Ok(begun),
+        Err(_) => Err(Fail::new("no memory")),
+    }
+}
+
+// What a batch comes to, where so many workers commit it.
+fn gathered(
+    rt: &(impl Threads + Wait + Sync),
+    alloc: Global,
+    batch: &[Parcel],
+    workers: u32,
+    gate: &impl Gate,
+) -> Result<Shut, Fail> {
+    if batch.len() > 4 || workers < 1 || workers > 16 {
+        return Err(Fail::new("too many"));
+    }
+    let (shared, mut first) = begun(alloc, batch)?;
+    let _marks = gather(rt, alloc, &shared, &mut first, batch, workers, gate)?;
+    Ok(shared.shut(first))
+}
+
 // Lets each worker through; each parcel is enough for one.
 struct Each;
 
@@ -53,14 +107,11 @@ fn check_batch(
     batch: Vec<Parcel>,
     marks: &[Mark],
     lines: usize,
-)
-    requires { vec_len batch < 2 ^ 32 }
-{
-    let Ok(collected) = collect(rt, alloc, book, batch, 16, &Each) else {
-        panic!(rt; "no memory at {row}")
-    };
-    assert_eq!(rt; collected.replies.as_slice(), marks, "at {row}");
-    assert_eq!(rt; collected.book.journal().len(), lines, "at {row}");
+) -> Result<(), Fail> {
+    let (replies, count) = collected(rt, alloc, book, batch, 16, &Each)?;
+    check_all(rt, &replies, marks, row);
+    check_same(rt, &count, &lines, row);
+    Ok(())
 }
 
 #[test]
@@ -87,7 +138,7 @@ fn batches_by_rows(rt: HostRuntime) -> Result<(), Fail> {
             fresh,
         ],
         6,
-    );
+    )?;
     check_batch(
         &rt,
         alloc,
@@ -96,7 +147,7 @@ fn batches_by_rows(rt: HostRuntime) -> Result<(), Fail> {
         Vec::new(alloc),
         &[],
         0,
-    );
+    )?;
     check_batch(
         &rt,
         alloc,
@@ -105,7 +156,7 @@ fn batches_by_rows(rt: HostRuntime) -> Result<(), Fail> {
         vec![in alloc; Parcel::Close { group: 1, round: 0 }]?,
         &[Mark::OutOfPlan],
         0,
-    );
+    )?;
     check_batch(
         &rt,
         alloc,
@@ -114,8 +165,13 @@ fn batches_by_rows(rt: HostRuntime) -> Result<(), Fail> {
         vec![in alloc; Parcel::Bytes([0; 52])]?,
         &[Mark::Bad(FrameError::Magic)],
         0,
-    );
-    Ok(())
+    )
+}
+
+// How many marks are of Closes that ended so.
+fn times(marks: &[Mark], closing: Closing) -> usize {
+    let closed = Mark::Made(Reply::Closed(closing));
+    marks.iter().filter(|mark| **mark == closed).count()
 }
 
 #[test]
@@ -123,16 +179,16 @@ fn two_closes_in_one_batch(rt: HostRuntime) -> Result<(), Fail> {
     let alloc = rt.alloc();
     let close = Parcel::Close { group: 0, round: 0 };
     let batch = vec![in alloc; close, close]?;
-    let Ok(collected) = collect(&rt, alloc, new_book(alloc)?, batch, 2, &Each) else {
-        panic!(rt; "no memory")
-    };
-    let thin = Mark::Made(Reply::Closed(Closing::Thin(MeterSet::full(3))));
-    let already = Mark::Made(Reply::Closed(Closing::Already));
-    assert!(rt;
-        collected.replies.as_slice() == [thin, already].as_slice()
-            || collected.replies.as_slice() == [already, thin].as_slice()
+    let (marks, lines) = collected(&rt, alloc, new_book(alloc)?, batch, 2, &Each)?;
+    check_same(&rt, &marks.len(), &2, "the marks");
+    check_same(
+        &rt,
+        &times(&marks, Closing::Thin(MeterSet::full(3))),
+        &1,
+        "thin",
     );
-    assert_eq!(rt; collected.book.journal().len(), 2);
+    check_same(&rt, &times(&marks, Closing::Already), &1, "already");
+    check_same(&rt, &lines, &2, "the lines");
     Ok(())
 }
 
@@ -141,16 +197,16 @@ fn two_closes_in_one_batch(rt: HostRuntime) -> Result<(), Fail> {
 fn many_closes_in_one_batch(rt: HostRuntime) -> Result<(), Fail> {
     let alloc = rt.alloc();
     let batch = vec![in alloc; Parcel::Close { group: 0, round: 0 }; 1200]?;
-    let Ok(collected) = collect(&rt, alloc, new_book(alloc)?, batch, 4, &Free) else {
-        panic!(rt; "no memory")
-    };
-    let thin = Mark::Made(Reply::Closed(Closing::Thin(MeterSet::full(3))));
-    let already = Mark::Made(Reply::Closed(Closing::Already));
-    let marks = collected.replies.as_slice();
-    assert_eq!(rt; marks.len(), 1200);
-    assert_eq!(rt; marks.iter().filter(|mark| **mark == thin).count(), 1);
-    assert_eq!(rt; marks.iter().filter(|mark| **mark == already).count(), 1199);
-    assert_eq!(rt; collected.book.journal().len(), 1200);
+    let (marks, lines) = collected(&rt, alloc, new_book(alloc)?, batch, 4, &Free)?;
+    check_same(&rt, &marks.len(), &1200, "the marks");
+    check_same(
+        &rt,
+        &times(&marks, Closing::Thin(MeterSet::full(3))),
+        &1,
+        "thin",
+    );
+    check_same(&rt, &times(&marks, Closing::Already), &1199, "already");
+    check_same(&rt, &lines, &1200, "the lines");
     Ok(())
 }
 
@@ -165,28 +221,28 @@ fn is_done_fresh(answer: &Result<Reply, CommitError>) -> bool {
     *answer == Err(CommitError::Done(Reply::Took(Verdict::Fresh)))
 }
 
+// Looks for six lines, and for a reply at each place.
+fn check_shut(rt: &impl Abort, shut: &Shut) {
+    check_same(rt, &shut.book.journal().len(), &6, "the lines");
+    let are_all = shut.replies.iter().all(|reply| reply.is_some());
+    check(rt, are_all, "the replies");
+}
+
 #[test]
 fn gathered_then_done(rt: HostRuntime) -> Result<(), Fail> {
     let alloc = rt.alloc();
-    let mut book = sent_book(alloc)?;
-    book.reserve(3)?;
     let batch = [
         parcel(0, WORDS[0]),
         parcel(1, WORDS[1]),
         parcel(2, WORDS[2]),
     ];
-    let parcels = Vec::from_slice(alloc, &batch)?;
-    let Ok((shared, mut first)) = SharedBook::begin(alloc, book, parcels) else {
-        panic!(rt; "no memory")
-    };
+    let (shared, mut first) = begun(alloc, &batch)?;
     let marks = gather(&rt, alloc, &shared, &mut first, &batch, 2, &Free)?;
-    assert!(rt; are_fresh(&marks, 3));
-    assert_eq!(rt; first.out(), 0);
+    check(&rt, are_fresh(&marks, 3), "the marks");
+    check_same(&rt, &first.out(), &0, "the passes that are out");
     let again = shared.commit(&rt, &mut first, 0, &batch[0]);
-    assert!(rt; is_done_fresh(&again));
-    let shut = shared.shut(first);
-    assert_eq!(rt; shut.book.journal().len(), 6);
-    assert!(rt; shut.replies.iter().all(|reply| reply.is_some()));
+    check(&rt, is_done_fresh(&again), "again");
+    check_shut(&rt, &shared.shut(first));
     Ok(())
 }
 
@@ -217,6 +273,11 @@ impl Gate for Meeting {
     }
 }
 
+// Whether one place has the pass of worker 1, and the other that of worker 2.
+fn are_of_both(passes: &[Option<u32>]) -> bool {
+    passes == [Some(1), Some(2)].as_slice() || passes == [Some(2), Some(1)].as_slice()
+}
+
 // A body that calls the gate and commits on the calling thread alone comes too late, or commits with one pass.
 #[test]
 fn two_commits_cross(rt: HostRuntime) -> Result<(), Fail> {
@@ -226,22 +287,12 @@ fn two_commits_cross(rt: HostRuntime) -> Result<(), Fail> {
         second: AtomicU64::new(0),
         late: AtomicU64::new(0),
     };
-    let mut book = sent_book(alloc)?;
-    book.reserve(2)?;
     let batch = [parcel(0, WORDS[0]), parcel(1, WORDS[1])];
-    let parcels = Vec::from_slice(alloc, &batch)?;
-    let Ok((shared, mut first)) = SharedBook::begin(alloc, book, parcels) else {
-        panic!(rt; "no memory")
-    };
-    gather(&rt, alloc, &shared, &mut first, &batch, 2, &gate)?;
-    assert!(rt; gate.first.load(Ordering::SeqCst) > 0);
-    assert!(rt; gate.second.load(Ordering::SeqCst) > 0);
-    assert_eq!(rt; gate.late.load(Ordering::SeqCst), 0);
-    let shut = shared.shut(first);
-    assert!(rt;
-        shut.passes.as_slice() == [Some(1), Some(2)].as_slice()
-            || shut.passes.as_slice() == [Some(2), Some(1)].as_slice()
-    );
+    let shut = gathered(&rt, alloc, &batch, 2, &gate)?;
+    check(&rt, gate.first.load(Ordering::SeqCst) > 0, "worker 1");
+    check(&rt, gate.second.load(Ordering::SeqCst) > 0, "worker 2");
+    check_same(&rt, &gate.late.load(Ordering::SeqCst), &0, "late");
+    check(&rt, are_of_both(&shut.passes), "the passes");
     Ok(())
 }
 
@@ -294,6 +345,24 @@ fn meter_of(line: &Line) -> u8 {
     }
 }
 
+// The parcels of the three readings, and a Close.
+fn whole_batch() -> [Parcel; 4] {
+    [
+        parcel(0, WORDS[0]),
+        parcel(1, WORDS[1]),
+        parcel(2, WORDS[2]),
+        Parcel::Close { group: 0, round: 0 },
+    ]
+}
+
+// Looks for seven lines, of which the first two of the batch are those of other places than this one.
+fn check_order(rt: &impl Abort, lines: &Lines, place: usize) {
+    assert!(rt; lines.len() == 7);
+    for at in 3..5 {
+        check(rt, usize::from(meter_of(&lines.at(at))) != place, "a line");
+    }
+}
+
 // Worker 1 makes one of four commits, and worker 2 has made two before it: a body that calls the gate after the commit makes
 // that of worker 1 sooner. The workers are numbered 1 and 2, and call for each commit.
 #[test]
@@ -305,33 +374,15 @@ fn gate_comes_before_each_commit(rt: HostRuntime) -> Result<(), Fail> {
         others: AtomicU64::new(0),
         late: AtomicU64::new(0),
     };
-    let mut book = sent_book(alloc)?;
-    book.reserve(4)?;
-    let batch = [
-        parcel(0, WORDS[0]),
-        parcel(1, WORDS[1]),
-        parcel(2, WORDS[2]),
-        Parcel::Close { group: 0, round: 0 },
-    ];
-    let parcels = Vec::from_slice(alloc, &batch)?;
-    let Ok((shared, mut first)) = SharedBook::begin(alloc, book, parcels) else {
-        panic!(rt; "no memory")
-    };
-    gather(&rt, alloc, &shared, &mut first, &batch, 2, &gate)?;
-    assert_eq!(rt; gate.late.load(Ordering::SeqCst), 0);
-    assert_eq!(rt; gate.others.load(Ordering::SeqCst), 0);
-    assert_eq!(rt; gate.first.load(Ordering::SeqCst), 1);
-    assert_eq!(rt; gate.second.load(Ordering::SeqCst), 3);
-    let shut = shared.shut(first);
+    let shut = gathered(&rt, alloc, &whole_batch(), 2, &gate)?;
+    check_same(&rt, &gate.late.load(Ordering::SeqCst), &0, "late");
+    check_same(&rt, &gate.others.load(Ordering::SeqCst), &0, "others");
+    check_same(&rt, &gate.first.load(Ordering::SeqCst), &1, "worker 1");
+    check_same(&rt, &gate.second.load(Ordering::SeqCst), &3, "worker 2");
     let Some(place) = shut.passes.iter().position(|pass| *pass == Some(1)) else {
-        panic!(rt; "worker 1 made no commit")
+        return Err(Fail::new("worker 1 made no commit"));
     };
-    let lines = shut.book.journal();
-    assert_eq!(rt; lines.len(), 7);
-    // The first two lines of the batch are those of other places.
-    for at in 3..5 {
-        assert!(rt; usize::from(meter_of(&lines.at(at))) != place);
-    }
+    check_order(&rt, shut.book.journal(), place);
     Ok(())
 }
 
@@ -365,17 +416,13 @@ fn five_parcels_have_three_turns(rt: HostRuntime) -> Result<(), Fail> {
         parcel(2, WORDS[2]),
         Parcel::Close { group: 1, round: 0 },
     ]?;
-    let Ok(collected) = collect(&rt, alloc, sent_book(alloc)?, batch, 2, &gate) else {
-        panic!(rt; "no memory")
-    };
+    let (marks, lines) = collected(&rt, alloc, sent_book(alloc)?, batch, 2, &gate)?;
     let fresh = Mark::Made(Reply::Took(Verdict::Fresh));
     let bad = Mark::Bad(FrameError::Magic);
-    assert_eq!(rt;
-        collected.replies.as_slice(),
-        [fresh, fresh, bad, fresh, Mark::OutOfPlan].as_slice()
-    );
-    assert_eq!(rt; collected.book.journal().len(), 6);
-    assert_eq!(rt; gate.calls.load(Ordering::SeqCst), 3);
+    let wanted = [fresh, fresh, bad, fresh, Mark::OutOfPlan];
+    check_all(&rt, &marks, &wanted, "the marks");
+    check_same(&rt, &lines, &6, "the lines");
+    check_same(&rt, &gate.calls.load(Ordering::SeqCst), &3, "the turns");
     Ok(())
 }
 
@@ -404,21 +451,8 @@ fn four_parcels_have_one_worker(rt: HostRuntime) -> Result<(), Fail> {
     let gate = Threes {
         others: AtomicU64::new(0),
     };
-    let mut book = sent_book(alloc)?;
-    book.reserve(4)?;
-    let batch = [
-        parcel(0, WORDS[0]),
-        parcel(1, WORDS[1]),
-        parcel(2, WORDS[2]),
-        Parcel::Close { group: 0, round: 0 },
-    ];
-    let parcels = Vec::from_slice(alloc, &batch)?;
-    let Ok((shared, mut first)) = SharedBook::begin(alloc, book, parcels) else {
-        panic!(rt; "no memory")
-    };
-    gather(&rt, alloc, &shared, &mut first, &batch, 16, &gate)?;
-    assert_eq!(rt; gate.others.load(Ordering::SeqCst), 0);
-    let shut = shared.shut(first);
-    assert!(rt; shut.passes.iter().all(|pass| *pass == Some(1)));
+    let shut = gathered(&rt, alloc, &whole_batch(), 16, &gate)?;
+    check_same(&rt, &gate.others.load(Ordering::SeqCst), &0, "others");
+    check_all(&rt, &shut.passes, &[Some(1); 4], "the passes");
     Ok(())
 }

@@ -1,4 +1,5 @@
-//! What several modules share: frames of readings, books of the group `north`, and how lines are compared.
+//! What several modules share: frames of readings, books of the group `north`, how lines are compared, and assertions, each of
+//! which is made in one place, since every assertion of a body is proved by itself.
 
 ghost use Rattle.std.specs.Prelude.{◌≡◌, []};
 ghost use Rattle.group_plan.specs.declared.Kind.TheVariants.{Reading};
@@ -11,8 +12,30 @@ use mod_word::Word;
 use row_fixtures::{plan_of_north, reading_tag, table};
 use shared_book::Parcel;
 use std::alloc::Global;
+use std::fmt::Debug;
+use std::process::Abort;
 use std::test::Fail;
 use transcript_log::Line;
+
+/// Looks for this value.
+pub(crate) fn check_same<T: PartialEq + Debug>(rt: &impl Abort, came: &T, value: &T, row: &str) {
+    assert_eq!(rt; came, value, "at {row}");
+}
+
+/// Looks for these values.
+pub(crate) fn check_all<T: PartialEq + Debug>(
+    rt: &impl Abort,
+    came: &[T],
+    values: &[T],
+    row: &str,
+) {
+    assert_eq!(rt; came, values, "at {row}");
+}
+
+/// Asks whether a fact is so.
+pub(crate) fn check(rt: &impl Abort, is_so: bool, row: &str) {
+    assert!(rt; is_so, "at {row}");
+}
 
 /// The frame of a reading in round 0.
 pub(crate) fn reading_frame(meter: u8, word: u64) -> Frame

@@ -1,6 +1,6 @@
 //! Whole rounds of one group of three meters, call by call.
 
-use crate::fixtures::{book_of_north, is_same, reading_frame};
+use crate::fixtures::{book_of_north, check, check_same, is_same, reading_frame};
 use group_book::{Book, Outcome, OutcomeState, SendAnswer, TakeError};
 use group_plan::{Kind, Tag};
 use meter_frames::Frame;
@@ -122,8 +122,25 @@ fn book_call_by_call(rt: HostRuntime) -> Result<(), Fail> {
     for (row, said) in &rows {
         assert!(rt; make(&mut book, row)? == *said);
     }
-    assert_eq!(rt; book.journal().len(), 10);
-    assert!(rt; book.spare() >= 2);
+    check_same(&rt, &book.journal().len(), &10, "the lines");
+    check(&rt, book.spare() >= 2, "the room");
+    Ok(())
+}
+
+// Sends three readings; whether each was sent.
+fn send_readings(book: &mut Book) -> Result<bool, Fail> {
+    Ok(
+        is_sent(book, reading_frame(0, 122))?
+            && is_sent(book, reading_frame(1, 226))?
+            && is_sent(book, reading_frame(2, 312))?,
+    )
+}
+
+// Takes these frames, each with what is said of it.
+fn check_takes(rt: &impl Abort, book: &mut Book, rows: &[(Frame, Said)]) -> Result<(), Fail> {
+    for (came, said) in rows {
+        assert!(rt; take(book, came)? == *said);
+    }
     Ok(())
 }
 
@@ -131,9 +148,7 @@ fn book_call_by_call(rt: HostRuntime) -> Result<(), Fail> {
 fn frames_outside_plan(rt: HostRuntime) -> Result<(), Fail> {
     let mut book = book_of_north(rt.alloc(), &[10, 10, 10], 6)?;
     let first = reading_frame(0, 122);
-    for sent in [first, reading_frame(1, 226), reading_frame(2, 312)] {
-        assert!(rt; send(&mut book, sent)? == Said::Sent(SendAnswer::Sent));
-    }
+    check(&rt, send_readings(&mut book)?, "the readings");
     let answer = frame(Kind::Answer, 0, MeterSet::empty(), 100);
     let other_group = Tag {
         group: 1,
@@ -160,10 +175,7 @@ fn frames_outside_plan(rt: HostRuntime) -> Result<(), Fail> {
         ),
         (answer, Said::Took(Verdict::Void)),
     ];
-    for (came, said) in &rows {
-        assert!(rt; take(&mut book, came)? == *said);
-    }
-    Ok(())
+    check_takes(&rt, &mut book, &rows)
 }
 
 fn are_same(lines: &Lines, others: &Lines) -> bool {
@@ -208,14 +220,21 @@ fn pass(book: &mut Book, kind: Kind, words: &[u64]) -> Result<bool, Fail> {
     Ok(true)
 }
 
-// A round of three meters that ends with the total 60.
+// Makes a round of three meters in a new book, which ends with the total 60.
+fn make_round(rt: &impl Abort, book: &mut Book) -> Result<(), Fail> {
+    check(rt, pass(book, Kind::Reading, &[122, 226, 312])?, "readings");
+    close_or_end(book, true)?;
+    let are_told = pass(book, Kind::Announcement, &[0, 0, 0])?;
+    check(rt, are_told, "announcements");
+    check(rt, pass(book, Kind::Answer, &[100, 200, 300])?, "answers");
+    close_or_end(book, false)?;
+    Ok(())
+}
+
+// The book of that round.
 fn ended_book(rt: &impl Abort, alloc: Global) -> Result<Book, Fail> {
     let mut book = book_of_north(alloc, &[10, 10, 10], 20)?;
-    assert!(rt; pass(&mut book, Kind::Reading, &[122, 226, 312])?);
-    close_or_end(&mut book, true)?;
-    assert!(rt; pass(&mut book, Kind::Announcement, &[0, 0, 0])?);
-    assert!(rt; pass(&mut book, Kind::Answer, &[100, 200, 300])?);
-    close_or_end(&mut book, false)?;
+    make_round(rt, &mut book)?;
     Ok(book)
 }
 
@@ -239,10 +258,10 @@ fn has_total(book: &Book, total: u64) -> Result<bool, Fail> {
 
 // The copy has 20 lines, and the lines and the outcome of the book, which is the total 60.
 fn check_copy(rt: &impl Abort, copy: &Book, book: &Book) -> Result<(), Fail> {
-    assert!(rt; has_lines(copy, 20));
-    assert!(rt; are_same(copy.journal(), book.journal()));
-    assert!(rt; has_same_outcome(copy, book)?);
-    assert!(rt; has_total(copy, 60)?);
+    check(rt, has_lines(copy, 20), "the lines");
+    check(rt, are_same(copy.journal(), book.journal()), "each line");
+    check(rt, has_same_outcome(copy, book)?, "the outcome");
+    check(rt, has_total(copy, 60)?, "the total");
     Ok(())
 }
 

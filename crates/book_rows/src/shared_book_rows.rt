@@ -4,11 +4,11 @@ ghost use Rattle.std.specs.Prelude.{◌≡◌, ◌<◌, ◌≤◌, IfOk, [], len
 ghost use Rattle.shared_book.specs.Passes.{new_pass, SamePass};
 ghost use Rattle.shared_book.specs.Ends.{view, IsPassOf};
 
-use crate::fixtures::{book_of_north, parcel, send_reading};
+use crate::fixtures::{book_of_north, check_all, check_same, parcel, send_reading};
 use group_book::Book;
 use meter_frames::FrameError;
 use round_machine::Verdict;
-use shared_book::{CommitError, Parcel, Pass, Reply, SharedBook};
+use shared_book::{CommitError, Parcel, Pass, Reply, SharedBook, Shut};
 use std::alloc::Global;
 use std::process::Abort;
 use std::sync::Wait;
@@ -47,18 +47,27 @@ fn shared_for(alloc: Global, parcels: &[Parcel]) -> Result<(SharedBook, Pass), F
     }
 }
 
+/// Looks for the number of lines.
+fn check_lines(rt: &impl Abort, shut: &Shut, count: usize) {
+    check_same(rt, &shut.book.journal().len(), &count, "the lines");
+}
+
 #[test]
 fn place_committed_again(rt: HostRuntime) -> Result<(), Fail> {
     let (book, mut pass) = shared(rt.alloc())?;
-    assert_eq!(rt; book.commit(&rt, &mut pass, 2, &parcel(2, 102)), Ok(FRESH));
-    assert_eq!(rt; book.commit(&rt, &mut pass, 0, &parcel(0, 100)), Ok(FRESH));
+    let third = book.commit(&rt, &mut pass, 2, &parcel(2, 102));
+    check_same(&rt, &third, &Ok(FRESH), "place 2");
+    let first = book.commit(&rt, &mut pass, 0, &parcel(0, 100));
+    check_same(&rt, &first, &Ok(FRESH), "place 0");
     let again = book.commit(&rt, &mut pass, 2, &parcel(2, 102));
-    assert_eq!(rt; again, Err(CommitError::Done(FRESH)));
+    check_same(&rt, &again, &Err(CommitError::Done(FRESH)), "place 2 again");
     let shut = book.shut(pass);
-    assert_eq!(rt; shut.book.journal().len(), 5);
-    assert_eq!(rt;
-        shut.replies.as_slice(),
-        [Some(FRESH), None, Some(FRESH)].as_slice()
+    check_lines(&rt, &shut, 5);
+    check_all(
+        &rt,
+        &shut.replies,
+        &[Some(FRESH), None, Some(FRESH)],
+        "the replies",
     );
     Ok(())
 }
@@ -105,10 +114,12 @@ fn blocks_by_rows(rt: HostRuntime) -> Result<(), Fail> {
     check_block(&rt, alloc, &book, &mut pass, (2, 10), &[again, Ok(FRESH)])?;
     check_block(&rt, alloc, &book, &mut pass, (u32::MAX, u32::MAX), &[])?;
     let shut = book.shut(pass);
-    assert_eq!(rt; shut.book.journal().len(), 6);
-    assert_eq!(rt;
-        shut.passes.as_slice(),
-        [Some(0), None, Some(0), Some(0)].as_slice()
+    check_lines(&rt, &shut, 6);
+    check_all(
+        &rt,
+        &shut.passes,
+        &[Some(0), None, Some(0), Some(0)],
+        "the passes",
     );
     Ok(())
 }
@@ -126,23 +137,23 @@ fn two_passes_one_history(rt: HostRuntime) -> Result<(), Fail> {
             requires { IsPassOf book first }
         { book.commit(&rt, &mut first, 1, &parcel(1, 101)) },
     );
-    assert_eq!(rt; theirs, Ok(FRESH));
-    assert_eq!(rt; mine, Ok(FRESH));
+    check_same(&rt, &theirs, &Ok(FRESH), "theirs");
+    check_same(&rt, &mine, &Ok(FRESH), "mine");
     book.join(&mut first, second);
-    assert_eq!(rt; first.out(), 0);
-    assert_eq!(rt; first.made(), 1);
+    check_same(&rt, &first.out(), &0, "the passes that are out");
+    check_same(&rt, &first.made(), &1, "the passes that were made");
     let again = book.commit(&rt, &mut first, 0, &parcel(0, 100));
-    assert_eq!(rt; again, Err(CommitError::Done(FRESH)));
-    assert_eq!(rt; book.commit(&rt, &mut first, 2, &parcel(2, 102)), Ok(FRESH));
+    check_same(&rt, &again, &Err(CommitError::Done(FRESH)), "place 0 again");
+    let third = book.commit(&rt, &mut first, 2, &parcel(2, 102));
+    check_same(&rt, &third, &Ok(FRESH), "place 2");
     let shut = book.shut(first);
-    assert_eq!(rt; shut.book.journal().len(), 6);
-    assert_eq!(rt;
-        shut.replies.as_slice(),
-        [Some(FRESH), Some(FRESH), Some(FRESH)].as_slice()
-    );
-    assert_eq!(rt;
-        shut.passes.as_slice(),
-        [Some(1), Some(0), Some(0)].as_slice()
+    check_lines(&rt, &shut, 6);
+    check_all(&rt, &shut.replies, &[Some(FRESH); 3], "the replies");
+    check_all(
+        &rt,
+        &shut.passes,
+        &[Some(1), Some(0), Some(0)],
+        "the passes",
     );
     Ok(())
 }

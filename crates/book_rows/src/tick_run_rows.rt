@@ -1,11 +1,18 @@
 //! A worked run.
 
-use crate::fixtures::is_same;
+ghost use Rattle.std.specs.Prelude.{◌≡◌, [], IfOk};
+ghost use Rattle.link_lanes.specs.Racks.{posts_of, HasRoom};
+ghost use Rattle.transcript_log.specs.Events.{lines_of};
+
+use crate::fixtures::{check, check_same, is_same};
 use collector_workers::Free;
 use link_lanes::Rack;
 use round_machine::Ending;
 use row_fixtures::{keys_of_north, plan_of_north, table};
+use std::alloc::Global;
+use std::sync::Wait;
 use std::test::Fail;
+use std::thread::Threads;
 use tick_run::{Finished, run_plan};
 use transcript_log::{Line, Lines};
 
@@ -15,28 +22,38 @@ fn ends_with(lines: &Lines, last: &Line) -> bool {
     count > 0 && is_same(&lines.at(count - 1), last)
 }
 
-#[test]
-fn three_meters_total_60(rt: HostRuntime) -> Result<(), Fail> {
-    let alloc = rt.alloc();
+// Runs the readings 10, 20 and 30 over a rack on which no post was made.
+fn run(rt: &(impl Threads + Wait + Sync), alloc: Global, rack: &mut Rack) -> Result<Finished, Fail>
+    requires posts { posts_of rack.old ≡ [] }
+    requires room { HasRoom (λ b. meaning (b.vtable, b.value)) rack.old }
+    ensures { IfOk result (λ done. done.book.journal ≡ lines_of done.transcript.entries) }
+{
     let plan = plan_of_north(alloc, 1)?;
     let readings = table(alloc, &plan, &[10, 20, 30])?;
     let keys = keys_of_north(alloc, &plan, [1, 2, 3, 4, 5, 6])?;
+    match run_plan(rt, alloc, &plan, &readings, &keys, rack, 2, &Free) {
+        Ok(done) => Ok(done),
+        Err(_) => Err(Fail::new("want of memory")),
+    }
+}
+
+#[test]
+fn three_meters_total_60(rt: HostRuntime) -> Result<(), Fail> {
+    let alloc = rt.alloc();
     let Ok(rack) = Rack::fit(alloc, Vec::new(alloc), &[]) else {
         return Err(Fail::new("an empty rack"));
     };
     let mut rack = rack;
-    let Ok(done) = run_plan(&rt, alloc, &plan, &readings, &keys, &mut rack, 2, &Free) else {
-        return Err(Fail::new("want of memory"));
-    };
-    let Finished { book, transcript } = done;
-    assert_eq!(&rt; rack.posts().len(), 9);
+    let Finished { book, transcript } = run(&rt, alloc, &mut rack)?;
+    check_same(&rt, &rack.posts().len(), &9, "the posts");
     let end = Line::End {
         group: 0,
         round: 0,
         ending: Ending::Total(60),
     };
-    assert!(&rt; ends_with(book.journal(), &end));
+    check(&rt, ends_with(book.journal(), &end), "the end");
     // 9 Sends, 9 Takes, a Close and an End.
-    assert_eq!(&rt; transcript.finish(book.into_journal()).len(), 20);
+    let transcript = transcript.finish(book.into_journal());
+    check_same(&rt, &transcript.len(), &20, "the lines");
     Ok(())
 }

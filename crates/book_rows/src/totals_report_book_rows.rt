@@ -1,7 +1,9 @@
 //! The report and the summary of a book, before its first event and after its last.
 
-use crate::fixtures::{book_of_north, reading_frame};
+use crate::fixtures::{book_of_north, check_all, reading_frame};
 use group_book::Book;
+use std::alloc::Global;
+use std::process::Abort;
 use std::test::Fail;
 use totals_report::{report, summary};
 
@@ -32,27 +34,46 @@ fn close_and_end(book: &mut Book) -> Result<(), Fail> {
     Ok(())
 }
 
+/// Looks for this report of the book.
+fn check_report(rt: &impl Abort, alloc: Global, book: &Book, text: &[u8]) -> Result<(), Fail> {
+    check_all(rt, &report(alloc, book)?, text, "the report");
+    Ok(())
+}
+
+/// Looks for this summary of the book.
+fn check_summary(rt: &impl Abort, alloc: Global, book: &Book, text: &[u8]) -> Result<(), Fail> {
+    check_all(rt, &summary(alloc, book)?, text, "the summary");
+    Ok(())
+}
+
 #[test]
 fn one_reading_is_thin(rt: HostRuntime) -> Result<(), Fail> {
     let alloc = rt.alloc();
     let mut book = book_of_north(alloc, &[10], 4)?;
-    assert!(&rt;
-        report(alloc, &book)?.as_slice()
-            == b"group,round,survivors,missing,outcome,total\nnorth,0,0,0+1+2,open,\n".as_slice()
-    );
-    assert!(&rt;
-        summary(alloc, &book)?.as_slice()
-            == b"rounds=1 totals=0 none=0 thin=0 sends=0 takes=0\n".as_slice()
-    );
+    check_report(
+        &rt,
+        alloc,
+        &book,
+        b"group,round,survivors,missing,outcome,total\nnorth,0,0,0+1+2,open,\n",
+    )?;
+    check_summary(
+        &rt,
+        alloc,
+        &book,
+        b"rounds=1 totals=0 none=0 thin=0 sends=0 takes=0\n",
+    )?;
     send_and_take(&mut book)?;
     close_and_end(&mut book)?;
-    assert!(&rt;
-        report(alloc, &book)?.as_slice()
-            == b"group,round,survivors,missing,outcome,total\nnorth,0,1,1+2,thin,\n".as_slice()
-    );
-    assert!(&rt;
-        summary(alloc, &book)?.as_slice()
-            == b"rounds=1 totals=0 none=0 thin=1 sends=1 takes=1\n".as_slice()
-    );
-    Ok(())
+    check_report(
+        &rt,
+        alloc,
+        &book,
+        b"group,round,survivors,missing,outcome,total\nnorth,0,1,1+2,thin,\n",
+    )?;
+    check_summary(
+        &rt,
+        alloc,
+        &book,
+        b"rounds=1 totals=0 none=0 thin=1 sends=1 takes=1\n",
+    )
 }
