@@ -15,6 +15,7 @@ use mod_word::Word;
 use row_fixtures::{group, plan_of_north, reading_tag, table};
 use std::alloc::Global;
 use std::test::Fail;
+use transcript_log::Transcript;
 use transcript_text::read;
 
 fn holds(plan: &Plan, meter: u8) -> bool
@@ -118,22 +119,30 @@ fn shift_by(masks: &mut MaskTable, first: &Readings, offsets: &Offsets)
     shift(masks, offsets);
 }
 
+// Shifts a table by what this transcript moves from 10, 20 and 30 to 15, 15 and 0.
+fn shift_over(alloc: Global, masks: &mut MaskTable, transcript: &Transcript) -> Result<(), Fail>
+    requires { masks.old.plan ≡ transcript.now.plan }
+{
+    let plan = transcript.plan();
+    let first = table(alloc, plan, &[10, 20, 30])?;
+    let second = table(alloc, plan, &[15, 15, 0])?;
+    match offsets(alloc, &first, &second, transcript) {
+        Ok(offsets) => {
+            shift_by(masks, &first, &offsets);
+            Ok(())
+        }
+        Err(_) => Err(Fail::new("no offsets")),
+    }
+}
+
 // The ideal table, shifted by what `LATE` moves from 10, 20 and 30 to 15, 15 and 0.
 fn shifted_table(alloc: Global) -> Result<MaskTable, Fail> {
     let Ok(transcript) = read(alloc, LATE.as_bytes()) else {
         return Err(Fail::new("no transcript"));
     };
-    let plan = transcript.plan();
-    let mut masks = ideal_table(alloc, plan)?;
-    let first = table(alloc, plan, &[10, 20, 30])?;
-    let second = table(alloc, plan, &[15, 15, 0])?;
-    match offsets(alloc, &first, &second, &transcript) {
-        Ok(offsets) => {
-            shift_by(&mut masks, &first, &offsets);
-            Ok(masks)
-        }
-        Err(_) => Err(Fail::new("no offsets")),
-    }
+    let mut masks = ideal_table(alloc, transcript.plan())?;
+    shift_over(alloc, &mut masks, &transcript)?;
+    Ok(masks)
 }
 
 #[test]
