@@ -6,9 +6,12 @@ ghost use Rattle.group_plan.specs.Tables.{IsPresenceTable, IsReadingTable};
 ghost use Rattle.link_lanes.specs.Lanes.{Slot};
 ghost use Rattle.link_lanes.specs.Racks.{slots, posts_of, HasRoom};
 ghost use Rattle.mask_stream.specs.ChaMaskTables.{words_of};
-ghost use Rattle.pair_keys.specs.Keys.{table_of};
+ghost use Rattle.mask_stream.specs.KeyStreams.{streams};
+ghost use Rattle.missing_round.specs.Masks.{Masks};
+ghost use Rattle.pair_keys.specs.Keys.{Keys, table_of};
 ghost use Rattle.run_rows.specs.Ticks.{posts_of as posts_of_entries};
 ghost use Rattle.transcript_log.specs.Journal.{IsJournalAfter};
+ghost use Rattle.transcript_log.specs.Transcripts.{no_entries};
 ghost use Rattle.group_book.specs.Books.{shape_of};
 ghost use Rattle.tick_run.specs.Running.{IsRunning, starting};
 ghost use Rattle.tick_run.specs.Sending.{KeptFates};
@@ -118,6 +121,89 @@ fn presence_is_of_members(presence: &Presence)
     let _plan = presence.plan();
 }
 
+/// A run before its first tick, with the presence of its readings: no line, and no copy on its way.
+fn start_with(alloc: Global, plan: &Plan, presence: &Presence) -> Result<Running, AllocError>
+    requires { presence.now.plan ≡ plan.now }
+    ensures presence { IfOk result (λ run. run.book.presence ≡ presence.now) }
+    ensures journal { IfOk result (λ run. run.book.journal ≡ []) }
+    ensures transcript { IfOk result (λ run. run.transcript ≡ no_entries plan.now) }
+    ensures link { IfOk result (λ run. run.link ≡ []) }
+{
+    let lines = lines_about(plan);
+    Ok(Running {
+        book: new_book(alloc, plan, presence, lines)?,
+        transcript: Draft::with_room(alloc, plan, lines)?,
+        link: Link::new(alloc),
+    })
+}
+
+/// A run before its first tick.
+fn start(alloc: Global, plan: &Plan, readings: &Readings) -> Result<Running, AllocError>
+    requires { readings.now.plan ≡ plan.now }
+    ensures running { IfOk result (λ run. (m : Masks) → IsRunning readings.now m (starting 0) run.book run.transcript run.link) }
+    ensures transcript { IfOk result (λ run. run.transcript ≡ no_entries plan.now) }
+{
+    let presence = Presence::of(alloc, readings)?;
+    start_with(alloc, plan, &presence)
+}
+
+/// Makes all ticks of a run that starts, with meters that have read nothing.
+fn run_with_meters<R: Threads + Wait + Sync, G: Gate>(
+    context: &Context<R, G>,
+    run: Running,
+    rack: &mut Rack,
+) -> Result<Running, RunError>
+    requires running { IsRunning context.now.known.readings.now (words_of context.now.known.masks.now) (starting 0) run.book run.transcript run.link }
+    requires known { IsOfOnePlan context.now.known }
+    requires workers { (1 ≤ context.now.crew.workers) × (context.now.crew.workers ≤ 16) }
+    requires room { HasRoom (λ b. meaning (b.vtable, b.value)) rack.old }
+    ensures running { IfOk result (λ after. IsRunning context.now.known.readings.now (words_of context.now.known.masks.now) (starting (last_tick context.now.known.readings.now.plan + 1)) after.book after.transcript after.link) }
+    ensures fates { (hung : List Slot) → KeptFates hung 0 run.transcript.entries (slots (λ b. meaning (b.vtable, b.value)) rack.old) (posts_of rack.old) →
+        IfOk result (λ after. KeptFates hung (last_tick context.now.known.readings.now.plan + 1) after.transcript.entries (slots (λ b. meaning (b.vtable, b.value)) rack.new) (posts_of rack.new)) }
+{
+    let mut meters = Meters::new(context.crew.alloc, context.known.readings)?;
+    run_ticks(context, run, &mut meters, rack)
+}
+
+/// What a run has made, once it is over.
+fn make_finished(run: Running) -> Finished
+    ensures book { result.book ≡ run.book }
+    ensures transcript { result.transcript ≡ run.transcript }
+    ensures legal { IsJournalAfter (shape_of result.book) [] result.book.journal }
+    ensures members { IsPresenceTable result.book.presence.plan result.book.presence.table }
+{
+    let Running {
+        book,
+        transcript,
+        link: _,
+    } = run;
+    lines_are_legal(&book);
+    presence_is_of_members(book.presence());
+    Finished { book, transcript }
+}
+
+/// Runs a plan from its start to its end.
+fn run_whole<R: Threads + Wait + Sync, G: Gate>(
+    context: &Context<R, G>,
+    plan: &Plan,
+    rack: &mut Rack,
+) -> Result<Finished, RunError>
+    requires readings { context.now.known.readings.now.plan ≡ plan.now }
+    requires known { IsOfOnePlan context.now.known }
+    requires workers { (1 ≤ context.now.crew.workers) × (context.now.crew.workers ≤ 16) }
+    requires posts { posts_of rack.old ≡ [] }
+    requires room { HasRoom (λ b. meaning (b.vtable, b.value)) rack.old }
+    ensures finished { (keys : Keys) → words_of context.now.known.masks.now ≡ streams keys →
+        IfOk result (λ f. IsFinished context.now.known.readings.now keys (slots (λ b. meaning (b.vtable, b.value)) rack.old) f.book f.transcript) }
+    ensures posts { IfOk result (λ f. posts_of rack.new ≡ posts_of_entries f.transcript.entries) }
+    ensures members { IfOk result (λ f. IsPresenceTable f.book.presence.plan f.book.presence.table) }
+{
+    readings_are_limited(context.known.readings);
+    let run = start(context.crew.alloc, plan, context.known.readings)?;
+    let run = run_with_meters(context, run, rack)?;
+    Ok(make_finished(run))
+}
+
 /// Runs a plan by ticks, from the first to the last: its readings are sent and taken, its rounds are closed, answered and
 /// ended. Frames are hidden under the stream words of the keys, and go through the lanes of the rack.
 pub fn run_plan<R: Threads + Wait + Sync, G: Gate>(
@@ -140,17 +226,7 @@ pub fn run_plan<R: Threads + Wait + Sync, G: Gate>(
     ensures posts { IfOk result (λ f. posts_of rack.new ≡ posts_of_entries f.transcript.entries) }
     ensures report { IfOk result (λ f. HasRowsOf f.transcript.entries f.book) }
 {
-    readings_are_limited(readings);
     let masks = ChaMasks::new(keys);
-    let presence = Presence::of(alloc, readings)?;
-    presence_is_of_members(&presence);
-    let lines = lines_about(plan);
-    let run = Running {
-        book: new_book(alloc, plan, &presence, lines)?,
-        transcript: Draft::with_room(alloc, plan, lines)?,
-        link: Link::new(alloc),
-    };
-    let mut meters = Meters::new(alloc, readings)?;
     let hidden = HiddenReadings::new(rt, alloc, readings, &masks)?;
     let context = Context {
         crew: Crew {
@@ -165,11 +241,5 @@ pub fn run_plan<R: Threads + Wait + Sync, G: Gate>(
             hidden: &hidden,
         },
     };
-    let Running {
-        book,
-        transcript,
-        link: _,
-    } = run_ticks(&context, run, &mut meters, rack)?;
-    lines_are_legal(&book);
-    Ok(Finished { book, transcript })
+    run_whole(&context, plan, rack)
 }

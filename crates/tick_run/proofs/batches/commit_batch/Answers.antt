@@ -1,4 +1,4 @@
-use Rattle.std.proofs.Common.{◌≡◌, ◌++◌, [], List, All, length, drop, map, refl, ap, sym, subst, ◌∙◌}
+use Rattle.std.proofs.Common.{◌++◌, [], List, All, length, drop, map, refl, ap, sym, subst, ◌∙◌}
 use Rattle.group_plan.specs.Plans.{PlanView}
 use Rattle.transcript_log.specs.declared.Line.{Line}
 use Rattle.transcript_log.specs.Drafts.{Begins}
