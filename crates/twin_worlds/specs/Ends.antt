@@ -3,7 +3,7 @@ use Rattle.std.specs.Prelude.{◌≡◌, ◌≢◌, ℕ, List, reverse, Result, 
 use Rattle.group_plan.specs.Plans.{PlanView}
 use Rattle.group_plan.specs.Tables.{ReadingsView, reading}
 use Rattle.transcript_log.specs.Events.{lines_of, events_of}
-use Rattle.transcript_log.specs.Tables.{Masks}
+use Rattle.transcript_log.specs.Tables.{Masks, IsMasks}
 use Rattle.transcript_text.specs.declared.version.Version.TheVariants.{Two}
 use Rattle.transcript_text.specs.declared.fault.ReadError.TheVariants as fault
 use Rattle.transcript_log.specs.Transcripts.{TranscriptView}
@@ -11,11 +11,13 @@ use Rattle.transcript_text.specs.EntryLines.{entry_line}
 use Rattle.transcript_text.specs.Heads.{read_of}
 use Rattle.ideal_masks.specs.declared.Offset.{Offset}
 use Rattle.ideal_masks.specs.Offsets.{Agree}
+use Rattle.ideal_masks.specs.ListTables.{MaskTable, mask_table_of}
 use Rattle.ideal_masks.specs.Order.{AreOfPlan}
 use Rattle.ideal_masks.specs.Isolation.{offsets_between}
 use Rattle.twin_worlds.specs.declared.answers.TwinError.{TwinError}
 use Rattle.twin_worlds.specs.declared.answers.TwinError.TheVariants as twin
-use Rattle.twin_worlds.specs.Twins.{IsTextOf, lines_under, IsFirstOther, Disagree}
+use Rattle.twin_worlds.specs.declared.rows.MovedRow.{MovedRow}
+use Rattle.twin_worlds.specs.Twins.{IsTextOf, lines_under, IsFirstOther, Disagree, TwinEnds}
 
 -- the bytes are the text of a transcript, or are refused so; want of memory is free
 abbrev pub TextEnds : List ℕ → Result TranscriptView TwinError → Type 0
@@ -23,6 +25,13 @@ TextEnds text (Ok t) = IsTextOf t text
 TextEnds text (Err (twin.Transcript refusal)) = (refusal ≢ fault.Memory) × (read_of Two text ≡ Err refusal)
 TextEnds text (Err twin.Memory) = ⊤
 TextEnds text (Err _) = ⊥
+
+-- the transcript is of this plan, or of another one
+abbrev pub PlanEnds : PlanView → TranscriptView → Result (Unit {0}) TwinError → Type 0
+PlanEnds plan t (Ok done) = t.plan ≡ plan
+PlanEnds plan t (Err twin.Head) = t.plan ≢ plan
+PlanEnds plan t (Err twin.Memory) = ⊤
+PlanEnds plan t (Err _) = ⊥
 
 -- the bytes are the text of a transcript of this plan, or of another one
 abbrev pub HeadEnds : PlanView → List ℕ → Result TranscriptView TwinError → Type 0
@@ -47,3 +56,11 @@ AgreementEnds x y t (Ok list) =
 AgreementEnds x y t (Err (twin.Differ cause)) = Disagree x y t cause
 AgreementEnds x y t (Err twin.Memory) = ⊤
 AgreementEnds x y t (Err _) = ⊥
+
+-- whatever text the transcript has, a twin ends so
+abbrev pub RecordEnds : Masks → ReadingsView → ReadingsView → TranscriptView → Result (List MovedRow) TwinError → Type 0
+RecordEnds m x y t result = (text : List ℕ) → IsTextOf t text → TwinEnds m x y text result
+
+-- whatever masks the words are of, a twin under them ends so
+abbrev pub MovedEnds : MaskTable → ReadingsView → ReadingsView → TranscriptView → Result (List MovedRow) TwinError → Type 0
+MovedEnds w x y t result = (m : Masks) → IsMasks m → w ≡ mask_table_of x.plan m → RecordEnds m x y t result

@@ -1,6 +1,7 @@
 //! The masks file.
 
 ghost use Rattle.std.specs.Prelude.{◌≡◌, ◌++◌, codes, decimal, IfOk, OnOk};
+ghost use Rattle.std.specs.List.{flat_map};
 ghost use Rattle.transcript_text.specs.Spelling.{joined, ended};
 ghost use Rattle.twin_worlds.specs.MasksText.{word_text, place_fields, row_text, masks_text};
 
@@ -75,19 +76,42 @@ fn put_row(out: &mut Vec<u8>, row: &MovedRow) -> Result<(), AllocError>
     Ok(())
 }
 
-/// The text of the masks file: a line for each moved word.
+// The line of each row.
+fn put_rows(out: &mut Vec<u8>, rows: &[MovedRow]) -> Result<(), AllocError>
+    ensures { OnOk result (out.new.items ≡ out.old.items ++ flat_map (λ row. ended (row_text row)) rows.now) }
+{
+    for row in rows {
+        put_row(out, row)?;
+    }
+    Ok(())
+}
+
+// The last line, with the number of rows.
+fn put_end(out: &mut Vec<u8>, rows: usize) -> Result<(), AllocError>
+    ensures { OnOk result (out.new.items ≡ out.old.items ++ ended (codes "end," ++ decimal rows)) }
+{
+    out.extend_from_slice(b"end,")?;
+    put_number(out, rows as u64)?;
+    out.push(b'\n')?;
+    Ok(())
+}
+
+// The first line, the rows and the last line.
 #[tactic(auto, unfolding(crate::specs::MasksText::masks_text))]
+fn put_masks(out: &mut Vec<u8>, rows: &[MovedRow]) -> Result<(), AllocError>
+    ensures { OnOk result (out.new.items ≡ out.old.items ++ masks_text rows.now) }
+{
+    out.extend_from_slice(b"meteragg masks 1\n")?;
+    put_rows(out, rows)?;
+    put_end(out, rows.len())?;
+    Ok(())
+}
+
+/// The text of the masks file: a line for each moved word.
 pub fn moved_text(alloc: Global, moved: &MovedWords) -> Result<Vec<u8>, AllocError>
     ensures { IfOk result (λ text. text.items ≡ masks_text moved.now) }
 {
     let mut out = Vec::new(alloc);
-    out.extend_from_slice(b"meteragg masks 1\n")?;
-    let rows = moved.rows();
-    for row in rows {
-        put_row(&mut out, row)?;
-    }
-    out.extend_from_slice(b"end,")?;
-    put_number(&mut out, rows.len() as u64)?;
-    out.push(b'\n')?;
+    put_masks(&mut out, moved.rows())?;
     Ok(out)
 }

@@ -1,9 +1,8 @@
 use Rattle.std.proofs.Common.{◌≡◌, ◌++◌, take}
-use Rattle.std.specs.Prelude.{codes}
 use Rattle.std.specs.List.{flat_map}
 use Rattle.transcript_text.specs.Spelling.{ended}
 use Rattle.twin_worlds.specs.MasksText.{row_text}
-use Rattle.twin_worlds.proofs.writing.moved_text.Given as goal
+use Rattle.twin_worlds.proofs.writing.put_rows.Given as goal
 
 abbrev pub invariant-loop-row : goal.invariant-loop-row
-invariant-loop-row l = l.out.items ≡ ended (codes "meteragg masks 1") ++ flat_map (λ row. ended (row_text row)) (take l.row-index l.rows)
+invariant-loop-row l = l.out.items ≡ l.fn.out.items ++ flat_map (λ row. ended (row_text row)) (take l.row-index l.rows)
