@@ -1,5 +1,5 @@
 -- The lines of entries, one after another.
-use Rattle.std.proofs.Common.{◌≡◌, ◌<◌, ◌≤◌, ◌+◌, ℕ, zero, suc, List, [], ◌∷◌, ◌++◌, length, map, drop, drop-cons, get_or, codes, decimal, refl, sym, ap, ◌∙◌, append_assoc, append-nil, length-append, add-one, arith}
+use Rattle.std.proofs.Common.{◌≡◌, ◌<◌, ◌≤◌, ◌+◌, ℕ, suc, List, [], ◌∷◌, ◌++◌, length, map, drop, drop-cons, get_or, codes, decimal, sym, ap, ◌∙◌, append_assoc, length-append, add-one, arith}
 use Rattle.std.specs.List.{flat_map}
 use Rattle.std.proofs.lemmas.List.{drop_all}
 use Rattle.group_plan.specs.Plans.{PlanView}

@@ -1,9 +1,13 @@
 //! The lines after the head.
 ghost use Rattle.std.specs.Prelude.{◌≡◌, []};
+ghost use Rattle.std.specs.Option.{ok_or, option_map};
 ghost use Rattle.group_plan.specs.Plans.{size};
+ghost use Rattle.field_texts.specs.Numbers.{number_of};
 ghost use Rattle.field_texts.specs.Parts.{parts};
-ghost use Rattle.transcript_text.specs.Parts.{view, AreFields};
-ghost use Rattle.transcript_text.specs.Reading.{tick_of, group_of, round_of, tag_of, send_of, take_of, close_of, end_of, row_of};
+ghost use Rattle.transcript_text.specs.Parts.{at, view, AreFields};
+ghost use Rattle.transcript_text.specs.declared.fault.Row.TheVariants as row;
+ghost use Rattle.transcript_text.specs.declared.fault.RowFault.TheVariants as row_fault;
+ghost use Rattle.transcript_text.specs.Reading.{tick_of, group_of, round_of, tag_of, send_of, take_of, close_of, end_of, as_entry, row_of};
 
 use crate::Version;
 use crate::cut::{Fields, split_fields};
@@ -148,31 +152,51 @@ fn end(plan: &Plan, last: u32, fields: &Fields) -> Result<Entry, RowFault>
     })
 }
 
+/// An entry as a row.
+fn as_row(entry: Result<Entry, RowFault>) -> Result<Row, RowFault>
+    ensures { result ≡ as_entry entry }
+{
+    Ok(Row::Entry(entry?))
+}
+
+/// The row of the `end` line.
+fn last_row(fields: &Fields) -> Result<Row, RowFault>
+    requires { AreFields fields.now }
+    ensures { result ≡ ok_or (option_map row.Last (number_of (at (view fields.now) 1))) (row_fault.Field 2) }
+{
+    let count = read_number(fields.get(1)).ok_or(RowFault::Field(2))?;
+    Ok(Row::Last(count))
+}
+
+/// A line after an entry with the tick `last`, by its fields.
+#[tactic(auto, using(crate::proofs::Cutting::length_view), unfolding(crate::specs::Reading::row_of))]
+fn row_of_fields(version: Version, plan: &Plan, last: u32, fields: &Fields) -> Result<Row, RowFault>
+    requires { AreFields fields.now }
+    ensures { result ≡ row_of version plan.now last (view fields.now) }
+{
+    let kind = fields.get(1);
+    if fields.count == 2 && fields.get(0) == b"end".as_slice() {
+        last_row(fields)
+    } else if fields.count == 8 && kind == b"s".as_slice() {
+        as_row(send(version, plan, last, fields))
+    } else if fields.count == 7 && kind == b"t".as_slice() {
+        as_row(take(plan, last, fields))
+    } else if fields.count == 6 && kind == b"c".as_slice() {
+        as_row(close(plan, last, fields))
+    } else if fields.count == 6 && kind == b"e".as_slice() {
+        as_row(end(plan, last, fields))
+    } else {
+        Err(RowFault::Form)
+    }
+}
+
 /// A line after an entry with the tick `last`.
-#[tactic(auto, using(crate::proofs::LineFields::row_many, crate::proofs::Cutting::length_view), unfolding(crate::specs::Reading::row_of))]
+#[tactic(auto, using(crate::proofs::LineFields::row_many))]
 pub(crate) fn row(version: Version, plan: &Plan, last: u32, line: &[u8]) -> Result<Row, RowFault>
     ensures { result ≡ row_of version plan.now last (parts 44 line.now) }
 {
     let Some(fields) = split_fields(line) else {
         return Err(RowFault::Form);
     };
-    let kind = fields.get(1);
-    if fields.count == 2 && fields.get(0) == b"end".as_slice() {
-        let count = read_number(kind).ok_or(RowFault::Field(2))?;
-        Ok(Row::Last(count))
-    } else if fields.count == 8 && kind == b"s".as_slice() {
-        let entry = send(version, plan, last, &fields)?;
-        Ok(Row::Entry(entry))
-    } else if fields.count == 7 && kind == b"t".as_slice() {
-        let entry = take(plan, last, &fields)?;
-        Ok(Row::Entry(entry))
-    } else if fields.count == 6 && kind == b"c".as_slice() {
-        let entry = close(plan, last, &fields)?;
-        Ok(Row::Entry(entry))
-    } else if fields.count == 6 && kind == b"e".as_slice() {
-        let entry = end(plan, last, &fields)?;
-        Ok(Row::Entry(entry))
-    } else {
-        Err(RowFault::Form)
-    }
+    row_of_fields(version, plan, last, &fields)
 }

@@ -2,7 +2,7 @@ use Rattle.std.proofs.Common.{◌≡◌, ◌≤◌, ◌+◌, length}
 use Rattle.field_texts.specs.Parts.{parts}
 use Rattle.transcript_log.specs.Transcripts.{last_tick_from}
 use Rattle.transcript_text.specs.Reading.{before, entries_from}
-use Rattle.transcript_text.proofs.lines.entries.Given as goal
+use Rattle.transcript_text.proofs.lines.put_entries.Given as goal
 
 abbrev pub invariant-loop-line : goal.invariant-loop-line
 invariant-loop-line l = record {
