@@ -4,7 +4,6 @@ use Rattle.std.specs.Prelude.{reverse, slice_get, Option, Some, None, Ok, Err}
 use Rattle.chacha_lanes.proofs.WordBounds.{mask_word_small}
 use Rattle.mask_stream.specs.KeyStreams.{word_of as stream_word_of, streams}
 use Rattle.pair_keys.specs.Keys.{Keys}
-use Rattle.group_plan.specs.Plans.{PlanView}
 use Rattle.group_plan.specs.Tables.{ReadingsView, IsReadingTable, reading}
 use Rattle.transcript_log.specs.declared.Line.{Line}
 use Rattle.transcript_log.specs.Events.{lines_of, events_of}
@@ -23,7 +22,7 @@ use Rattle.twin_worlds.specs.declared.answers.TwinError.{TwinError}
 use Rattle.twin_worlds.specs.declared.answers.TwinError.TheVariants as twin
 use Rattle.twin_worlds.specs.MovedRows.{rows_of, AreMoved}
 use Rattle.twin_worlds.specs.Twins.{IsTextOf, lines_under, IsRecord, shifted, IsFirstOther, TwinEnds}
-use Rattle.twin_worlds.specs.Ends.{PlanEnds, HeadEnds, LinesEnd, AgreementEnds}
+use Rattle.twin_worlds.specs.Ends.{LinesEnd, AgreementEnds}
 use Rattle.twin_worlds.proofs.MovedLemmas.{rows-table, are-moved}
 
 -- ---- the stream words of keys
@@ -34,16 +33,6 @@ word_small (Some key) round = mask_word_small key round
 
 pub streams_small : (keys : Keys) → IsMasks (streams keys)
 streams_small keys = record { own = λ g r i. word_small _ r; pair = λ g r i j. word_small _ r }
-
--- ---- the plan
-
--- the transcript is of another plan
-pub plan-refused : (plan : PlanView) (text : List ℕ) (t : TranscriptView) (e : TwinError) → IsTextOf t text → PlanEnds plan t (Err e) → HeadEnds plan text (Err e)
-plan-refused plan text t (twin.Transcript refusal) is ends = absurd ends
-plan-refused plan text t twin.Head is ends = (t, is, ends)
-plan-refused plan text t (twin.NotThis line expected found tick fate) is ends = absurd ends
-plan-refused plan text t (twin.Differ cause) is ends = absurd ends
-plan-refused plan text t twin.Memory is ends = tt
 
 -- ---- the first world
 

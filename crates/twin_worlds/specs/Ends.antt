@@ -26,13 +26,6 @@ TextEnds text (Err (twin.Transcript refusal)) = (refusal ≢ fault.Memory) × (r
 TextEnds text (Err twin.Memory) = ⊤
 TextEnds text (Err _) = ⊥
 
--- the transcript is of this plan, or of another one
-abbrev pub PlanEnds : PlanView → TranscriptView → Result (Unit {0}) TwinError → Type 0
-PlanEnds plan t (Ok done) = t.plan ≡ plan
-PlanEnds plan t (Err twin.Head) = t.plan ≢ plan
-PlanEnds plan t (Err twin.Memory) = ⊤
-PlanEnds plan t (Err _) = ⊥
-
 -- the bytes are the text of a transcript of this plan, or of another one
 abbrev pub HeadEnds : PlanView → List ℕ → Result TranscriptView TwinError → Type 0
 HeadEnds plan text (Ok t) = IsTextOf t text × (t.plan ≡ plan)

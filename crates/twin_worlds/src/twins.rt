@@ -3,7 +3,7 @@
 ghost use Rattle.std.specs.Prelude.{◌≡◌};
 ghost use Rattle.pair_keys.specs.Keys.{table_of};
 ghost use Rattle.mask_stream.specs.KeyStreams.{streams};
-ghost use Rattle.twin_worlds.specs.Ends.{TextEnds, PlanEnds, HeadEnds, AgreementEnds, MovedEnds, RecordEnds};
+ghost use Rattle.twin_worlds.specs.Ends.{TextEnds, HeadEnds, AgreementEnds, MovedEnds, RecordEnds};
 ghost use Rattle.twin_worlds.specs.Twins.{TwinEnds};
 
 use crate::comparing::confirm;
@@ -30,24 +30,16 @@ fn transcript_of(alloc: Global, text: &[u8]) -> Result<Transcript, TwinError>
     }
 }
 
-// Whether a transcript is of this plan.
-fn confirm_plan(alloc: Global, plan: &Plan, transcript: &Transcript) -> Result<(), TwinError>
-    ensures { PlanEnds plan.now transcript.now result }
-{
-    if is_same_plan(alloc, transcript.plan(), plan)? {
-        Ok(())
-    } else {
-        Err(TwinError::Head)
-    }
-}
-
 // The transcript of a text, where it is of this plan.
 fn transcript_of_plan(alloc: Global, plan: &Plan, text: &[u8]) -> Result<Transcript, TwinError>
     ensures { HeadEnds plan.now text.now result }
 {
     let transcript = transcript_of(alloc, text)?;
-    confirm_plan(alloc, plan, &transcript)?;
-    Ok(transcript)
+    if is_same_plan(alloc, transcript.plan(), plan)? {
+        Ok(transcript)
+    } else {
+        Err(TwinError::Head)
+    }
 }
 
 // The offsets between two tables that agree.
@@ -68,8 +60,8 @@ fn agreed_offsets(
     }
 }
 
-// The words of a table of masks that move so that the second table of readings gives the lines of a transcript, where
-// the first gives them under these words.
+/// The words of a table of masks that move so that the second table of readings gives the lines of a transcript, where
+/// the first gives them under these words.
 fn moved_between(
     alloc: Global,
     masks: &MaskTable,
@@ -78,7 +70,7 @@ fn moved_between(
     transcript: &Transcript,
 ) -> Result<MovedWords, TwinError>
     requires masks { masks.now.plan ≡ first.now.plan }
-    requires first { transcript.now.plan ≡ first.now.plan }
+    requires transcript { transcript.now.plan ≡ first.now.plan }
     requires second { second.now.plan ≡ first.now.plan }
     ensures { MovedEnds masks.now.words first.now second.now transcript.now result }
 {
@@ -92,8 +84,8 @@ fn moved_between(
     Ok(moved_words(alloc, masks, &offsets)?)
 }
 
-// The words of the keys that move so that the second table of readings gives the lines of a transcript, where the first
-// gives them under the keys.
+/// The words of the keys that move so that the second table of readings gives the lines of a transcript, where the first
+/// gives them under the keys.
 fn moved_of_keys(
     alloc: Global,
     keys: &KeyTable,
@@ -102,7 +94,7 @@ fn moved_of_keys(
     transcript: &Transcript,
 ) -> Result<MovedWords, TwinError>
     requires keys { (table_of keys.now).plan ≡ first.now.plan }
-    requires first { transcript.now.plan ≡ first.now.plan }
+    requires transcript { transcript.now.plan ≡ first.now.plan }
     requires second { second.now.plan ≡ first.now.plan }
     ensures { RecordEnds (streams (table_of keys.now)) first.now second.now transcript.now result }
 {

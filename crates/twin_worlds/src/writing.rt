@@ -76,7 +76,7 @@ fn put_row(out: &mut Vec<u8>, row: &MovedRow) -> Result<(), AllocError>
     Ok(())
 }
 
-// The line of each row.
+/// The line of each row.
 fn put_rows(out: &mut Vec<u8>, rows: &[MovedRow]) -> Result<(), AllocError>
     ensures { OnOk result (out.new.items ≡ out.old.items ++ flat_map (λ row. ended (row_text row)) rows.now) }
 {
@@ -86,7 +86,7 @@ fn put_rows(out: &mut Vec<u8>, rows: &[MovedRow]) -> Result<(), AllocError>
     Ok(())
 }
 
-// The last line, with the number of rows.
+/// The last line, with the number of rows.
 fn put_end(out: &mut Vec<u8>, rows: usize) -> Result<(), AllocError>
     ensures { OnOk result (out.new.items ≡ out.old.items ++ ended (codes "end," ++ decimal rows)) }
 {
@@ -96,7 +96,7 @@ fn put_end(out: &mut Vec<u8>, rows: usize) -> Result<(), AllocError>
     Ok(())
 }
 
-// The first line, the rows and the last line.
+/// The first line, the rows and the last line.
 #[tactic(auto, unfolding(crate::specs::MasksText::masks_text))]
 fn put_masks(out: &mut Vec<u8>, rows: &[MovedRow]) -> Result<(), AllocError>
     ensures { OnOk result (out.new.items ≡ out.old.items ++ masks_text rows.now) }

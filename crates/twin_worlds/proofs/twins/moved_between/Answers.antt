@@ -14,7 +14,7 @@ returns-in_err-confirm c =
     let e : TwinError = c.in_err-confirm.field-0.0 in
     let answered : Err e ≡ c.from_residual.result = search (rules, c.from_residual.ensures) in
     subst (MovedEnds w x y t) answered
-    (λ m small words text is. lines-refused m x y text w t e c.plan-plan.ensures.table words is c.requires.first c.in_err-confirm.ensures)
+    (λ m small words text is. lines-refused m x y text w t e c.plan-plan.ensures.table words is c.requires.transcript c.in_err-confirm.ensures)
 
 pub returns-in_err-offsets : goal.returns-in_err-offsets
 returns-in_err-offsets c =
@@ -25,7 +25,7 @@ returns-in_err-offsets c =
     let e : TwinError = c.in_err-offsets.field-0.0 in
     let answered : Err e ≡ c.from_residual-in_err-offsets.result = search (rules, c.from_residual-in_err-offsets.ensures) in
     subst (MovedEnds w x y t) answered
-    (λ m small words text is. tables-refused m x y text t e (record-of m x text w t c.plan-plan.ensures.table words is c.requires.first c.in_ok-confirm.ensures) c.in_err-offsets.ensures)
+    (λ m small words text is. tables-refused m x y text t e (record-of m x text w t c.plan-plan.ensures.table words is c.requires.transcript c.in_ok-confirm.ensures) c.in_err-offsets.ensures)
 
 pub returns-in_err-moved_words : goal.returns-in_err-moved_words
 returns-in_err-moved_words c = search (rules, c.from_residual-in_err-moved_words.ensures)
@@ -37,4 +37,4 @@ returns c =
     let w = c.args.masks.now.words in
     let t = c.args.transcript.now in
     λ m small words text is. twins-are m x y text w t c.in_ok-offsets.offsets c.in_ok-moved_words.field-0 small c.plan-plan.ensures.table c.requires.second words
-    (record-of m x text w t c.plan-plan.ensures.table words is c.requires.first c.in_ok-confirm.ensures) c.in_ok-offsets.ensures c.in_ok-moved_words.ensures
+    (record-of m x text w t c.plan-plan.ensures.table words is c.requires.transcript c.in_ok-confirm.ensures) c.in_ok-offsets.ensures c.in_ok-moved_words.ensures
