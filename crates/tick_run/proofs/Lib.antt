@@ -31,3 +31,4 @@ pub mod MeterLemmas
 pub mod MetersLemmas
 pub mod RowsOf
 pub mod HiddenLemmas
+pub mod SidesLemmas

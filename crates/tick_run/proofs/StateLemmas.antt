@@ -139,7 +139,7 @@ pub lines_quiet : (t : ℕ) (added : List Line) → lines_of (map (quiet t) adde
 lines_quiet t [] = refl
 lines_quiet t (l ∷ added) = ap (λ ls. l ∷ ls) (lines_quiet t added)
 
-lines_append : (xs : List Entry) (t : ℕ) (added : List Line) → lines_of (xs ++ map (quiet t) added) ≡ lines_of xs ++ added
+pub lines_append : (xs : List Entry) (t : ℕ) (added : List Line) → lines_of (xs ++ map (quiet t) added) ≡ lines_of xs ++ added
 lines_append xs t added = map-append (λ e. e.line) xs (map (quiet t) added) ∙ ap (λ l. lines_of xs ++ l) (lines_quiet t added)
 
 count_quiet : (test : Event → Bool) (t : ℕ) (added : List Line) → count_by (λ e. test (event_of e.line)) (map (quiet t) added) ≡ count_by (λ l. test (event_of l)) added
@@ -249,20 +249,24 @@ closes-keep readings t script done added have pushed =
 
 -- ---- the Sends
 
--- the announcements taken in this tick are heard
-pub hears : (readings : ReadingsView) (m : Masks) (t : ℕ) (book : BookView) (script : TranscriptView) (waiting : List Arrival) (tags : List Tag)
-    → IsRunning readings m (closed t) book script waiting → AreCopiesDue t script.entries tags → AreHeard (run_shape readings) (clock_of readings.plan) (past_of_entries script.entries) t tags
-hears readings m t book script waiting tags is due =
+-- the announcements taken in this tick are heard, once the Takes of the tick are there
+pub hears-taken : (readings : ReadingsView) (moment closes t : ℕ) (xs : List Entry) (tags : List Tag)
+    → RunsTo (run_shape readings) (clock_of readings.plan) moment (t + 1) closes t xs → AreCopiesDue t xs tags → AreHeard (run_shape readings) (clock_of readings.plan) (past_of_entries xs) t tags
+hears-taken readings moment closes t xs tags run due =
     let s : Shape = run_shape readings in
     let c : Clock = clock_of readings.plan in
-    let some : (g r i : ℕ) → was_taken tags (tag_of Announcement g r i) ≡ true → 0 < takes_at script.entries (tag_of Announcement g r i) t
-    = λ g r i told. ltb-true 0 (takes_at script.entries (tag_of Announcement g r i) t) (takes-are s c (3 * t + 2) (t + 1) t t script.entries tags is.run due (tag_of Announcement g r i) ∙ told) in
+    let some : (g r i : ℕ) → was_taken tags (tag_of Announcement g r i) ≡ true → 0 < takes_at xs (tag_of Announcement g r i) t
+    = λ g r i told. ltb-true 0 (takes_at xs (tag_of Announcement g r i) t) (takes-are s c moment closes t t xs tags run due (tag_of Announcement g r i) ∙ told) in
     record {
-      effect = λ g r i told. is.run.heard g r i t (some g r i told);
-      round = λ g r i told. (announcement_round s c (3 * t + 2) (t + 1) (t + 1) t script.entries is.run g r i t (omega arith) (some g r i told)).0;
-      early = λ g r i told. announcement_later s c (3 * t + 2) (t + 1) (t + 1) t script.entries is.run g r i t (omega arith) (some g r i told);
-      late = λ g r i told. (announcement_round s c (3 * t + 2) (t + 1) (t + 1) t script.entries is.run g r i t (omega arith) (some g r i told)).1;
+      effect = λ g r i told. run.heard g r i t (some g r i told);
+      round = λ g r i told. (announcement_round s c moment (t + 1) closes t xs run g r i t (omega arith) (some g r i told)).0;
+      early = λ g r i told. announcement_later s c moment (t + 1) closes t xs run g r i t (omega arith) (some g r i told);
+      late = λ g r i told. (announcement_round s c moment (t + 1) closes t xs run g r i t (omega arith) (some g r i told)).1;
     }
+
+pub hears : (readings : ReadingsView) (m : Masks) (t : ℕ) (book : BookView) (script : TranscriptView) (waiting : List Arrival) (tags : List Tag)
+    → IsRunning readings m (closed t) book script waiting → AreCopiesDue t script.entries tags → AreHeard (run_shape readings) (clock_of readings.plan) (past_of_entries script.entries) t tags
+hears readings m t book script waiting tags is due = hears-taken readings (3 * t + 2) (t + 1) t script.entries tags is.run due
 
 -- what is due by the entries is what is due after the copies that were taken
 pub due-now : (readings : ReadingsView) (m : Masks) (t : ℕ) (book : BookView) (script : TranscriptView) (waiting : List Arrival) (tags : List Tag)

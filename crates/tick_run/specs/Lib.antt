@@ -10,3 +10,4 @@ pub mod Batches
 pub mod Meters
 pub mod Hearers
 pub mod Hidden
+pub mod Sides

@@ -5,7 +5,7 @@ ghost use Rattle.transcript_log.specs.declared.Event.{Event};
 ghost use Rattle.transcript_log.specs.declared.Event.TheVariants.{Take};
 ghost use Rattle.transcript_log.specs.Events.{lines_of};
 ghost use Rattle.transcript_log.specs.Transcripts.{last_tick_from};
-ghost use Rattle.tick_run.specs.Batches.{CanTake, Batched};
+ghost use Rattle.tick_run.specs.Batches.{CanTake, Batched, TakenAndClosed};
 ghost use Rattle.tick_run.specs.OnTheWay.{frames_in, tags_of};
 ghost use Rattle.tick_run.specs.Running.{Ask, is_due, calls_due, parcels_of, parcels_due};
 ghost use Rattle.run_rows.specs.Ticks.{clock_of};
@@ -68,7 +68,7 @@ fn commit_batch<R: Threads + Wait + Sync, G: Gate>(
 }
 
 /// Takes the copies that came in at the tick, by workers, in any order.
-pub(crate) fn take_copies<R: Threads + Wait + Sync, G: Gate>(
+fn take_copies<R: Threads + Wait + Sync, G: Gate>(
     crew: &Crew<R, G>,
     run: Running,
     copies: &[[u8; 52]],
@@ -124,7 +124,7 @@ fn calls_at(alloc: Global, plan: &Plan, tick: u32) -> Result<Vec<Parcel>, AllocE
 }
 
 /// Closes and ends the rounds that are due at the tick, by workers, in any order.
-pub(crate) fn close_rounds<R: Threads + Wait + Sync, G: Gate>(
+fn close_rounds<R: Threads + Wait + Sync, G: Gate>(
     crew: &Crew<R, G>,
     run: Running,
     tick: u32,
@@ -137,4 +137,22 @@ pub(crate) fn close_rounds<R: Threads + Wait + Sync, G: Gate>(
 {
     let batch = calls_at(crew.alloc, run.book.plan(), tick)?;
     commit_batch(crew, run, batch, tick)
+}
+
+/// The head end's side of a tick: takes the copies that came in, and then closes and ends the rounds that are due.
+pub(crate) fn take_and_close<R: Threads + Wait + Sync, G: Gate>(
+    crew: &Crew<R, G>,
+    run: Running,
+    copies: &[[u8; 52]],
+    tick: u32,
+) -> Result<Running, RunError>
+    requires workers { (1 ≤ crew.now.workers) × (crew.now.workers ≤ 16) }
+    requires later { last_tick_from 0 run.transcript.entries ≤ tick }
+    requires plan { run.transcript.plan ≡ run.book.presence.plan }
+    requires lines { run.book.journal ≡ lines_of run.transcript.entries }
+    requires copies { All (CanTake run.book) copies.now }
+    ensures { IfOk result (λ after. TakenAndClosed tick (tags_of (frames_in copies.now)) run.book after.book run.transcript after.transcript run.link after.link) }
+{
+    let run = take_copies(crew, run, copies, tick)?;
+    close_rounds(crew, run, tick)
 }

@@ -16,6 +16,7 @@ mod pieces;
 mod run;
 mod running;
 mod sends;
+mod sides;
 mod tick;
 
 pub use run::{Finished, run_plan};

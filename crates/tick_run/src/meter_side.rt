@@ -7,6 +7,7 @@ ghost use Rattle.mask_stream.specs.ChaMaskTables.{words_of};
 ghost use Rattle.tick_run.specs.OnTheWay.{frames_in, IsSpelling};
 ghost use Rattle.tick_run.specs.Jobs.{AreGroupFrames};
 ghost use Rattle.tick_run.specs.Hidden.{IsOfOnePlan};
+ghost use Rattle.tick_run.specs.Sides.{MetersEnd};
 ghost use Rattle.tick_run.specs.Meters.{AreMeters, book_of, announcements, AreTold, CanHearNow, HaveHeard};
 
 use crate::all_groups::all_groups;
@@ -39,4 +40,30 @@ pub(crate) fn meters_send(
     let came = came_in(alloc, copies)?;
     let answered = meters.answered(alloc, &came)?;
     all_groups(rt, alloc, known, &answered, tick)
+}
+
+/// What the meters of each group send at a tick, and the meters after it.
+#[derive(Drop)]
+pub(crate) struct MetersSent {
+    pub meters: Meters,
+    pub sent: Result<Vec<Result<GroupFrames, AllocError>>, AllocError>,
+}
+
+/// The meters' side of a tick: they read, hear and answer.
+pub(crate) fn meters_side(
+    rt: &(impl Threads + Sync),
+    alloc: Global,
+    meters: Meters,
+    known: &Known,
+    copies: &[[u8; 52]],
+    tick: u32,
+) -> MetersSent
+    requires known { IsOfOnePlan known.now }
+    requires spelled { All IsSpelling copies.now }
+    requires can { CanHearNow known.now.readings.now tick meters (frames_in copies.now) }
+    ensures { MetersEnd known.now.readings.now (words_of known.now.masks.now) tick meters (frames_in copies.now) result }
+{
+    let mut meters = meters;
+    let sent = meters_send(rt, alloc, &mut meters, known, copies, tick);
+    MetersSent { meters, sent }
 }

@@ -25,7 +25,7 @@ use crate::hidden::HiddenReadings;
 use crate::known::Known;
 use crate::meters::Meters;
 use crate::running::Running;
-use crate::tick::run_tick;
+use crate::tick::{Going, run_tick};
 use collector_workers::Gate;
 use group_book::Book;
 use group_plan::{Plan, Presence, Readings};
@@ -48,23 +48,23 @@ pub struct Finished {
 /// Makes all ticks, from 0 to the last.
 fn run_ticks<R: Threads + Wait + Sync, G: Gate>(
     context: &Context<R, G>,
-    run: Running,
-    meters: &mut Meters,
+    going: Going,
     rack: &mut Rack,
 ) -> Result<Running, RunError>
-    requires running { IsRunning context.now.known.readings.now (words_of context.now.known.masks.now) (starting 0) run.book run.transcript run.link }
-    requires meters { AreMeters run.book 0 meters.old }
+    requires running { IsRunning context.now.known.readings.now (words_of context.now.known.masks.now) (starting 0) going.run.book going.run.transcript going.run.link }
+    requires meters { AreMeters going.run.book 0 going.meters }
     requires known { IsOfOnePlan context.now.known }
     requires workers { (1 ≤ context.now.crew.workers) × (context.now.crew.workers ≤ 16) }
     requires room { HasRoom (λ b. meaning (b.vtable, b.value)) rack.old }
     ensures running { IfOk result (λ after. IsRunning context.now.known.readings.now (words_of context.now.known.masks.now) (starting (last_tick context.now.known.readings.now.plan + 1)) after.book after.transcript after.link) }
-    ensures fates { (hung : List Slot) → KeptFates hung 0 run.transcript.entries (slots (λ b. meaning (b.vtable, b.value)) rack.old) (posts_of rack.old) →
+    ensures fates { (hung : List Slot) → KeptFates hung 0 going.run.transcript.entries (slots (λ b. meaning (b.vtable, b.value)) rack.old) (posts_of rack.old) →
         IfOk result (λ after. KeptFates hung (last_tick context.now.known.readings.now.plan + 1) after.transcript.entries (slots (λ b. meaning (b.vtable, b.value)) rack.new) (posts_of rack.new)) }
 {
-    let mut run = run;
+    let mut going = going;
     for tick in 0..context.known.readings.plan().last_tick() + 1 {
-        run = run_tick(context, run, meters, rack, tick)?;
+        going = run_tick(context, going, rack, tick)?;
     }
+    let Going { run, meters: _ } = going;
     Ok(run)
 }
 
@@ -161,8 +161,8 @@ fn run_with_meters<R: Threads + Wait + Sync, G: Gate>(
     ensures fates { (hung : List Slot) → KeptFates hung 0 run.transcript.entries (slots (λ b. meaning (b.vtable, b.value)) rack.old) (posts_of rack.old) →
         IfOk result (λ after. KeptFates hung (last_tick context.now.known.readings.now.plan + 1) after.transcript.entries (slots (λ b. meaning (b.vtable, b.value)) rack.new) (posts_of rack.new)) }
 {
-    let mut meters = Meters::new(context.crew.alloc, context.known.readings)?;
-    run_ticks(context, run, &mut meters, rack)
+    let meters = Meters::new(context.crew.alloc, context.known.readings)?;
+    run_ticks(context, Going { run, meters }, rack)
 }
 
 /// What a run has made, once it is over.

@@ -8,9 +8,9 @@ use Rattle.tick_run.proofs.run.run_ticks.Goals as goal
 pub loop-tick-preserved : goal.loop-tick-preserved
 loop-tick-preserved g c = record {
   room = c.run_tick.ensures.room;
-  running = c.in_ok-run.ensures.running;
-  meters = c.in_ok-run.ensures.meters;
-  fates = λ hung kept. c.in_ok-run.ensures.fates hung (c.loop-tick.invariant.fates hung kept);
+  running = c.in_ok-going.ensures.running;
+  meters = c.in_ok-going.ensures.meters;
+  fates = λ hung kept. c.in_ok-going.ensures.fates hung (c.loop-tick.invariant.fates hung kept);
 }
 
 pub returns-clause-running : goal.returns-clause-running
@@ -19,7 +19,7 @@ returns-clause-running g c =
     let over = c.loop-tick-test.false in
     let within = c.loop-tick.auto.tick-end in
     let at : c.loop-tick.tick ≡ last_tick c.args.context.now.known.readings.now.plan + 1 = omega arith in
-    subst (λ (n : ℕ). IsRunning c.args.context.now.known.readings.now (words_of c.args.context.now.known.masks.now) (starting n) c.loop-tick.run.book c.loop-tick.run.transcript c.loop-tick.run.link) at c.loop-tick.invariant.running
+    subst (λ (n : ℕ). IsRunning c.args.context.now.known.readings.now (words_of c.args.context.now.known.masks.now) (starting n) c.loop-tick.going.run.book c.loop-tick.going.run.transcript c.loop-tick.going.run.link) at c.loop-tick.invariant.running
 
 pub returns-clause-fates : goal.returns-clause-fates
 returns-clause-fates g c = λ hung kept.
@@ -27,4 +27,4 @@ returns-clause-fates g c = λ hung kept.
     let over = c.loop-tick-test.false in
     let within = c.loop-tick.auto.tick-end in
     let at : c.loop-tick.tick ≡ last_tick c.args.context.now.known.readings.now.plan + 1 = omega arith in
-    kept-at hung c.loop-tick.tick (last_tick c.args.context.now.known.readings.now.plan + 1) c.loop-tick.run.transcript.entries _ _ at (c.loop-tick.invariant.fates hung kept)
+    kept-at hung c.loop-tick.tick (last_tick c.args.context.now.known.readings.now.plan + 1) c.loop-tick.going.run.transcript.entries _ _ at (c.loop-tick.invariant.fates hung kept)

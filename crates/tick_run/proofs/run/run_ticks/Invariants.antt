@@ -10,8 +10,8 @@ use Rattle.tick_run.proofs.run.run_ticks.Given as goal
 abbrev pub invariant-loop-tick : goal.invariant-loop-tick
 invariant-loop-tick g l = record {
   room : HasRoom (λ b. (goal.Lane-dyn g (b.vtable, b.value)).meaning b.value) l.rack;
-  running : IsRunning l.context.known.readings.now (words_of l.context.known.masks.now) (starting l.tick) l.run.book l.run.transcript l.run.link;
-  meters : AreMeters l.run.book l.tick l.meters;
-  fates : (hung : List Slot) → KeptFates hung 0 l.fn.run.transcript.entries (slots (λ b. (goal.Lane-dyn g (b.vtable, b.value)).meaning b.value) l.fn.rack) (posts_of l.fn.rack)
-      → KeptFates hung l.tick l.run.transcript.entries (slots (λ b. (goal.Lane-dyn g (b.vtable, b.value)).meaning b.value) l.rack) (posts_of l.rack);
+  running : IsRunning l.context.known.readings.now (words_of l.context.known.masks.now) (starting l.tick) l.going.run.book l.going.run.transcript l.going.run.link;
+  meters : AreMeters l.going.run.book l.tick l.going.meters;
+  fates : (hung : List Slot) → KeptFates hung 0 l.fn.going.run.transcript.entries (slots (λ b. (goal.Lane-dyn g (b.vtable, b.value)).meaning b.value) l.fn.rack) (posts_of l.fn.rack)
+      → KeptFates hung l.tick l.going.run.transcript.entries (slots (λ b. (goal.Lane-dyn g (b.vtable, b.value)).meaning b.value) l.rack) (posts_of l.rack);
 }

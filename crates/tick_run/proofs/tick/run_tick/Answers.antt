@@ -1,111 +1,112 @@
-use Rattle.std.proofs.Common.{sym, subst, ◌∙◌, List, ℕ, arith}
+use Rattle.std.proofs.Common.{sym, subst, ◌∙◌, arith}
 use Rattle.mask_stream.specs.ChaMaskTables.{words_of}
-use Rattle.tick_run.specs.Running.{emptied, taken, HaveCome}
+use Rattle.tick_run.specs.Batches.{TakenAndClosed}
+use Rattle.tick_run.specs.OnTheWay.{frames_in, tags_of}
+use Rattle.tick_run.specs.Running.{emptied}
+use Rattle.tick_run.specs.Sides.{AllSend}
 use Rattle.tick_run.proofs.StateLemmas.{emptied-of}
-use Rattle.tick_run.proofs.TakeLemmas.{all-taken}
+use Rattle.tick_run.proofs.TakeLemmas.{all-taken, all-spelled}
 use Rattle.tick_run.proofs.SendingLemmas.{keeps-retired, kept-next}
-use Rattle.tick_run.proofs.BatchedLemmas.{takes-batched, closes-batched, takes-fates, closes-fates, last-running}
-use Rattle.tick_run.proofs.MetersLemmas.{meters-batched}
+use Rattle.tick_run.proofs.BatchedLemmas.{last-running}
+use Rattle.tick_run.proofs.SidesLemmas.{can-hear, ok_of, sides-closed, sides-meters, sides-fates, meters-go_on}
 use Rattle.tick_run.proofs.tick.run_tick.Goals as goal
 
-pub take_copies-requires-clause-later : goal.take_copies-requires-clause-later
-take_copies-requires-clause-later g c κs within =
+pub both_sides-head_end-requires-clause-later : goal.both_sides-head_end-requires-clause-later
+both_sides-head_end-requires-clause-later g c κs within =
     let readings = c.args.context.now.known.readings.now in
     let m = words_of c.args.context.now.known.masks.now in
     let t = c.args.tick in
-    let book = c.args.run.book in
-    let script = c.args.run.transcript in
+    let run = c.args.going.run in
     let found = c.in_ok-copies.ensures in
-    let out = emptied-of readings m t book script c.args.run.link c.due.new.self c.deref.result.now c.requires.running found.1 (c.deref.ensures.value ∙ found.0) in
-    last-running readings m (emptied t) t book script c.due.new.self out.0 (omega arith)
+    let out = emptied-of readings m t run.book run.transcript run.link c.due.new.self c.deref.result.now c.requires.running found.1 (c.deref.ensures.value ∙ found.0) in
+    last-running readings m (emptied t) t run.book run.transcript c.due.new.self out.0 (omega arith)
 
-pub take_copies-requires-clause-lines : goal.take_copies-requires-clause-lines
-take_copies-requires-clause-lines g c κs within = c.requires.running.journal
-
-pub take_copies-requires-clause-copies : goal.take_copies-requires-clause-copies
-take_copies-requires-clause-copies g c κs within =
+pub both_sides-head_end-requires-clause-copies : goal.both_sides-head_end-requires-clause-copies
+both_sides-head_end-requires-clause-copies g c κs within =
     let readings = c.args.context.now.known.readings.now in
     let m = words_of c.args.context.now.known.masks.now in
     let t = c.args.tick in
-    let book = c.args.run.book in
-    let script = c.args.run.transcript in
+    let run = c.args.going.run in
     let found = c.in_ok-copies.ensures in
-    let out = emptied-of readings m t book script c.args.run.link c.due.new.self c.deref.result.now c.requires.running found.1 (c.deref.ensures.value ∙ found.0) in
-    all-taken readings m (emptied t) t book script c.due.new.self c.deref.result.now out.0 out.1
+    let out = emptied-of readings m t run.book run.transcript run.link c.due.new.self c.deref.result.now c.requires.running found.1 (c.deref.ensures.value ∙ found.0) in
+    all-taken readings m (emptied t) t run.book run.transcript c.due.new.self c.deref.result.now out.0 out.1
 
-pub close_rounds-requires-clause-later : goal.close_rounds-requires-clause-later
-close_rounds-requires-clause-later g c κs within =
+pub both_sides-head_end-requires-clause-spelled : goal.both_sides-head_end-requires-clause-spelled
+both_sides-head_end-requires-clause-spelled g c κs within =
     let readings = c.args.context.now.known.readings.now in
     let m = words_of c.args.context.now.known.masks.now in
     let t = c.args.tick in
-    let book = c.args.run.book in
-    let script = c.args.run.transcript in
+    let run = c.args.going.run in
     let found = c.in_ok-copies.ensures in
-    let out = emptied-of readings m t book script c.args.run.link c.due.new.self c.deref.result.now c.requires.running found.1 (c.deref.ensures.value ∙ found.0) in
-    let one = c.in_ok-run.run' in
-    let took = takes-batched readings m t book one.book script one.transcript c.due.new.self one.link c.deref.result.now out.0 out.1 c.in_ok-run.ensures in
-    last-running readings m (taken t) t one.book one.transcript one.link took.0 (omega arith)
+    let out = emptied-of readings m t run.book run.transcript run.link c.due.new.self c.deref.result.now c.requires.running found.1 (c.deref.ensures.value ∙ found.0) in
+    all-spelled run.transcript.entries c.deref.result.now out.1.spelled
 
-pub close_rounds-requires-clause-lines : goal.close_rounds-requires-clause-lines
-close_rounds-requires-clause-lines g c κs within =
+pub both_sides-head_end-requires-clause-can : goal.both_sides-head_end-requires-clause-can
+both_sides-head_end-requires-clause-can g c κs within =
     let readings = c.args.context.now.known.readings.now in
     let m = words_of c.args.context.now.known.masks.now in
     let t = c.args.tick in
-    let book = c.args.run.book in
-    let script = c.args.run.transcript in
+    let run = c.args.going.run in
     let found = c.in_ok-copies.ensures in
-    let out = emptied-of readings m t book script c.args.run.link c.due.new.self c.deref.result.now c.requires.running found.1 (c.deref.ensures.value ∙ found.0) in
-    let one = c.in_ok-run.run' in
-    let took = takes-batched readings m t book one.book script one.transcript c.due.new.self one.link c.deref.result.now out.0 out.1 c.in_ok-run.ensures in
-    took.0.journal
+    let out = emptied-of readings m t run.book run.transcript run.link c.due.new.self c.deref.result.now c.requires.running found.1 (c.deref.ensures.value ∙ found.0) in
+    can-hear readings m t run.book run.transcript c.due.new.self c.deref.result.now c.args.going.meters out.0 out.1 c.requires.meters
 
 pub send_tick-requires-clause-running : goal.send_tick-requires-clause-running
-send_tick-requires-clause-running g c κs within =
+send_tick-requires-clause-running g c =
     let readings = c.args.context.now.known.readings.now in
     let m = words_of c.args.context.now.known.masks.now in
     let t = c.args.tick in
-    let book = c.args.run.book in
-    let script = c.args.run.transcript in
+    let run = c.args.going.run in
     let found = c.in_ok-copies.ensures in
-    let out = emptied-of readings m t book script c.args.run.link c.due.new.self c.deref.result.now c.requires.running found.1 (c.deref.ensures.value ∙ found.0) in
-    let one = c.in_ok-run.run' in
-    let took = takes-batched readings m t book one.book script one.transcript c.due.new.self one.link c.deref.result.now out.0 out.1 c.in_ok-run.ensures in
-    let two = c.in_ok-run-2.run' in
-    let ended = closes-batched readings m t one.book two.book one.transcript two.transcript one.link two.link c.deref.result.now took.0 took.1 c.in_ok-run-2.ensures in
-    ended.0
+    let out = emptied-of readings m t run.book run.transcript run.link c.due.new.self c.deref.result.now c.requires.running found.1 (c.deref.ensures.value ∙ found.0) in
+    let copies = c.deref.result.now in
+    let now = c.in_ok-run.run' in
+    let both = ok_of (λ after. TakenAndClosed t (tags_of (frames_in copies)) run.book after.book run.transcript after.transcript c.due.new.self after.link) c.both_sides-head_end.result.head_end now c.in_ok-run.was c.both_sides-head_end.ensures.head_end in
+    let closed = sides-closed readings m t run.book now.book run.transcript now.transcript c.due.new.self now.link copies out.0 out.1 both in
+    closed.0
 
-pub send_tick-requires-clause-came : goal.send_tick-requires-clause-came
-send_tick-requires-clause-came g c κs within =
+pub send_tick-requires-clause-sent : goal.send_tick-requires-clause-sent
+send_tick-requires-clause-sent g c =
     let readings = c.args.context.now.known.readings.now in
     let m = words_of c.args.context.now.known.masks.now in
     let t = c.args.tick in
-    let book = c.args.run.book in
-    let script = c.args.run.transcript in
+    let run = c.args.going.run in
     let found = c.in_ok-copies.ensures in
-    let out = emptied-of readings m t book script c.args.run.link c.due.new.self c.deref.result.now c.requires.running found.1 (c.deref.ensures.value ∙ found.0) in
-    let one = c.in_ok-run.run' in
-    let took = takes-batched readings m t book one.book script one.transcript c.due.new.self one.link c.deref.result.now out.0 out.1 c.in_ok-run.ensures in
-    let two = c.in_ok-run-2.run' in
-    let ended = closes-batched readings m t one.book two.book one.transcript two.transcript one.link two.link c.deref.result.now took.0 took.1 c.in_ok-run-2.ensures in
-    subst (λ (l : List (List ℕ)). HaveCome t two.transcript.entries l) (c.deref.ensures.value ∙ sym c.deref-2.ensures.value) ended.1
+    let out = emptied-of readings m t run.book run.transcript run.link c.due.new.self c.deref.result.now c.requires.running found.1 (c.deref.ensures.value ∙ found.0) in
+    let copies = c.deref.result.now in
+    let now = c.in_ok-run.run' in
+    let both = ok_of (λ after. TakenAndClosed t (tags_of (frames_in copies)) run.book after.book run.transcript after.transcript c.due.new.self after.link) c.both_sides-head_end.result.head_end now c.in_ok-run.was c.both_sides-head_end.ensures.head_end in
+    let closed = sides-closed readings m t run.book now.book run.transcript now.transcript c.due.new.self now.link copies out.0 out.1 both in
+    record {
+      copies = copies;
+      come = closed.1;
+      send = subst (AllSend readings m (frames_in copies) t) (sym c.deref-2.ensures.value)
+          (ok_of (λ groups. AllSend readings m (frames_in copies) t groups.items) c.both_sides-head_end.result.meters.sent c.in_ok-sent.sent c.in_ok-sent.was c.both_sides-head_end.ensures.meters.sent);
+    }
 
-pub send_tick-requires-clause-meters : goal.send_tick-requires-clause-meters
-send_tick-requires-clause-meters g c κs within =
+pub returns-clause-meters : goal.returns-clause-meters
+returns-clause-meters g c =
+    let readings = c.args.context.now.known.readings.now in
+    let m = words_of c.args.context.now.known.masks.now in
     let t = c.args.tick in
-    let m = c.args.meters.now in
-    let one = c.in_ok-run.run' in
-    let two = c.in_ok-run-2.run' in
-    meters-batched t t _ one.book two.book one.transcript two.transcript one.link two.link m c.in_ok-run-2.ensures
-    (meters-batched t t _ c.args.run.book one.book c.args.run.transcript one.transcript c.due.new.self one.link m c.in_ok-run.ensures c.requires.meters)
+    let run = c.args.going.run in
+    let found = c.in_ok-copies.ensures in
+    let out = emptied-of readings m t run.book run.transcript run.link c.due.new.self c.deref.result.now c.requires.running found.1 (c.deref.ensures.value ∙ found.0) in
+    let copies = c.deref.result.now in
+    let now = c.in_ok-run.run' in
+    let both = ok_of (λ after. TakenAndClosed t (tags_of (frames_in copies)) run.book after.book run.transcript after.transcript c.due.new.self after.link) c.both_sides-head_end.result.head_end now c.in_ok-run.was c.both_sides-head_end.ensures.head_end in
+    let closed = sides-closed readings m t run.book now.book run.transcript now.transcript c.due.new.self now.link copies out.0 out.1 both in
+    let before = sides-meters t t (tags_of (frames_in copies)) run.book now.book run.transcript now.transcript c.due.new.self now.link c.args.going.meters both c.requires.meters in
+    c.in_ok-send_tick.ensures.meters c.both_sides-head_end.result.meters.meters
+    (meters-go_on readings m t now.book now.transcript now.link copies c.args.going.meters c.both_sides-head_end.result.meters c.in_ok-sent.sent closed.0 closed.1 before c.both_sides-head_end.ensures.meters c.in_ok-sent.was)
 
 pub returns-clause-fates : goal.returns-clause-fates
 returns-clause-fates g c = λ hung kept.
     let t = c.args.tick in
-    let book = c.args.run.book in
-    let script = c.args.run.transcript in
-    let one = c.in_ok-run.run' in
-    let two = c.in_ok-run-2.run' in
-    let retired = keeps-retired hung t script.entries _ _ _ _ kept c.retire.ensures.lanes c.retire.ensures.posts in
-    let after_takes = takes-fates hung t book one.book script one.transcript c.due.new.self one.link _ _ _ c.in_ok-run.ensures retired in
-    let after_calls = closes-fates hung _ _ t one.book two.book one.transcript two.transcript one.link two.link _ _ c.in_ok-run-2.ensures after_takes in
-    kept-next hung t c.send_tick.new.run.transcript.entries _ _ (c.in_ok-send_tick.ensures.fates hung after_calls)
+    let run = c.args.going.run in
+    let copies = c.deref.result.now in
+    let now = c.in_ok-run.run' in
+    let both = ok_of (λ after. TakenAndClosed t (tags_of (frames_in copies)) run.book after.book run.transcript after.transcript c.due.new.self after.link) c.both_sides-head_end.result.head_end now c.in_ok-run.was c.both_sides-head_end.ensures.head_end in
+    let retired = keeps-retired hung t run.transcript.entries _ _ _ _ kept c.retire.ensures.lanes c.retire.ensures.posts in
+    let after = sides-fates hung t (tags_of (frames_in copies)) run.book now.book run.transcript now.transcript c.due.new.self now.link _ _ both retired in
+    kept-next hung t c.send_tick.new.run.transcript.entries _ _ (c.in_ok-send_tick.ensures.fates hung after)
