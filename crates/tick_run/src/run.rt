@@ -2,10 +2,10 @@
 
 ghost use Rattle.std.specs.Prelude.{◌≡◌, ◌+◌, ◌≤◌, List, [], IfOk};
 ghost use Rattle.group_plan.specs.Plans.{last_tick, IsWithinLimits};
-ghost use Rattle.group_plan.specs.Tables.{IsPresenceTable, IsReadingTable};
+ghost use Rattle.group_plan.specs.Tables.{IsPresenceTable, IsReadingTable, presence_of};
 ghost use Rattle.link_lanes.specs.Lanes.{Slot};
 ghost use Rattle.link_lanes.specs.Racks.{slots, posts_of, HasRoom};
-ghost use Rattle.mask_stream.specs.ChaMaskTables.{words_of};
+ghost use Rattle.mask_stream.specs.ChaMaskTables.{plan_of, words_of};
 ghost use Rattle.mask_stream.specs.KeyStreams.{streams};
 ghost use Rattle.missing_round.specs.Masks.{Masks};
 ghost use Rattle.pair_keys.specs.Keys.{Keys, table_of};
@@ -16,7 +16,7 @@ ghost use Rattle.group_book.specs.Books.{shape_of};
 ghost use Rattle.tick_run.specs.Running.{IsRunning, starting};
 ghost use Rattle.tick_run.specs.Sending.{KeptFates};
 ghost use Rattle.tick_run.specs.Finished.{IsFinished, HasRowsOf};
-ghost use Rattle.tick_run.specs.Hidden.{IsOfOnePlan};
+ghost use Rattle.tick_run.specs.Hidden.{AreHidden, IsOfOnePlan};
 ghost use Rattle.tick_run.specs.Meters.{AreMeters};
 
 use crate::RunError;
@@ -25,6 +25,7 @@ use crate::hidden::HiddenReadings;
 use crate::known::Known;
 use crate::meters::Meters;
 use crate::running::Running;
+use crate::sides::beside;
 use crate::tick::{Going, run_tick};
 use collector_workers::Gate;
 use group_book::Book;
@@ -141,28 +142,62 @@ fn start_with(alloc: Global, plan: &Plan, presence: &Presence) -> Result<Running
 fn start(alloc: Global, plan: &Plan, readings: &Readings) -> Result<Running, AllocError>
     requires { readings.now.plan ≡ plan.now }
     ensures running { IfOk result (λ run. (m : Masks) → IsRunning readings.now m (starting 0) run.book run.transcript run.link) }
+    ensures presence { IfOk result (λ run. run.book.presence ≡ presence_of readings.now) }
     ensures transcript { IfOk result (λ run. run.transcript ≡ no_entries plan.now) }
 {
     let presence = Presence::of(alloc, readings)?;
     start_with(alloc, plan, &presence)
 }
 
-/// Makes all ticks of a run that starts, with meters that have read nothing.
-fn run_with_meters<R: Threads + Wait + Sync, G: Gate>(
-    context: &Context<R, G>,
-    run: Running,
-    rack: &mut Rack,
-) -> Result<Running, RunError>
-    requires running { IsRunning context.now.known.readings.now (words_of context.now.known.masks.now) (starting 0) run.book run.transcript run.link }
-    requires known { IsOfOnePlan context.now.known }
-    requires workers { (1 ≤ context.now.crew.workers) × (context.now.crew.workers ≤ 16) }
-    requires room { HasRoom (λ b. meaning (b.vtable, b.value)) rack.old }
-    ensures running { IfOk result (λ after. IsRunning context.now.known.readings.now (words_of context.now.known.masks.now) (starting (last_tick context.now.known.readings.now.plan + 1)) after.book after.transcript after.link) }
-    ensures fates { (hung : List Slot) → KeptFates hung 0 run.transcript.entries (slots (λ b. meaning (b.vtable, b.value)) rack.old) (posts_of rack.old) →
-        IfOk result (λ after. KeptFates hung (last_tick context.now.known.readings.now.plan + 1) after.transcript.entries (slots (λ b. meaning (b.vtable, b.value)) rack.new) (posts_of rack.new)) }
+/// A run before its first tick, with meters that have read nothing.
+fn begin(alloc: Global, plan: &Plan, readings: &Readings) -> Result<Going, AllocError>
+    requires { readings.now.plan ≡ plan.now }
+    ensures running { IfOk result (λ going. (m : Masks) → IsRunning readings.now m (starting 0) going.run.book going.run.transcript going.run.link) }
+    ensures meters { IfOk result (λ going. AreMeters going.run.book 0 going.meters) }
+    ensures transcript { IfOk result (λ going. going.run.transcript ≡ no_entries plan.now) }
 {
-    let meters = Meters::new(context.crew.alloc, context.known.readings)?;
-    run_ticks(context, Going { run, meters }, rack)
+    let run = start(alloc, plan, readings)?;
+    let meters = Meters::new(alloc, readings)?;
+    Ok(Going { run, meters })
+}
+
+/// What there is before the first tick: the run with its meters, and their readings hidden.
+#[derive(Drop)]
+struct Begun {
+    going: Going,
+    hidden: HiddenReadings,
+}
+
+/// Begins a run, and hides its readings beside that.
+fn begin_and_hide<R: Threads + Sync>(
+    rt: &R,
+    alloc: Global,
+    plan: &Plan,
+    readings: &Readings,
+    masks: &ChaMasks,
+) -> Result<Begun, AllocError>
+    requires readings { readings.now.plan ≡ plan.now }
+    requires masks { plan_of masks.now ≡ readings.now.plan }
+    ensures running { IfOk result (λ begun. (m : Masks) → IsRunning readings.now m (starting 0) begun.going.run.book begun.going.run.transcript begun.going.run.link) }
+    ensures meters { IfOk result (λ begun. AreMeters begun.going.run.book 0 begun.going.meters) }
+    ensures transcript { IfOk result (λ begun. begun.going.run.transcript ≡ no_entries plan.now) }
+    ensures hidden { IfOk result (λ begun. AreHidden readings.now (words_of masks.now) begun.hidden) }
+{
+    let hide = |masks: &ChaMasks| -> Result<HiddenReadings, AllocError>
+        requires { plan_of masks.now ≡ readings.now.plan }
+        ensures { IfOk result (AreHidden readings.entry.now (words_of masks.now)) }
+    { HiddenReadings::new(rt, alloc, readings, masks) };
+    let start = |plan: &Plan| -> Result<Going, AllocError>
+        requires { readings.now.plan ≡ plan.now }
+        ensures running { IfOk result (λ going. (m : Masks) → IsRunning readings.entry.now m (starting 0) going.run.book going.run.transcript going.run.link) }
+        ensures meters { IfOk result (λ going. AreMeters going.run.book 0 going.meters) }
+        ensures transcript { IfOk result (λ going. going.run.transcript ≡ no_entries plan.now) }
+    { begin(alloc, plan, readings) };
+    let (hidden, going) = beside(rt, hide, masks, start, plan);
+    Ok(Begun {
+        going: going?,
+        hidden: hidden?,
+    })
 }
 
 /// What a run has made, once it is over.
@@ -182,13 +217,15 @@ fn make_finished(run: Running) -> Finished
     Finished { book, transcript }
 }
 
-/// Runs a plan from its start to its end.
+/// Makes all ticks of a run that begins.
 fn run_whole<R: Threads + Wait + Sync, G: Gate>(
     context: &Context<R, G>,
-    plan: &Plan,
+    going: Going,
     rack: &mut Rack,
 ) -> Result<Finished, RunError>
-    requires readings { context.now.known.readings.now.plan ≡ plan.now }
+    requires running { IsRunning context.now.known.readings.now (words_of context.now.known.masks.now) (starting 0) going.run.book going.run.transcript going.run.link }
+    requires meters { AreMeters going.run.book 0 going.meters }
+    requires transcript { going.run.transcript ≡ no_entries context.now.known.readings.now.plan }
     requires known { IsOfOnePlan context.now.known }
     requires workers { (1 ≤ context.now.crew.workers) × (context.now.crew.workers ≤ 16) }
     requires posts { posts_of rack.old ≡ [] }
@@ -199,8 +236,7 @@ fn run_whole<R: Threads + Wait + Sync, G: Gate>(
     ensures members { IfOk result (λ f. IsPresenceTable f.book.presence.plan f.book.presence.table) }
 {
     readings_are_limited(context.known.readings);
-    let run = start(context.crew.alloc, plan, context.known.readings)?;
-    let run = run_with_meters(context, run, rack)?;
+    let run = run_ticks(context, going, rack)?;
     Ok(make_finished(run))
 }
 
@@ -227,7 +263,7 @@ pub fn run_plan<R: Threads + Wait + Sync, G: Gate>(
     ensures report { IfOk result (λ f. HasRowsOf f.transcript.entries f.book) }
 {
     let masks = ChaMasks::new(keys);
-    let hidden = HiddenReadings::new(rt, alloc, readings, &masks)?;
+    let Begun { going, hidden } = begin_and_hide(rt, alloc, plan, readings, &masks)?;
     let context = Context {
         crew: Crew {
             rt,
@@ -241,5 +277,5 @@ pub fn run_plan<R: Threads + Wait + Sync, G: Gate>(
             hidden: &hidden,
         },
     };
-    run_whole(&context, plan, rack)
+    run_whole(&context, going, rack)
 }

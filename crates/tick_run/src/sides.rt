@@ -32,7 +32,13 @@ pub(crate) struct Sides {
 }
 
 /// Does two jobs beside each other, each on a value of its own.
-fn beside<R: Threads, A, B, C, D, F, G>(rt: &R, first: F, a: A, second: G, b: B) -> (C, D)
+pub(crate) fn beside<R: Threads, A, B, C, D, F, G>(
+    rt: &R,
+    first: F,
+    a: A,
+    second: G,
+    b: B,
+) -> (C, D)
 where
     A: Send + Drop,
     B: Drop,

@@ -1,6 +1,7 @@
 use Rattle.std.proofs.Common.{subst, List}
 use Rattle.std.specs.Prelude.{Result, Ok, Err, IfOk}
 use Rattle.group_plan.specs.Tables.{ReadingsView, PresenceView, IsPresenceTable}
+use Rattle.mask_stream.specs.ChaMaskTables.{words_of}
 use Rattle.pair_keys.specs.Keys.{Keys, table_of}
 use Rattle.link_lanes.specs.Lanes.{Slot}
 use Rattle.tick_run.specs.declared.RunError.{RunError}
@@ -15,6 +16,9 @@ rows_if_made : (readings : ReadingsView) (keys : Keys) (hung : List Slot) (r : R
 rows_if_made readings keys hung (Ok f) finished members =
     rows-are readings keys hung f.book f.transcript (subst (λ (p : PresenceView). IsPresenceTable p.plan p.table) finished.presence members) finished
 rows_if_made readings keys hung (Err e) finished members = tt
+
+pub run_whole-requires-clause-running : goal.run_whole-requires-clause-running
+run_whole-requires-clause-running g c κs within = c.in_ok-going.ensures.running (words_of c.new-masks.result)
 
 pub returns-clause-finished : goal.returns-clause-finished
 returns-clause-finished g c = c.run_whole.ensures.finished (table_of c.args.keys.now) c.new-masks.ensures.words

@@ -10,23 +10,20 @@ use Rattle.tick_run.specs.Finished.{IsFinished}
 use Rattle.tick_run.proofs.FinishLemmas.{finishes, kept-fresh}
 use Rattle.tick_run.proofs.run.run_whole.Goals as goal
 
-pub run_with_meters-requires-clause-running : goal.run_with_meters-requires-clause-running
-run_with_meters-requires-clause-running g c κs within = c.in_ok-run.ensures.running (words_of c.args.context.now.known.masks.now)
-
 pub returns-clause-finished : goal.returns-clause-finished
 returns-clause-finished g c = λ keys words.
     let readings = c.args.context.now.known.readings.now in
-    let run = c.in_ok-run-2.run' in
+    let run = c.in_ok-run.run' in
     let made = c.make_finished.ensures in
     let hung = slots (λ b. (goal.Lane-dyn g (b.vtable, b.value)).meaning b.value) c.args.rack.now in
-    let kept = c.in_ok-run-2.ensures.fates _ (kept-fresh _ _ _ c.args.plan.now c.in_ok-run.run'.transcript c.requires.posts refl c.in_ok-run.ensures.transcript) in
+    let kept = c.in_ok-run.ensures.fates _ (kept-fresh _ _ _ c.args.context.now.known.readings.now.plan c.args.going.run.transcript c.requires.posts refl c.requires.transcript) in
     subst (λ (b : BookView). IsFinished readings keys hung b c.make_finished.result.transcript) (sym made.book)
     (subst (λ (t : TranscriptView). IsFinished readings keys hung run.book t) (sym made.transcript)
     (finishes readings keys (words_of c.args.context.now.known.masks.now) _ _ _ (last_tick readings.plan + 1) run.book run.transcript run.link
-    c.readings_are_limited.ensures.limits c.readings_are_limited.ensures.table words refl c.in_ok-run-2.ensures.running kept
+    c.readings_are_limited.ensures.limits c.readings_are_limited.ensures.table words refl c.in_ok-run.ensures.running kept
     (subst (λ (b : BookView). IsJournalAfter (shape_of b) [] b.journal) made.book made.legal)))
 
 pub returns-clause-posts : goal.returns-clause-posts
 returns-clause-posts g c =
-    let kept = c.in_ok-run-2.ensures.fates _ (kept-fresh _ _ _ c.args.plan.now c.in_ok-run.run'.transcript c.requires.posts refl c.in_ok-run.ensures.transcript) in
+    let kept = c.in_ok-run.ensures.fates _ (kept-fresh _ _ _ c.args.context.now.known.readings.now.plan c.args.going.run.transcript c.requires.posts refl c.requires.transcript) in
     kept.posts_are ∙ ap (λ (t : TranscriptView). posts_of t.entries) (sym c.make_finished.ensures.transcript)
