@@ -5,5 +5,6 @@ pub mod NumberLaws
 pub mod Plus
 pub mod SetLaws
 pub mod SetLoop
+pub mod SmallNumbers
 pub mod SpelledLaws
 pub mod TextLaws

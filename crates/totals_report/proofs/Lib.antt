@@ -1,3 +1,4 @@
+pub mod KindLemmas
 pub mod RowLemmas
 pub mod LineLemmas
 pub mod RowLaws

@@ -4,7 +4,7 @@ ghost use Rattle.run_rows.specs.Summary.{is_sending, is_taking};
 ghost use Rattle.totals_report.specs.Counts.{is_total, is_lacking, is_thin};
 
 use crate::row::{ReportRow, RowOutcome};
-use transcript_log::{Line, Lines};
+use transcript_log::Lines;
 
 /// How many rounds there are, how many of each outcome, how many Sends with a frame, and how many Takes.
 #[derive(Drop)]
@@ -55,10 +55,11 @@ pub(crate) fn count_lines(lines: &Lines) -> (u64, u64)
     let mut sends = 0u64;
     let mut takes = 0u64;
     for at in 0..lines.len() {
-        match lines.at(at) {
-            Line::Send { frame: Some(_), .. } => sends += 1,
-            Line::Take { .. } => takes += 1,
-            _ => {}
+        if lines.is_sending(at) {
+            sends += 1;
+        }
+        if lines.is_taking(at) {
+            takes += 1;
         }
     }
     (sends, takes)

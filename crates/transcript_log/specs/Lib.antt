@@ -7,6 +7,7 @@ pub mod Journal
 pub mod Statements
 pub mod Rows
 pub mod Lines
+pub mod Kinds
 pub mod SmallLines
 pub mod Transcripts
 pub mod Stamps

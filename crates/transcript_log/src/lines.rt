@@ -1,12 +1,14 @@
 //! A list of lines that is kept small: 24 bytes a line, beside the sets of meters that lines name.
 
 ghost use Rattle.std.specs.Prelude.{◌≡◌, ◌↔◌, ◌^◌, ◌-◌, ◌+◌, ◌<◌, ◌≤◌, ◌++◌, [], ◌∷◌, Some, IsTrue, IfOk, OnOk, OnErr, All, length, slice_get, slice_index_or, vec_len, vec_capacity};
+ghost use Rattle.transcript_log.specs.declared.Line.{Line};
+ghost use Rattle.transcript_log.specs.Kinds.{is_sending, is_taking};
 ghost use Rattle.transcript_log.specs.Lines.{HasOwnTag};
 ghost use Rattle.transcript_log.specs.SmallLines.{set_of, StandsAt, Grows};
 ghost use Rattle.transcript_log.specs.Transcripts.{IsLine};
 
 use crate::Line;
-use crate::small::{SmallLine, line_in, set_of, small_line};
+use crate::small::{SmallLine, is_sending, is_taking, line_in, set_of, small_line};
 use crate::transcript::line_is;
 use missing_round::MeterSet;
 use std::alloc::{AllocError, Global};
@@ -138,6 +140,22 @@ impl Lines {
         ensures { result ≡ slice_index_or self.now.items at result }
     {
         line_in(&self.sets, &self.lines[at])
+    }
+
+    /// Whether the line at a place is a Send with a frame.
+    pub fn is_sending(&self, at: usize) -> bool
+        requires { at < length self.now.items }
+        ensures { (line : Line) → result ≡ is_sending (slice_index_or self.now.items at line) }
+    {
+        is_sending(&self.lines[at])
+    }
+
+    /// Whether the line at a place is a Take.
+    pub fn is_taking(&self, at: usize) -> bool
+        requires { at < length self.now.items }
+        ensures { (line : Line) → result ≡ is_taking (slice_index_or self.now.items at line) }
+    {
+        is_taking(&self.lines[at])
     }
 
     /// Adds a line where there is room for it.

@@ -1,6 +1,7 @@
 //! Lines in a small form, of at most 24 bytes: each names its set of meters by a place in a list of sets.
 
 ghost use Rattle.std.specs.Prelude.{◌≡◌, ◌<◌, List, ℕ, length};
+ghost use Rattle.transcript_log.specs.Kinds.{is_sending, is_taking};
 ghost use Rattle.transcript_log.specs.Lines.{HasOwnTag};
 ghost use Rattle.transcript_log.specs.SmallLines.{set_at, tag_in, closing_in, ending_in, line_in, ClosingIsPlaced, EndingIsPlaced, IsPlaced, set_of_closing, set_of_ending, set_of, StandsAt, ClosingIsKept, EndingIsKept, IsKept};
 
@@ -171,6 +172,20 @@ pub(crate) fn line_in(sets: &[MeterSet], line: &SmallLine) -> Line
             ending: ending_in(sets, ending),
         },
     }
+}
+
+/// Whether a small line stands for a Send with a frame.
+pub(crate) fn is_sending(line: &SmallLine) -> bool
+    ensures { (sets : List (List ℕ)) → result ≡ is_sending (line_in sets line.now) }
+{
+    matches!(line, SmallLine::Sent { .. })
+}
+
+/// Whether a small line stands for a Take.
+pub(crate) fn is_taking(line: &SmallLine) -> bool
+    ensures { (sets : List (List ℕ)) → result ≡ is_taking (line_in sets line.now) }
+{
+    matches!(line, SmallLine::Took { .. })
 }
 
 fn set_of_closing(closing: Closing) -> Option<MeterSet>

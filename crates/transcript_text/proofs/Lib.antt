@@ -29,6 +29,7 @@ mod CleanFields
 mod EntriesAgain
 mod SpanAgain
 mod HeadAgain
+mod HexLemmas
 pub mod ReadAgain
 pub mod WholeLines
 mod Located

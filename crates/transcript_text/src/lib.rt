@@ -8,6 +8,7 @@ mod fault;
 mod fields;
 mod head;
 mod head_writing;
+mod hex_digits;
 mod lines;
 mod made;
 mod pieces;

@@ -7,6 +7,7 @@ ghost use Rattle.field_texts.specs.Sets.{numbers_text};
 ghost use Rattle.transcript_text.specs.Spelling.{ended, joined, verdict_text, tag_fields, sent_fields, closing_fields, ending_fields, entry_text, entries_text};
 ghost use Rattle.transcript_text.specs.Writing.{IsWritable, text_from};
 
+use crate::hex_digits::hex_digits;
 use field_texts::{put_number, put_set};
 use group_plan::{Kind, Tag};
 use link_lanes::Fate;
@@ -65,11 +66,7 @@ fn put_frame(out: &mut Vec<u8>, frame: &Frame) -> Result<(), AllocError>
     requires { FitsKind frame.now.tag.kind frame.now.missing frame.now.word }
     ensures { OnOk result (out.new.items ≡ out.old.items ++ encode_lower (spelling frame.now)) }
 {
-    let mut digits = [0u8; 104];
-    if hex::encode_to_slice(encode(frame), &mut digits).is_err() {
-        unreachable!()
-    }
-    out.extend_from_slice(&digits)
+    out.extend_from_slice(&hex_digits(&encode(frame)))
 }
 
 /// The fate and the frame of a Send, each after a comma, or `void` where it had no effect.

@@ -1,0 +1,30 @@
+//! The bytes of a frame in hexadecimal digits.
+
+ghost use Rattle.std.specs.Prelude.{◌≡◌, ◌<◌, slice_index};
+ghost use Rattle.hex.specs.Hex.{encode_lower, lower_digits};
+
+/// The digit of a number below 16. It is computed and not looked up, so that many are made at once.
+#[tactic(auto, using(crate::proofs::HexLemmas::digit_low, crate::proofs::HexLemmas::digit_high))]
+fn hex_digit(number: u8) -> u8
+    requires { number < 16 }
+    ensures { result ≡ slice_index lower_digits number }
+{
+    if number < 10 {
+        b'0' + number
+    } else {
+        b'a' - 10 + number
+    }
+}
+
+/// Two digits for each byte, the high four bits first.
+pub(crate) fn hex_digits(bytes: &[u8; 52]) -> [u8; 104]
+    ensures { result ≡ encode_lower bytes.now }
+{
+    let mut digits = [0u8; 104];
+    for at in 0..52usize {
+        let byte = bytes[at];
+        digits[2 * at] = hex_digit(byte >> 4);
+        digits[2 * at + 1] = hex_digit(byte & 0x0f);
+    }
+    digits
+}
