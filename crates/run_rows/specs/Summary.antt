@@ -1,10 +1,10 @@
 -- The summary of a run: how many rounds of each kind, how many Sends and how many Takes.
-use Rattle.std.specs.Prelude.{ℕ, ◌*◌, Bool, true, false, List, length, map, reverse, sum_by, count_by, Some}
+use Rattle.std.specs.Prelude.{ℕ, ◌*◌, Bool, true, false, List, length, map, reverse, sum_by, count_by}
 use Rattle.std.specs.List.{flat_map, range_with_len}
 use Rattle.link_lanes.specs.declared.Post.{Post}
 use Rattle.transcript_log.specs.declared.Line.{Line}
-use Rattle.transcript_log.specs.declared.Line.TheVariants.{Send as SendLine, Take as TakeLine}
 use Rattle.transcript_log.specs.Events.{event_of}
+pub use Rattle.transcript_log.specs.Kinds.{is_sending, is_taking}
 use Rattle.transcript_log.specs.Schedule.{Shape}
 use Rattle.run_rows.specs.Ticks.{Clock}
 use Rattle.run_rows.specs.Report.{Row, ThinRow, TotalRow, NoneRow, row, outcome_row, fate_at}
@@ -45,14 +45,6 @@ summary s c rows sends takes = record {
 }
 
 -- ---- of a list of lines: a Send counts where it has a frame
-
-abbrev pub is_sending : Line → Bool
-is_sending (SendLine tag (Some f)) = true
-is_sending _ = false
-
-abbrev pub is_taking : Line → Bool
-is_taking (TakeLine tag v) = true
-is_taking _ = false
 
 abbrev pub summary_of_lines : Shape → Clock → (ℕ → ℕ → List ℕ → ℕ) → List Line → Summary
 summary_of_lines s c total ls =

@@ -1,4 +1,3 @@
-pub mod KindLemmas
 pub mod RowLemmas
 pub mod LineLemmas
 pub mod RowLaws

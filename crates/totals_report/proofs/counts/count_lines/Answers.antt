@@ -1,11 +1,10 @@
-use Rattle.std.proofs.Common.{◌≡◌, ◌+◌, ◌<◌, ◌≤◌, length, take, get_or, sym, ap, ◌∙◌, arith}
+use Rattle.std.proofs.Common.{◌≡◌, ◌+◌, ◌<◌, ◌≤◌, length, take, sym, ap, ◌∙◌, arith}
 use Rattle.std.specs.List.{count_by}
 use Rattle.std.proofs.lemmas.List.Sums.{count_by_more_yes, count_by_more_no}
 use Rattle.round_machine.specs.declared.Closing.TheVariants.{Already}
 use Rattle.transcript_log.specs.declared.Line.{Line}
 use Rattle.transcript_log.specs.declared.Line.TheVariants.{Close}
 use Rattle.run_rows.specs.Summary.{is_sending, is_taking}
-use Rattle.totals_report.proofs.KindLemmas.{same_sending, same_taking}
 use Rattle.totals_report.proofs.counts.count_lines.Goals.{then-is_sending, else-is_sending, then-is_taking, else-is_taking}
 use Rattle.totals_report.proofs.counts.count_lines.Goals as goal
 
@@ -15,8 +14,8 @@ loop-at-preserved c =
     let at = c.loop-at.at in
     let within : at < length lines = omega (arith, c.loop-at-test.true, c.len-at-end.ensures.len) in
     let other : Line = Close 0 0 Already in
-    let sending = c.is_sending.ensures other ∙ same_sending (get_or lines at other) in
-    let taking = c.is_taking.ensures other ∙ same_taking (get_or lines at other) in
+    let sending = c.is_sending.ensures other in
+    let taking = c.is_taking.ensures other in
     let sends : (c.if-is_sending.sends ≡ count_by is_sending (take (at + 1) lines)) × (c.if-is_sending.sends ≤ at + 1) =
     elim c.if-is_sending.branch [
       | then-is_sending w ↦ (
