@@ -7,13 +7,15 @@ A small library is compiled by cc and put before the C library by LD_PRELOAD. It
 program is run with N = 1, 2, 3 .. until a run makes fewer calls. The kinds are
 
     memory   malloc, calloc, realloc and aligned_alloc find none
-    open, read, write, fsync, rename     the call fails
+    open, read, write, fsync, fdatasync, rename     the call fails
+    handle   the call for a second handle of a file fails
     short    a read or write moves one byte in place of several
 
 One line of a table is printed for each command and kind: how many runs, how they ended, and how many left something wrong:
 another file than the command's own; a file that is neither what was there nor what the command puts; or, at the command's
 own status, other files or another output than where nothing is refused. The exit status is 0 where each run ended with a
-status that the kind has (memory: 1 or the command's own; short: the command's own; the others: 3, 4 or the command's own)
+status that the kind has (memory: 1 or the command's own; short and handle: the command's own; the others: 3, 4 or the
+command's own)
 and left nothing wrong, and else 1.
 """
 import argparse
@@ -25,7 +27,8 @@ import tempfile
 
 from fuzz import EXAMPLES, PROGRAM, files_in, names_in, sample_files, words_of, write_files
 
-# Each command with the status that it ends with where nothing is refused. One worker, so that each run makes the same calls.
+# Each command with the status that it ends with where nothing is refused. One worker, so that each run makes the same calls of a
+# kind in the same order.
 COMMANDS = [
     ("run <plan <readings >report >transcript 1", 0),
     ("run <plan <readings_with_a_fault >report >transcript 1", 6),
@@ -38,9 +41,13 @@ COMMANDS = [
     ("load 1 4 8 2 1 >transcript", 0),
 ]
 
+# A command whose transcript of 6 MB is written in two groups: only calls on files are refused, since it asks for memory too often.
+LARGE_COMMAND = ("load 1 8 20 96 1 >transcript", 0)
+LARGE_KINDS = ("open", "write", "fsync", "fdatasync", "handle", "rename")
+
 Usual = collections.namedtuple("Usual", "status printed files")
 
-KINDS = ("memory", "open", "read", "write", "fsync", "rename", "short")
+KINDS = ("memory", "open", "read", "write", "fsync", "fdatasync", "handle", "rename", "short")
 
 SHIM = r"""
 #define _GNU_SOURCE
@@ -97,7 +104,16 @@ ssize_t write(int fd, const void *buffer, size_t n) {
     return syscall(SYS_write, fd, buffer, n > 1 && is_refused("short") ? 1 : n);
 }
 
+int fcntl(int fd, int command, ...) {
+    va_list rest;
+    va_start(rest, command);
+    long value = va_arg(rest, long);
+    va_end(rest);
+    return command == F_DUPFD_CLOEXEC && is_refused("handle") ? -1 : syscall(SYS_fcntl, fd, command, value);
+}
+
 int fsync(int fd) { return is_refused("fsync") ? -1 : syscall(SYS_fsync, fd); }
+int fdatasync(int fd) { return is_refused("fdatasync") ? -1 : syscall(SYS_fdatasync, fd); }
 int rename(const char *from, const char *to) { return is_refused("rename") ? -1 : syscall(SYS_rename, from, to); }
 """
 
@@ -132,7 +148,7 @@ def case_files(files, command):
 
 
 def allowed(kind, usual):
-    return {"memory": {1, usual}, "short": {usual}}.get(kind, {3, 4, usual})
+    return {"memory": {1, usual}, "short": {usual}, "handle": {usual}}.get(kind, {3, 4, usual})
 
 
 def is_wrong(usual, status, printed, before, after):
@@ -215,15 +231,16 @@ def main():
     print("| Run | Refused | Runs | Ended | Wrong |\n|---|---|---|---|---|")
     with tempfile.TemporaryDirectory(prefix="refused-") as folder:
         shim = compiled_shim(folder)
-        for command, status in COMMANDS:
+        for command, status, kinds in [(*command, KINDS) for command in COMMANDS] + [(*LARGE_COMMAND, LARGE_KINDS)]:
             usual = usual_run(options.program, command, files)
             # A command that the program doesn't have.
             if usual.status == 2:
                 continue
             if usual.status != status:
                 sys.exit(f"refused_calls: {command} ended with status {usual.status}")
-            for kind in options.kind or KINDS:
-                good &= try_kind(options, shim, command, usual, kind, files)
+            for kind in kinds:
+                if kind in (options.kind or KINDS):
+                    good &= try_kind(options, shim, command, usual, kind, files)
     return 0 if good else 1
 
 

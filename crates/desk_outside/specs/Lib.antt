@@ -1,4 +1,5 @@
 pub mod Desk
 pub mod Files
+pub mod Groups
 pub mod Memory
 pub mod Parts

@@ -7,10 +7,11 @@ use crate::pieces::{Slice, write_pieces};
 use crate::whole::{FileId, replace, without_link};
 use crate::{Desk, DeskError, FetchError, Pieces};
 use std::alloc::Global;
-use std::fs::{OpenFile, OpenOptions};
+use std::fs::{File, OpenFile, OpenOptions};
 use std::io::{ErrorKind, Read};
 use std::path::Path;
 use std::rt::Files;
+use std::thread::Threads;
 use std::{fs, io, str};
 
 // The name of standard output.
@@ -28,7 +29,7 @@ pub struct FileDesk<'r, R> {
     ghost counted: { faults < 2 ^ 64 },
 }
 
-impl<'r, R: Files + Print + Eprint + AllocGlobal> FileDesk<'r, R> {
+impl<'r, R: Files<File = File> + Print + Eprint + AllocGlobal + Threads> FileDesk<'r, R> {
     ghost use Rattle.desk_outside.specs.Files.{faults_of};
 
     /// A desk that has fetched nothing and counts no fault.
@@ -76,7 +77,7 @@ impl<'r, R: Files + Print + Eprint + AllocGlobal> FileDesk<'r, R> {
     // Puts the pieces where the name leads to a file or to something else that takes bytes.
     fn put_over<P: Pieces>(
         &self,
-        mut found: R::File,
+        mut found: File,
         name: &str,
         pieces: &mut P,
     ) -> Result<(), DeskError>
@@ -130,7 +131,7 @@ fn put_error(error: io::Error) -> DeskError {
 }
 
 #[tactic(auto, unfolding(crate::specs::Desk::after_step))]
-impl<'r, R: Files + Print + Eprint + AllocGlobal> Desk for FileDesk<'r, R> {
+impl<'r, R: Files<File = File> + Print + Eprint + AllocGlobal + Threads> Desk for FileDesk<'r, R> {
     ghost use Rattle.desk_outside.specs.Files.{faults_of, CountsFetch, Counts};
 
     ghost view = { λ _. untold };

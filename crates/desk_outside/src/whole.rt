@@ -1,13 +1,14 @@
 //! Whole files: the bytes go into a new file beside the name, which takes the name once all of them are there.
 
 use crate::Pieces;
-use crate::pieces::write_pieces;
+use crate::flow::write_groups;
 use std::alloc::Global;
 use std::fs::{Metadata, OpenFile, OpenOptions, Permissions};
 use std::io::{ErrorKind, Write};
 use std::os::unix::fs::{MetadataExt, OpenOptionsExt};
 use std::path::{Path, PathBuf};
 use std::rt::Files;
+use std::thread::Threads;
 use std::{fs, io};
 
 // How many names of new files are tried.
@@ -52,7 +53,8 @@ fn create_beside<R: Files>(
 }
 
 // Writes all the pieces and has them on the disk.
-fn fill<F: Write + OpenFile + Drop, P: Pieces>(
+fn fill<R: Threads, F: Write + OpenFile + Drop + Send, P: Pieces>(
+    rt: &R,
     alloc: Global,
     mut file: F,
     permissions: Option<Permissions>,
@@ -63,13 +65,13 @@ fn fill<F: Write + OpenFile + Drop, P: Pieces>(
     if let Some(permissions) = permissions {
         file.set_permissions(permissions)?;
     }
-    write_pieces(alloc, &mut file, pieces)?;
+    write_groups(rt, alloc, &mut file, pieces)?;
     file.sync_all()
 }
 
 // Puts a file of these pieces in place of what the path names, with these permissions or those of any new file. Where
 // that fails the path names what it named, and nothing is left beside it.
-pub(crate) fn replace<R: Files, P: Pieces>(
+pub(crate) fn replace<R: Files<File = F> + Threads, F: Write + OpenFile + Send + Drop, P: Pieces>(
     rt: &R,
     alloc: Global,
     path: Path<'_>,
@@ -80,7 +82,7 @@ pub(crate) fn replace<R: Files, P: Pieces>(
 {
     let mode = if permissions.is_some() { 0o600 } else { 0o666 };
     let (file, beside) = create_beside(rt, alloc, path, mode)?;
-    let renamed = match fill(alloc, file, permissions, pieces) {
+    let renamed = match fill(rt, alloc, file, permissions, pieces) {
         Ok(()) => fs::rename(rt, &beside, path),
         Err(error) => Err(error),
     };

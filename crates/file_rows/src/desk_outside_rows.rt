@@ -1,8 +1,10 @@
 //! The desk in memory, and the desk over real files.
 
 use crate::fixtures::{check, check_bytes, check_same};
-use desk_outside::{Desk, DeskCall, DeskError, DeskKind, FetchError, FileDesk, MemoryDesk};
-use std::alloc::Global;
+use desk_outside::{
+    Desk, DeskCall, DeskError, DeskKind, FetchError, FileDesk, MemoryDesk, Pieces,
+};
+use std::alloc::{AllocError, Global};
 use std::fs::Permissions;
 use std::io::Read;
 use std::os::fd::AsRawFd;
@@ -269,5 +271,76 @@ fn file_desk_writes_a_pipe_as_it_is(rt: HostRuntime) -> Result<(), Fail> {
     check_piped(&rt, &mut reader)?;
     check_puts(&rt, &mut desk, &[("/dev/null", b"gone", Ok(()))]);
     check(&rt, !fs::metadata(&rt, "/dev/null")?.is_file(), "no file");
+    Ok(())
+}
+
+// Bytes of a piece.
+const PIECE_BYTES: usize = 1 << 16;
+
+// The pieces of these bytes, after which there is no memory.
+#[derive(Drop)]
+struct Broken<'a> {
+    rest: &'a [u8],
+}
+
+impl Pieces for Broken<'_> {
+    ghost use Rattle.std.specs.Prelude.{⊤};
+
+    ghost rest = { λ pieces. pieces.rest.now };
+
+    ghost ready = { λ pieces. ⊤ };
+
+    fn next(&mut self, piece: &mut Vec<u8>) -> Result<(), AllocError> {
+        if self.rest.is_empty() {
+            return Err(AllocError);
+        }
+        let (front, after) = self.rest.split_at(self.rest.len().min(PIECE_BYTES));
+        piece.clear();
+        piece.extend_from_slice(front)?;
+        self.rest = after;
+        Ok(())
+    }
+}
+
+// The bytes of 160 pieces, 10 MB, no two pieces alike. So many are written in several groups.
+fn bytes_of_groups(alloc: Global) -> Result<Vec<u8>, AllocError> {
+    let mut bytes = Vec::new(alloc);
+    for number in 0..160u8 {
+        bytes.resize((usize::from(number) + 1) * PIECE_BYTES, number)?;
+    }
+    Ok(bytes)
+}
+
+#[test]
+fn file_desk_puts_a_file_of_several_groups(rt: HostRuntime) -> Result<(), Fail> {
+    let alloc = rt.alloc();
+    empty_folder(&rt, "group_test")?;
+    let bytes = bytes_of_groups(alloc)?;
+    let mut desk = FileDesk::new(&rt);
+    let puts = [
+        ("group_test/a", b"old".as_slice(), Ok(())),
+        ("group_test/a", bytes.as_slice(), Ok(())),
+    ];
+    check_puts(&rt, &mut desk, &puts);
+    let came = fs::read(&rt, "group_test/a")?;
+    check_bytes(&rt, &came, &bytes, "several groups");
+    check_count(&rt, "group_test", 1)?;
+    fs::remove_dir_all(&rt, "group_test")?;
+    Ok(())
+}
+
+#[test]
+fn file_desk_keeps_a_file_where_pieces_fail_after_a_group(rt: HostRuntime) -> Result<(), Fail> {
+    let alloc = rt.alloc();
+    empty_folder(&rt, "broken_test")?;
+    let bytes = bytes_of_groups(alloc)?;
+    let mut desk = FileDesk::new(&rt);
+    check_puts(&rt, &mut desk, &[("broken_test/a", b"old", Ok(()))]);
+    let put = desk.put_pieces("broken_test/a", &mut Broken { rest: &bytes });
+    check_same(&rt, &put, &Err(DeskError::Memory), "the pieces");
+    let came = fs::read(&rt, "broken_test/a")?;
+    check_bytes(&rt, &came, b"old", "the old bytes");
+    check_count(&rt, "broken_test", 1)?;
+    fs::remove_dir_all(&rt, "broken_test")?;
     Ok(())
 }
