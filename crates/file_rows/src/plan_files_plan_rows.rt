@@ -419,21 +419,82 @@ fn check_keys(rt: &impl Abort, keys: &KeyTable) {
     assert!(rt; is_place && keys.pair(0, 0, 1)[0] == 3);
 }
 
-#[test]
-fn value_of_a_plan(rt: HostRuntime) -> Result<(), Fail> {
-    let file = plan_file(
-        rt.alloc(),
-        2,
-        10,
-        "rounds,3\nwindows,4,5\ngroup,east,2,2\nmember,0,1,1,3",
-        "lane,seeded,1:2:3:4,0,43\nown,0,0,00000000000000000000000000000000000000000000000000000000000000f1\nown,0,1,00000000000000000000000000000000000000000000000000000000000000F2\npair,0,0,1,0300000000000000000000000000000000000000000000000000000000000000\nlane,clear,,2,2",
-    )?;
-    let Ok(value) = read(rt.alloc(), file.as_slice()) else {
+// What a plan of three rounds says up to its first member row, and the rows behind that.
+const HEAD: &str = "rounds,3\nwindows,4,5\ngroup,east,2,2\nmember,0,1,1,3";
+
+const REST: &str =
+    "lane,seeded,1:2:3:4,0,43\nown,0,0,00000000000000000000000000000000000000000000000000000000000000f1\nown,0,1,00000000000000000000000000000000000000000000000000000000000000F2\npair,0,0,1,0300000000000000000000000000000000000000000000000000000000000000\nlane,clear,,2,2";
+
+// Looks for the value of this plan.
+fn check_value(rt: &impl Abort, alloc: Global, bytes: &[u8]) {
+    let Ok(value) = read(alloc, bytes) else {
         panic!(rt; "refused")
     };
-    check_plan(&rt, &value.plan);
-    check_lanes(&rt, &value.lanes);
-    check_keys(&rt, &value.keys);
+    check_plan(rt, &value.plan);
+    check_lanes(rt, &value.lanes);
+    check_keys(rt, &value.keys);
+}
+
+#[test]
+fn value_of_a_plan(rt: HostRuntime) -> Result<(), Fail> {
+    let file = plan_file(rt.alloc(), 2, 10, HEAD, REST)?;
+    check_value(&rt, rt.alloc(), file.as_slice());
+    Ok(())
+}
+
+const QUOTED_HEAD: &str = "rounds,\"3\"\nwindows,4,5\n\"group\",east,2,\"2\"\nmember,0,1,1,3";
+
+const EXCHANGED_REST: &str =
+    "lane,seeded,1:2:3:4,0,43\npair,0,0,1,0300000000000000000000000000000000000000000000000000000000000000\nown,0,1,00000000000000000000000000000000000000000000000000000000000000F2\nown,0,0,00000000000000000000000000000000000000000000000000000000000000f1\nlane,clear,,2,2";
+
+// Spellings of this plan: the first rows, those behind them, and a byte of the file with what stands in its place.
+static SPELLINGS: [(&str, &str, u8, &str); 10] = [
+    (HEAD, REST, b'\n', "\n"),
+    (HEAD, REST, b'\n', "\n\n"),
+    (HEAD, REST, b'\n', "\r\n"),
+    (HEAD, REST, b'\n', "\r"),
+    (HEAD, REST, b'f', "F"),
+    (HEAD, REST, b'F', "f"),
+    (QUOTED_HEAD, REST, b'\n', "\n"),
+    (QUOTED_HEAD, REST, b'\n', "\r\n"),
+    (HEAD, EXCHANGED_REST, b'\n', "\n"),
+    (QUOTED_HEAD, EXCHANGED_REST, b'\n', "\n"),
+];
+
+// The file with a text in place of each such byte.
+fn respelled(alloc: Global, file: &[u8], old: u8, new: &str) -> Result<Vec<u8>, AllocError> {
+    let mut out = Vec::new(alloc);
+    for byte in file {
+        if *byte == old {
+            out.extend_from_slice(new.as_bytes())?;
+        } else {
+            out.push(*byte)?;
+        }
+    }
+    Ok(out)
+}
+
+// A spelling of the plan, without the end of its last line.
+fn spelling(
+    alloc: Global,
+    head: &str,
+    rest: &str,
+    old: u8,
+    new: &str,
+) -> Result<Vec<u8>, AllocError> {
+    let file = plan_file(alloc, 2, 10, head, rest)?;
+    respelled(alloc, file.as_slice(), old, new)
+}
+
+#[test]
+fn spellings_of_a_plan(rt: HostRuntime) -> Result<(), Fail> {
+    for case in SPELLINGS.iter() {
+        let (head, rest, old, new) = *case;
+        let mut file = spelling(rt.alloc(), head, rest, old, new)?;
+        check_value(&rt, rt.alloc(), file.as_slice());
+        file.push(b'\n')?;
+        check_value(&rt, rt.alloc(), file.as_slice());
+    }
     Ok(())
 }
 

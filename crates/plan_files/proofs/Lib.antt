@@ -5,6 +5,7 @@ pub mod FormLemmas
 pub mod GatherLemmas
 pub mod KeyLemmas
 pub mod KeyOrder
+pub mod LineLemmas
 pub mod MissingLemmas
 pub mod PlainRowLemmas
 pub mod PlainTexts

@@ -99,7 +99,7 @@ reads_rows rows plain = sym (all_records (file_text rows) rows (st.StartRecord, 
 
 -- ---- no byte order mark
 
-small_start : (c : ℕ) (text : List ℕ) → nat_lt c 128 ≡ true → strip_bom (c ∷ text) ≡ c ∷ text
+pub small_start : (c : ℕ) (text : List ℕ) → nat_lt c 128 ≡ true → strip_bom (c ∷ text) ≡ c ∷ text
 unfolding strip_bom
 small_start c [] small = refl
 small_start c (d ∷ []) small = refl

@@ -4,8 +4,12 @@ use Rattle.csv.specs.Machine.{Read, next_record}
 use Rattle.csv.specs.Reading.{NextIs, ReadRecord, ReadsNext, default_config, pending_of, reader_config, reader_state, records_from, records_next, took_first}
 use Rattle.csv.specs.declared.parser.Config.{Config}
 use Rattle.csv.specs.declared.parser.State.{State}
+use Rattle.csv.specs.declared.parser.State.TheVariants as st
 use Rattle.csv.specs.declared.reader.Reader.{Reader}
-use Rattle.plan_files.specs.RowsLeft.{IsBetweenRows, bytes_left, rows_in}
+use Rattle.plan_files.specs.PlainLines.{IsRowRead, next_row}
+use Rattle.plan_files.specs.RowsLeft.{IsBetweenRows, ReadsOn, bytes_left, rows_from, rows_in}
+use Rattle.plan_files.specs.declared.row_reader.Source.{Source}
+use Rattle.plan_files.specs.declared.row_reader.Source.TheVariants as source
 use Rattle.plan_files.proofs.AllRecords.{IsBetween, next_shrinks}
 
 same_next : (n m : ℕ) (o : Option Read) → ((p : Read) → o ≡ Some p → records_from default_config n p.1 p.2 ≡ records_from default_config m p.1 p.2)
@@ -91,3 +95,16 @@ read_on a b false f sound first read = (
   sym (missed_from (reader_config a) (reader_state a) (reader_state b) (bytes_left a) (pending_of (Some b.rdr.now) b) sound.left.0 f sound.plain sound.left.1 read.0),
   λ e. cc e,
 )
+
+-- ---- lines
+
+-- a line that is read is the next row
+pub line_found : (old : Source) (left rest : Bor (List ℕ)) (fields : List (List ℕ)) → old ≡ source.Lines left → IsRowRead left.now fields rest.now → ReadsOn old (source.Lines rest) true fields
+line_found old left rest fields is read =
+    let one = one_row (length left.now + 1) (length rest.now + 1) st.StartRecord left.now (fields, st.StartRecord, rest.now) refl (omega arith) (omega arith) read.row in
+    record { rows = sym one.1 ∙ sym (ap rows_from is); sound = λ _. read.unmarked }
+
+-- where no line is left, there is no row
+pub line_missed : (old new : Source) (left : Bor (List ℕ)) (fields : List (List ℕ)) → old ≡ source.Lines left → next_row left.now ≡ None → ReadsOn old new false fields
+line_missed old new left fields is none =
+    record { rows = sym (no_rows (length left.now + 1) st.StartRecord left.now none) ∙ sym (ap rows_from is); sound = λ e. cc e }

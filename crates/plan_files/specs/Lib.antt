@@ -1,9 +1,11 @@
 pub mod AcceptedFiles
+pub mod DigitValues
 pub mod Faults
 pub mod Filling
 pub mod Gathering
 pub mod MissingKeys
 pub mod PlanFiles
+pub mod PlainLines
 pub mod PlainRows
 pub mod PlanForms
 pub mod PlanRows

@@ -7,6 +7,7 @@ mod gathering;
 mod head;
 mod key;
 pub mod laws;
+mod lines;
 mod plan;
 mod readings;
 mod row;
