@@ -97,7 +97,7 @@ all_filtered P F p q a (suc n) each = step (q a) (p a) refl refl (all_filtered P
 all_members : {X : Type 0} (P : X → Type 0) (F : ℕ → X) (s : Shape) (g r : ℕ) (p : ℕ → Bool) → ((i : ℕ) → i < size s.groups g → is_member s.groups g r i ≡ true → p i ≡ true → P (F i)) → All P (map F (filter p (members_of s g r)))
 all_members P F s g r p each = all_filtered P F p (is_member s.groups g r) 0 (size s.groups g) (λ i below. each i (omega arith))
 
-all_flat : {X : Type 0} (P : X → Type 0) (F : ℕ → List X) (a n : ℕ) → ((r : ℕ) → r < a + n → All P (F r)) → All P (flat_map F (range_with_len a n))
+pub all_flat : {X : Type 0} (P : X → Type 0) (F : ℕ → List X) (a n : ℕ) → ((r : ℕ) → r < a + n → All P (F r)) → All P (flat_map F (range_with_len a n))
 all_flat P F a zero each = All-nil P
 all_flat P F a (suc n) each = All-append P (F a) (flat_map F (range_with_len (a + 1) n)) (each a (omega arith)) (all_flat P F (a + 1) n (λ r below. each r (omega arith)))
 

@@ -1,7 +1,7 @@
 -- How a run goes on by Sends, with the fates that the lanes give.
 use Rattle.std.proofs.Common.{◌≡◌, ℕ, ◌+◌, true, ◌&&◌, List, [], ◌∷◌, ◌++◌, map, refl, sym, ap, ◌∙◌, subst, append_assoc, append-nil, arith}
 use Rattle.std.specs.Prelude.{nat_lt, Some}
-use Rattle.std.specs.List.{filter}
+use Rattle.std.specs.List.{filter, All}
 use Rattle.std.proofs.lemmas.Bool.{and_from, lt-ltb}
 use Rattle.std.proofs.lemmas.List.{map-append}
 use Rattle.missing_round.specs.Masks.{Masks}
@@ -9,25 +9,24 @@ use Rattle.group_plan.specs.Plans.{size}
 use Rattle.group_plan.specs.Tables.{ReadingsView}
 use Rattle.group_plan.specs.declared.Tag.{Tag}
 use Rattle.link_lanes.specs.declared.Post.{Post}
-use Rattle.link_lanes.specs.Lanes.{Slot, after_posts, lasts, fate_after, fates_after}
-use Rattle.lossy_link.specs.Arrivals.{Arrival}
+use Rattle.link_lanes.specs.Lanes.{Slot, after_post, after_posts, lasts, fates_after}
+use Rattle.lossy_link.specs.Arrivals.{Arrival, posted}
 use Rattle.meter_frames.specs.declared.Frame.{Frame}
+use Rattle.meter_frames.specs.Frames.{spelling, IsFrame}
 use Rattle.transcript_log.specs.declared.Event.TheVariants.{Send}
 use Rattle.transcript_log.specs.declared.Line.TheVariants.{Send as SendLine}
 use Rattle.transcript_log.specs.declared.Entry.{Entry}
-use Rattle.transcript_log.specs.Drafts.{Begins}
-use Rattle.transcript_log.specs.Events.{lines_of}
 use Rattle.transcript_log.specs.Schedule.{Shape, shape_of_presence}
 use Rattle.transcript_log.specs.Transcript.{Contents, frame}
 use Rattle.transcript_log.specs.Journal.{past_of, core_line, HasFramesOf}
-use Rattle.run_rows.specs.Ticks.{Clock, clock_of, posts_of, sent_at}
+use Rattle.run_rows.specs.Ticks.{Clock, clock_of, sent_at}
 use Rattle.transcript_log.specs.Transcripts.{TranscriptView}
 use Rattle.group_book.specs.declared.answers.SendAnswer.{SendAnswer}
 use Rattle.group_book.specs.Books.{BookView, shape_of, past, knows, SendEnds}
-use Rattle.tick_run.specs.Progress.{past_of_entries, sending}
+use Rattle.tick_run.specs.Progress.{IsDelay, past_of_entries, sending}
 use Rattle.tick_run.specs.TickFrames.{IsDue}
 use Rattle.tick_run.specs.Running.{Stage, sending_at, run_shape, run_contents, IsRunning}
-use Rattle.tick_run.specs.Sending.{SendsOne, KeepsFates, KeptFates, SendsOn, GoesOn, CanSend}
+use Rattle.tick_run.specs.Sending.{WritesOne, fate_by, post_by, KeepsFates, KeptFates, SendsOn, GoesOn}
 use Rattle.tick_run.proofs.BatchLemmas.{fates-push}
 use Rattle.tick_run.proofs.SendLemmas.{sent_step, due_step, posts-push}
 use Rattle.tick_run.proofs.PastLemmas.{sets-append}
@@ -64,37 +63,29 @@ adds-due readings m t book after script waiting f answer is due ended =
     let sent = sent-only book after s w f answer shape has here known ended in
     (sent.1.presence, sent.1.journal ∙ ap (λ l. book.journal ++ l ∷ []) (ap (λ z. core_line z book.journal (Send f.tag) (Some f)) shape ∙ sent-line s book.journal f (may_of_frame s w f.tag f (past book) here)))
 
--- the line of a frame that can be sent is the next one of the book's journal
-pub sent-next : (t : ℕ) (book after : BookView) (script : TranscriptView) (waiting : List Arrival) (f : Frame) (answer : SendAnswer)
-    → CanSend t f book script waiting → SendEnds book f answer after → Begins after.journal (lines_of script.entries ++ SendLine f.tag (Some f) ∷ [])
-sent-next t book after script waiting f answer can ended =
-    let adds = adds-due can.readings can.masks t book after script waiting f answer can.running can.due ended in
-    record {
-      rest = [];
-      is = adds.1 ∙ ap (λ l. l ++ SendLine f.tag (Some f) ∷ []) can.running.journal ∙ sym (append-nil (lines_of script.entries ++ SendLine f.tag (Some f) ∷ []));
-    }
-
-pub goes-one : (readings : ReadingsView) (m : Masks) (t : ℕ) (book after : BookView) (script done : TranscriptView) (waiting left : List Arrival) (lanes hung : List Slot) (posts all : List Post) (f : Frame)
+-- the run goes on by one frame
+pub goes-one : (readings : ReadingsView) (m : Masks) (t : ℕ) (book after : BookView) (script : TranscriptView) (waiting : List Arrival) (f : Frame) (fate : List ℕ)
     → IsRunning readings m (sending_at t) book script waiting → IsDue (run_shape readings) (clock_of readings.plan) (run_contents readings m) (past_of_entries script.entries) t f
-    → SendsOne t f book after script done waiting left lanes hung posts all → GoesOn readings m t (f ∷ []) script after done left
-goes-one readings m t book after script done waiting left lanes hung posts all f is due one =
-    let adds = adds-due readings m t book after script waiting f one.answer is due one.sent in
+    → WritesOne f book after → IsFrame f → All IsDelay fate
+    → GoesOn readings m t (f ∷ []) script after (record script { entries = script.entries ++ sending t f.tag (Some f) fate ∷ [] }) (posted t (spelling f) fate waiting)
+goes-one readings m t book after script waiting f fate is due wrote framed delays =
+    let adds = adds-due readings m t book after script waiting f wrote.answer is due wrote.ends in
     let s : Shape = run_shape readings in
     let c : Clock = clock_of readings.plan in
     let w : Contents = run_contents readings m in
     record {
-      running = sends readings m t book after script done waiting left f one.fate is due one.framed one.delays adds.0 adds.1 one.script_is one.link;
-      on = subst (λ d. SendsOn readings m t (f.tag ∷ []) script.entries d.entries) (sym one.script_is) (record {
-        sent = sent_step s c t script.entries f.tag (Some f) one.fate is.run;
-        due = due_step s c t script.entries f.tag (Some f) one.fate is.run;
+      running = sends readings m t book after script (record script { entries = script.entries ++ sending t f.tag (Some f) fate ∷ [] }) waiting (posted t (spelling f) fate waiting) f fate is due framed delays adds.0 adds.1 refl refl;
+      on = record {
+        sent = sent_step s c t script.entries f.tag (Some f) fate is.run;
+        due = due_step s c t script.entries f.tag (Some f) fate is.run;
         still = λ g is_due. record {
-          is = frame-append s w g.tag g script.entries (sending t f.tag (Some f) one.fate ∷ []) is_due.is;
+          is = frame-append s w g.tag g script.entries (sending t f.tag (Some f) fate ∷ []) is_due.is;
           in_time = is_due.in_time;
           set = is_due.set;
           fits = is_due.fits;
         };
-        sets = sets-append s script.entries (sending t f.tag (Some f) one.fate ∷ []);
-      });
+        sets = sets-append s script.entries (sending t f.tag (Some f) fate ∷ []);
+      };
     }
 
 pub sends_on-none : (readings : ReadingsView) (m : Masks) (t : ℕ) (xs : List Entry) → SendsOn readings m t [] xs xs
@@ -116,17 +107,17 @@ sends_on-more readings m t zs ts xs ys ws a b = record {
 
 -- ---- the fates
 
-pub keeps-one : (slots : List Slot) (t : ℕ) (book after : BookView) (script done : TranscriptView) (waiting left : List Arrival) (lanes hung : List Slot) (posts all : List Post) (f : Frame)
-    → KeepsFates slots t script.entries lanes posts → SendsOne t f book after script done waiting left lanes hung posts all → KeepsFates slots t done.entries hung all
-keeps-one slots t book after script done waiting left lanes hung posts all f keeps one =
-    let p : Post = record { tick = t; tag = f.tag; fate = one.fate } in
-    let fate : one.fate ≡ fate_after slots posts t f.tag = one.through ∙ lanes-fate slots posts t f.tag lanes keeps.lanes_are in
+pub keeps-one : (slots : List Slot) (t : ℕ) (entries : List Entry) (lanes : List Slot) (posts : List Post) (f : Frame) → KeepsFates slots t entries lanes posts
+    → KeepsFates slots t (entries ++ sending t f.tag (Some f) (fate_by t lanes f) ∷ []) (map (after_post t) lanes) (posts ++ post_by t lanes f ∷ [])
+keeps-one slots t entries lanes posts f keeps =
+    let fate : List ℕ = fate_by t lanes f in
+    let p : Post = post_by t lanes f in
     record {
-      posts_are = one.posts_are ∙ ap (λ l. l ++ p ∷ []) keeps.posts_are ∙ sym (ap (λ d. posts_of d.entries) one.script_is ∙ posts-push script.entries t f.tag (Some f) one.fate);
-      fates = ap (map (λ q. q.fate)) one.posts_are ∙ map-append (λ (q : Post). q.fate) posts (p ∷ [])
-          ∙ ap (λ l. l ++ one.fate ∷ []) keeps.fates ∙ ap (λ z. fates_after slots [] posts ++ z ∷ []) fate
-          ∙ sym (ap (fates_after slots []) one.posts_are ∙ fates-push slots [] posts p);
-      lanes_are = one.lanes_are ∙ lanes-posted slots posts p lanes keeps.lanes_are ∙ ap (λ l. filter (lasts t) (map (after_posts l) slots)) (sym one.posts_are);
+      posts_are = ap (λ l. l ++ p ∷ []) keeps.posts_are ∙ sym (posts-push entries t f.tag (Some f) fate);
+      fates = map-append (λ (q : Post). q.fate) posts (p ∷ [])
+          ∙ ap (λ l. l ++ fate ∷ []) keeps.fates ∙ ap (λ z. fates_after slots [] posts ++ z ∷ []) (lanes-fate slots posts t f.tag lanes keeps.lanes_are)
+          ∙ sym (fates-push slots [] posts p);
+      lanes_are = lanes-posted slots posts p lanes keeps.lanes_are;
     }
 
 -- lanes are let go whose span ended before the tick

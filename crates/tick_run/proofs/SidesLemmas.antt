@@ -3,7 +3,7 @@ use Rattle.std.proofs.Common.{◌≡◌, ℕ, ◌+◌, ◌*◌, ◌≤◌, List,
 use Rattle.std.specs.Prelude.{Result, Ok, Err, IfOk, OnOk, Vec, cond}
 use Rattle.std.specs.declared.alloc.AllocError.{AllocError}
 use Rattle.std.specs.declared.alloc.Global.{Global}
-use Rattle.std.specs.List.{All, AllZip, range_with_len}
+use Rattle.std.specs.List.{All, AllZip, flat_map, range_with_len}
 use mathlib.Core.Path.{fun_ext}
 use Rattle.missing_round.specs.Masks.{Masks}
 use Rattle.group_plan.specs.Tables.{ReadingsView, PresenceView, presence_of, reading}
@@ -32,7 +32,7 @@ use Rattle.tick_run.specs.Batches.{Batched, TakenAndClosed}
 use Rattle.tick_run.specs.Running.{emptied, taken, closed, run_shape, IsRunning, HaveCome, HaveEvents, quiet}
 use Rattle.tick_run.specs.Sending.{KeepsFates}
 use Rattle.tick_run.specs.TickFrames.{frames_due, AreHeard}
-use Rattle.tick_run.specs.Jobs.{readings_at, answers_at, announcements_due, AreGroupFrames, HasFrames, AreMerged}
+use Rattle.tick_run.specs.Jobs.{readings_at, answers_at, AreGroupFrames, HasFrames, merged}
 use Rattle.tick_run.specs.Meters.{announcements, HasSet, AreMeters, AreTold, CanHearNow, book_of}
 use Rattle.tick_run.specs.Sides.{AllSend, MetersEnd}
 use Rattle.tick_run.proofs.BatchedLemmas.{takes-batched, closes-batched, takes-fates, closes-fates}
@@ -138,18 +138,18 @@ pair readings m came t k (Ok s) h = (h.readings_are, h.answers_are)
 pair readings m came t k (Err e) h = tt
 
 -- what the meters send, with the announcements, is what is due
-pub frames-of_sides : (readings : ReadingsView) (m : Masks) (b : BookView) (came : List Frame) (t : ℕ) (sent : List (Result GroupFrames AllocError)) (frames : Result (Vec (Result (Vec Frame Global) AllocError) Global) AllocError)
+pub frames-of_sides : (readings : ReadingsView) (m : Masks) (b : BookView) (came : List Frame) (t : ℕ) (sent : List (Result GroupFrames AllocError)) (frames : Result (Vec Frame Global) AllocError)
     → b.presence ≡ presence_of readings → All (HasSet (run_shape readings) (past b)) came → AllSend readings m came t sent
-    → ((F H : ℕ → List Frame) → AllZip (HasFrames F H) (range_with_len 0 (length sent)) sent → IfOk frames (λ groups. AllZip (AreMerged b t F H) (range_with_len 0 (length sent)) groups.items))
-    → IfOk frames (λ groups. AllZip (λ g r. IfOk r (λ f. f.items ≡ frames_due (run_shape readings) (clock_of readings.plan) (reading readings.table) m (past b) (tags_of came) t g)) (range_with_len 0 (length readings.plan.groups)) groups.items)
-frames-of_sides readings m b came t sent frames presence sets all merged =
+    → ((F H : ℕ → List Frame) → AllZip (HasFrames F H) (range_with_len 0 (length sent)) sent → IfOk frames (λ f. f.items ≡ flat_map (merged b t F H) (range_with_len 0 (length sent))))
+    → IfOk frames (λ f. f.items ≡ flat_map (frames_due (run_shape readings) (clock_of readings.plan) (reading readings.table) m (past b) (tags_of came) t) (range_with_len 0 (length readings.plan.groups)))
+frames-of_sides readings m b came t sent frames presence sets all all_merged =
     let n : ℕ = length readings.plan.groups in
     let F : ℕ → List Frame = readings_at readings m t in
     let H : ℕ → List Frame = answers_at readings.plan m (announcements came) in
     let long : length sent ≡ n = range_long (λ k s. IfOk s (AreGroupFrames readings m (announcements came) t k)) 0 n sent all in
     let have : AllZip (HasFrames F H) (range_with_len 0 n) sent
     = range_weaker (λ k s. IfOk s (AreGroupFrames readings m (announcements came) t k)) (HasFrames F H) 0 n sent (λ k r _ _ h. pair readings m came t k r h) all in
-    subst (λ (frames_of : ℕ → List Frame). IfOk frames (λ groups. AllZip (λ k r. IfOk r (λ f. f.items ≡ frames_of k)) (range_with_len 0 n) groups.items))
+    subst (λ (frames_of : ℕ → List Frame). IfOk frames (λ f. f.items ≡ flat_map frames_of (range_with_len 0 n)))
     (fun_ext (λ (k : ℕ). frames-merged readings m b came t k presence sets))
-    (subst (λ (j : ℕ). IfOk frames (λ groups. AllZip (λ k r. IfOk r (λ f. f.items ≡ F k ++ announcements_due b t k ++ H k)) (range_with_len 0 j) groups.items)) long
-    (merged F H (subst (λ (k : ℕ). AllZip (HasFrames F H) (range_with_len 0 k) sent) (sym long) have)))
+    (subst (λ (j : ℕ). IfOk frames (λ f. f.items ≡ flat_map (merged b t F H) (range_with_len 0 j))) long
+    (all_merged F H (subst (λ (k : ℕ). AllZip (HasFrames F H) (range_with_len 0 k) sent) (sym long) have)))

@@ -49,6 +49,6 @@ announcements_due b t g = flat_map (λ r. if r + b.presence.plan.w1 == t then an
 abbrev pub HasFrames : (ℕ → List Frame) → (ℕ → List Frame) → ℕ → Result GroupFrames AllocError → Type 0
 HasFrames F H g sent = IfOk sent (λ s. (s.readings.items ≡ F g) × (s.answers.items ≡ H g))
 
--- its announcements stand between them
-abbrev pub AreMerged : BookView → ℕ → (ℕ → List Frame) → (ℕ → List Frame) → ℕ → Result (Vec Frame Global) AllocError → Type 0
-AreMerged b t F H g frames = IfOk frames (λ f. f.items ≡ F g ++ announcements_due b t g ++ H g)
+-- with its announcements between them
+abbrev pub merged : BookView → ℕ → (ℕ → List Frame) → (ℕ → List Frame) → ℕ → List Frame
+merged b t F H g = F g ++ announcements_due b t g ++ H g

@@ -1,5 +1,5 @@
 -- What one Send leaves of a book, a transcript, a link and a rack.
-use Rattle.std.specs.Prelude.{◌≡◌, ℕ, ◌+◌, ◌<◌, ◌≤◌, IsTrue, List, [], ◌∷◌, ◌++◌, All, map, filter, Some, length}
+use Rattle.std.specs.Prelude.{◌≡◌, ℕ, ◌<◌, IsTrue, List, [], ◌∷◌, ◌++◌, All, map, filter, Some, length}
 use Rattle.std.specs.List.{flat_map, range_with_len}
 use Rattle.missing_round.specs.Masks.{Masks}
 use Rattle.group_plan.specs.Plans.{PlanView, size, is_place}
@@ -26,19 +26,60 @@ pub record IsOfPlan (plan : PlanView) (f : Frame) : Type 0 where
   pub fits : FitsKind f.tag.kind f.missing f.word
   pub set : All (λ i. i < size plan.groups f.tag.group) f.missing
 
--- the frame was sent at tick t: by the book, through the lanes, onto the link as its bytes, into the transcript
-pub record SendsOne (t : ℕ) (f : Frame) (book after : BookView) (script done : TranscriptView) (waiting left : List Arrival) (lanes hung : List Slot) (posts all : List Post) : Type 0 where
-  pub fate : List ℕ
-  pub delays : All IsDelay fate
+-- ---- the book's half
+
+-- the book was sent a frame
+pub record WritesOne (f : Frame) (book after : BookView) : Type 0 where
   pub answer : SendAnswer
-  pub sent : SendEnds book f answer after
-  pub spare : book.spare ≤ after.spare + 1
+  pub ends : SendEnds book f answer after
+
+-- and then something more
+pub record WritesFirst (f : Frame) (more : BookView → Type 0) (book : BookView) : Type 0 where
+  pub between : BookView
+  pub first : WritesOne f book between
+  pub rest : more between
+
+-- the book was sent these frames, one after another
+abbrev pub Writes : List Frame → BookView → BookView → Type 0
+Writes [] book after = after ≡ book
+Writes (f ∷ frames) book after = WritesFirst f (λ between. Writes frames between after) book
+
+-- ---- the link's half
+
+-- the fate that lanes give a frame at tick t, and its post
+abbrev pub fate_by : ℕ → List Slot → Frame → List ℕ
+fate_by t lanes f = fate_through t f.tag lanes (1 ∷ [])
+
+abbrev pub post_by : ℕ → List Slot → Frame → Post
+post_by t lanes f = record { tick = t; tag = f.tag; fate = fate_by t lanes f }
+
+-- a frame passed the lanes at tick t, and went off as its bytes
+pub record CarriesOne (t : ℕ) (f : Frame) (lanes hung : List Slot) (posts all : List Post) (waiting left : List Arrival) : Type 0 where
   pub framed : IsFrame f
-  pub script_is : done ≡ record script { entries = script.entries ++ sending t f.tag (Some f) fate ∷ [] }
-  pub link : left ≡ posted t (spelling f) fate waiting
-  pub through : fate ≡ fate_through t f.tag lanes (1 ∷ [])
-  pub posts_are : all ≡ posts ++ record { tick = t; tag = f.tag; fate = fate } ∷ []
+  pub delays : All IsDelay (fate_by t lanes f)
   pub lanes_are : hung ≡ map (after_post t) lanes
+  pub posts_are : all ≡ posts ++ post_by t lanes f ∷ []
+  pub link : left ≡ posted t (spelling f) (fate_by t lanes f) waiting
+
+-- these frames did, one after another
+abbrev pub Carries : ℕ → List Frame → List Slot → List Slot → List Post → List Post → List Arrival → List Arrival → Type 0
+Carries t [] lanes hung posts all waiting left = (hung ≡ lanes) × (all ≡ posts) × (left ≡ waiting)
+Carries t (f ∷ frames) lanes hung posts all waiting left =
+    IsFrame f × All IsDelay (fate_by t lanes f)
+    × Carries t frames (map (after_post t) lanes) hung (posts ++ post_by t lanes f ∷ []) all (posted t (spelling f) (fate_by t lanes f) waiting) left
+
+-- the posts of frames, one after another
+abbrev pub passed : ℕ → List Slot → List Frame → List Post
+passed t lanes [] = []
+passed t lanes (f ∷ frames) = post_by t lanes f ∷ passed t (map (after_post t) lanes) frames
+
+-- ---- both
+
+-- the Sends of frames at tick t, with the fates of these posts
+abbrev pub stamped : ℕ → List Frame → List Post → List Entry
+stamped t [] posts = []
+stamped t (f ∷ frames) [] = []
+stamped t (f ∷ frames) (p ∷ posts) = sending t f.tag (Some f) p.fate ∷ stamped t frames posts
 
 -- the posts are those of the entries, with the fates that these lanes give them, and the lanes that hang are those whose span holds tick t or comes later
 pub record KeepsFates (slots : List Slot) (t : ℕ) (entries : List Entry) (lanes : List Slot) (posts : List Post) : Type 0 where
@@ -70,14 +111,7 @@ pub record GoesOn (readings : ReadingsView) (m : Masks) (t : ℕ) (frames : List
 abbrev pub AreDue : ReadingsView → Masks → ℕ → TranscriptView → List Frame → Type 0
 AreDue readings m t script frames = All (IsDue (run_shape readings) (clock_of readings.plan) (run_contents readings m) (past_of_entries script.entries) t) frames
 
--- by some readings and masks the run goes on, and the frame is due
-pub record CanSend (t : ℕ) (f : Frame) (book : BookView) (script : TranscriptView) (waiting : List Arrival) : Type 0 where
-  pub readings : ReadingsView
-  pub masks : Masks
-  pub running : IsRunning readings masks (sending_at t) book script waiting
-  pub due : IsDue (run_shape readings) (clock_of readings.plan) (run_contents readings masks) (past_of_entries script.entries) t f
-
--- so are all of these frames
+-- by some readings and masks the run goes on, and each of these frames is due
 pub record CanSendAll (t : ℕ) (frames : List Frame) (book : BookView) (script : TranscriptView) (waiting : List Arrival) : Type 0 where
   pub readings : ReadingsView
   pub masks : Masks

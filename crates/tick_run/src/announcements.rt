@@ -1,12 +1,12 @@
 //! The head end's announcements, and all frames of a tick in the order in which they are sent.
 
 ghost use Rattle.std.specs.Prelude.{◌≡◌, ◌++◌, ◌<◌, List, map, length, IfOk, OnOk, Ok};
-ghost use Rattle.std.specs.List.{AllZip, range_with_len};
+ghost use Rattle.std.specs.List.{AllZip, flat_map, range_with_len};
 ghost use Rattle.missing_round.specs.Sets.{less};
 ghost use Rattle.meter_frames.specs.declared.Frame.{Frame};
 ghost use Rattle.tick_run.specs.declared.group.GroupFrames.{GroupFrames};
 ghost use Rattle.tick_run.specs.TickFrames.{announcement_frame};
-ghost use Rattle.tick_run.specs.Jobs.{announcements_due, HasFrames, AreMerged};
+ghost use Rattle.tick_run.specs.Jobs.{announcements_due, HasFrames, merged};
 
 use crate::group::GroupFrames;
 use group_book::Book;
@@ -66,54 +66,52 @@ fn add_announcement_frames(
     add_announcements(group, round, &members, &missing, frames)
 }
 
-/// The frames of a group: its readings, the announcements to it, and its answers.
-fn frames_of(
-    alloc: Global,
+/// Adds the frames of a group: its readings, the announcements to it, and its answers.
+fn add_frames_of(
     book: &Book,
     sent: &GroupFrames,
     tick: u32,
     group: u16,
-) -> Result<Vec<Frame>, AllocError>
+    frames: &mut Vec<Frame>,
+) -> Result<(), AllocError>
     requires group { group < length book.now.presence.plan.groups }
-    ensures { IfOk result (λ frames. frames.items ≡ sent.now.readings.items ++ announcements_due book.now tick group ++ sent.now.answers.items) }
+    ensures { OnOk result (frames.new.items ≡ frames.old.items ++ sent.now.readings.items ++ announcements_due book.now tick group ++ sent.now.answers.items) }
 {
-    let mut frames = Vec::new(alloc);
     frames.extend_from_slice(&sent.readings)?;
-    add_announcement_frames(book, group, tick, &mut frames)?;
-    frames.extend_from_slice(&sent.answers)?;
-    Ok(frames)
+    add_announcement_frames(book, group, tick, frames)?;
+    frames.extend_from_slice(&sent.answers)
 }
 
-/// The frames of a group, where there was memory for what its meters send.
-fn frames_if_sent(
-    alloc: Global,
+/// Adds the frames of a group, where there was memory for what its meters send.
+fn add_frames_if_sent(
     book: &Book,
     sent: &Result<GroupFrames, AllocError>,
     tick: u32,
     group: u16,
-) -> Result<Vec<Frame>, AllocError>
+    frames: &mut Vec<Frame>,
+) -> Result<(), AllocError>
     requires group { group < length book.now.presence.plan.groups }
-    ensures { (F H : _) → HasFrames F H group sent.now → AreMerged book.now tick F H group result }
+    ensures { (F H : _) → HasFrames F H group sent.now → OnOk result (frames.new.items ≡ frames.old.items ++ merged book.now tick F H group) }
 {
     match sent {
-        Ok(sent) => frames_of(alloc, book, sent, tick, group),
+        Ok(sent) => add_frames_of(book, sent, tick, group, frames),
         Err(_) => Err(AllocError),
     }
 }
 
-/// The frames of each group, with the announcements to it, or that there was no memory for them.
+/// The frames of all groups, one after another, with the announcements to them.
 pub(crate) fn with_announcements(
     alloc: Global,
     book: &Book,
     sent: &[Result<GroupFrames, AllocError>],
     tick: u32,
-) -> Result<Vec<Result<Vec<Frame>, AllocError>>, AllocError>
+) -> Result<Vec<Frame>, AllocError>
     requires groups { length sent.now ≡ length book.now.presence.plan.groups }
-    ensures { (F H : _) → AllZip (HasFrames F H) (range_with_len 0 (length sent.now)) sent.now → IfOk result (λ groups. AllZip (AreMerged book.now tick F H) (range_with_len 0 (length sent.now)) groups.items) }
+    ensures { (F H : _) → AllZip (HasFrames F H) (range_with_len 0 (length sent.now)) sent.now → IfOk result (λ frames. frames.items ≡ flat_map (merged book.now tick F H) (range_with_len 0 (length sent.now))) }
 {
-    let mut groups = Vec::new(alloc);
+    let mut frames = Vec::new(alloc);
     for group in 0..book.plan().groups().len() {
-        groups.push(frames_if_sent(alloc, book, &sent[group], tick, group as u16))?;
+        add_frames_if_sent(book, &sent[group], tick, group as u16, &mut frames)?;
     }
-    Ok(groups)
+    Ok(frames)
 }

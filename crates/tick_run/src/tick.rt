@@ -1,7 +1,7 @@
 //! One tick of a run.
 
 ghost use Rattle.std.specs.Prelude.{◌≡◌, ◌+◌, ◌<◌, ◌≤◌, ◌^◌, List, All, length, IfOk, OnOk};
-ghost use Rattle.std.specs.List.{AllZip, range_with_len};
+ghost use Rattle.std.specs.List.{flat_map, range_with_len};
 ghost use Rattle.group_plan.specs.Tables.{reading, presence_of};
 ghost use Rattle.group_book.specs.Books.{past};
 ghost use Rattle.run_rows.specs.Ticks.{clock_of};
@@ -42,25 +42,24 @@ pub(crate) struct Going {
     pub meters: Meters,
 }
 
-/// The frames that each group sends at a tick: what its meters send, and the head end's announcements of the rounds that it
-/// closed.
+/// The frames of a tick, group by group: what the meters send, and the head end's announcements of the rounds that it closed.
 fn frames_at<R, G>(
     context: &Context<R, G>,
     book: &Book,
     sent: &[Result<GroupFrames, AllocError>],
     tick: u32,
-) -> Result<Vec<Result<Vec<Frame>, AllocError>>, AllocError>
+) -> Result<Vec<Frame>, AllocError>
     requires presence { book.now.presence ≡ presence_of context.now.known.readings.now }
     requires groups { length sent.now ≡ length context.now.known.readings.now.plan.groups }
     ensures { (came : List Frame) → All (HasSet (run_shape context.now.known.readings.now) (past book.now)) came → AllSend context.now.known.readings.now (words_of context.now.known.masks.now) came tick sent.now →
-        IfOk result (λ groups. AllZip (λ g frames. IfOk frames (λ f. f.items ≡ frames_due (run_shape context.now.known.readings.now) (clock_of context.now.known.readings.now.plan) (reading context.now.known.readings.now.table) (words_of context.now.known.masks.now) (past book.now) (tags_of came) tick g))
-        (range_with_len 0 (length context.now.known.readings.now.plan.groups)) groups.items) }
+        IfOk result (λ frames. frames.items ≡ flat_map (frames_due (run_shape context.now.known.readings.now) (clock_of context.now.known.readings.now.plan) (reading context.now.known.readings.now.table) (words_of context.now.known.masks.now) (past book.now) (tags_of came) tick)
+        (range_with_len 0 (length context.now.known.readings.now.plan.groups))) }
 {
     with_announcements(context.crew.alloc, book, sent, tick)
 }
 
 /// Sends all that is due at a tick, once its copies are taken and its rounds are closed.
-fn send_tick<R, G>(
+fn send_tick<R: Threads, G: Gate>(
     context: &Context<R, G>,
     run: &mut Running,
     rack: &mut Rack,
@@ -77,14 +76,8 @@ fn send_tick<R, G>(
         OnOk result (KeepsFates hung tick run.new.transcript.entries (slots (λ b. meaning (b.vtable, b.value)) rack.new) (posts_of rack.new)) }
     ensures room { HasRoom (λ b. meaning (b.vtable, b.value)) rack.new }
 {
-    let groups = frames_at(context, &run.book, sent, tick)?;
-    for frames in &groups {
-        match frames {
-            Ok(frames) => send_all(tick, frames, run, rack)?,
-            Err(_) => return Err(AllocError),
-        }
-    }
-    Ok(())
+    let frames = frames_at(context, &run.book, sent, tick)?;
+    send_all(&context.crew, tick, &frames, run, rack)
 }
 
 /// Makes one tick: lanes are let go whose span ended, the copies that came in are taken and heard, rounds are closed and ended,

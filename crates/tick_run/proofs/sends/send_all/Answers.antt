@@ -1,55 +1,53 @@
-use Rattle.std.proofs.Common.{sym, subst, arith}
-use Rattle.tick_run.specs.Sending.{IsOfPlan}
-use Rattle.tick_run.proofs.SendingLoop.{sending-none, sending-more, can-send, sent-all}
+use Rattle.std.proofs.Common.{◌≤◌, length, sym, ap, ◌∙◌, subst}
+use Rattle.transcript_log.specs.Transcripts.{TranscriptView, last_tick_from}
+use Rattle.tick_run.specs.Sending.{GoesOn}
+use Rattle.tick_run.proofs.SendingLoop.{carried-since, carried-more, passed-long, goes-from, goes-begins, keeps-from, on_ok, last-stamped}
 use Rattle.tick_run.proofs.sends.send_all.Goals as goal
 
-pub loop-frame-init : goal.loop-frame-init
-loop-frame-init g c = record {
-  room = c.reserve.ensures.room;
-  sending = sending-none _ _ _ _ _ _ _ _ _ _ _ _ _ c.in_ok-reserve.ensures.lines c.in_ok-reserve.ensures.posts c.in_ok-reserve.ensures.few c.requires.later
-      c.reserve.ensures.presence c.reserve.ensures.journal c.reserve.ensures.transcript c.reserve.ensures.link c.reserve.ensures.posts_same c.reserve.ensures.lanes;
-}
+pub posts_since-posts-requires : goal.posts_since-posts-requires
+posts_since-posts-requires g c = carried-more _ _ _ _ _ _ _ _ _ c.in_ok-both_halves.ensures.carried c.posts-before.ensures
 
-pub send_one-requires-clause-later : goal.send_one-requires-clause-later
-send_one-requires-clause-later g c = c.loop-frame.invariant.sending.later
+pub stamp_all-requires-clause-posts : goal.stamp_all-requires-clause-posts
+stamp_all-requires-clause-posts g c =
+    ap length (carried-since _ _ _ _ _ _ _ _ _ _ c.in_ok-both_halves.ensures.carried c.posts-before.ensures c.posts_since-posts.ensures) ∙ passed-long c.args.tick _ c.args.frames.now
 
-pub send_one-requires-clause-frame : goal.send_one-requires-clause-frame
-send_one-requires-clause-frame g c =
-    subst (λ p. IsOfPlan p c.frame-item.result) (sym c.loop-frame.invariant.sending.plan)
-    (subst (IsOfPlan c.args.run.now.transcript.plan) (sym c.frame-item.is) (c.requires.frames c.loop-frame.frame-index c.frame-item.result c.loop-frame-test.true))
-
-pub send_one-requires-clause-due : goal.send_one-requires-clause-due
-send_one-requires-clause-due g c = can-send _ _ _ _ _ _ _ _ _ _ _ _ _ _ c.frame-item.result c.frame-item.is c.loop-frame-test.true c.loop-frame.invariant.sending c.requires.due
-
-pub send_one-requires-clause-spare : goal.send_one-requires-clause-spare
-send_one-requires-clause-spare g c = let lines = c.loop-frame.invariant.sending.lines in omega arith
-
-pub send_one-requires-clause-posts : goal.send_one-requires-clause-posts
-send_one-requires-clause-posts g c = let fit = c.loop-frame.invariant.sending.posts_fit in omega arith
-
-pub send_one-requires-clause-few : goal.send_one-requires-clause-few
-send_one-requires-clause-few g c = let few = c.loop-frame.invariant.sending.few in omega arith
-
-pub send_one-requires-clause-room : goal.send_one-requires-clause-room
-send_one-requires-clause-room g c = c.loop-frame.invariant.room
-
-pub loop-frame-preserved : goal.loop-frame-preserved
-loop-frame-preserved g c = record {
-  room = c.send_one.ensures.room;
-  sending = sending-more _ _ _ _ _ _ _ _ _ _ _ _ _ _ _ _ _ _ _ _ c.frame-item.result c.frame-item.is c.loop-frame-test.true c.loop-frame.invariant.sending c.in_ok-send_one.ensures.sends c.send_one.ensures.posts;
-}
+pub stamp_all-requires-clause-lines : goal.stamp_all-requires-clause-lines
+stamp_all-requires-clause-lines g c =
+    let run = c.args.run.now in
+    let due = c.requires.due in
+    let told = c.reserve.ensures in
+    let carried = c.in_ok-both_halves.ensures.carried in
+    let since = carried-since _ _ _ _ _ _ _ _ _ _ carried c.posts-before.ensures c.posts_since-posts.ensures in
+    goes-begins due.readings due.masks c.args.tick c.args.frames.now run.transcript c.both_halves.new.book _ c.both_halves.new.link c.journal.result.now.items
+    (goes-from due.readings due.masks c.args.tick c.args.frames.now run.book c.reserve.new.run.book c.both_halves.new.book run.transcript c.reserve.new.run.transcript _ _ _ _ _ run.link c.reserve.new.run.link c.both_halves.new.link
+    due.running due.due told.presence told.journal told.transcript told.link c.both_halves.ensures.writes carried since)
+    c.journal.ensures.lines
 
 pub returns-clause-running : goal.returns-clause-running
-returns-clause-running g c = sent-all _ _ _ _ _ _ _ _ _ _ _ _ _ _ c.loop-frame-test.false c.loop-frame.invariant.sending
+returns-clause-running g c = λ readings m is due.
+    let run = c.args.run.now in
+    let told = c.reserve.ensures in
+    let carried = c.in_ok-both_halves.ensures.carried in
+    let since = carried-since _ _ _ _ _ _ _ _ _ _ carried c.posts-before.ensures c.posts_since-posts.ensures in
+    on_ok c.stamp_all.result
+    (λ done. subst (λ (z : TranscriptView). GoesOn readings m c.args.tick c.args.frames.now run.transcript c.both_halves.new.book z c.both_halves.new.link) (sym done)
+    (goes-from readings m c.args.tick c.args.frames.now run.book c.reserve.new.run.book c.both_halves.new.book run.transcript c.reserve.new.run.transcript _ _ _ _ _ run.link c.reserve.new.run.link c.both_halves.new.link
+    is due told.presence told.journal told.transcript told.link c.both_halves.ensures.writes carried since))
+    c.stamp_all.ensures
 
 pub returns-clause-fates : goal.returns-clause-fates
-returns-clause-fates g c = c.loop-frame.invariant.sending.fates
+returns-clause-fates g c = λ hung keeps.
+    let told = c.reserve.ensures in
+    let carried = c.in_ok-both_halves.ensures.carried in
+    let since = carried-since _ _ _ _ _ _ _ _ _ _ carried c.posts-before.ensures c.posts_since-posts.ensures in
+    on_ok c.stamp_all.result
+    (keeps-from hung c.args.tick c.args.frames.now c.args.run.now.transcript c.reserve.new.run.transcript c.stamp_all.new.transcript _ _ _ _ _ _ _ _ _ keeps told.lanes told.posts_same told.transcript carried since)
+    c.stamp_all.ensures
 
 pub returns-clause-later : goal.returns-clause-later
-returns-clause-later g c = c.loop-frame.invariant.sending.later
-
-pub returns-clause-plan : goal.returns-clause-plan
-returns-clause-plan g c = c.loop-frame.invariant.sending.plan
-
-pub returns-clause-room : goal.returns-clause-room
-returns-clause-room g c = c.loop-frame.invariant.room
+returns-clause-later g c =
+    let script = c.reserve.new.run.transcript in
+    let later : last_tick_from 0 script.entries ≤ c.args.tick = subst (λ (z : TranscriptView). last_tick_from 0 z.entries ≤ c.args.tick) (sym c.reserve.ensures.transcript) c.requires.later in
+    on_ok c.stamp_all.result
+    (λ done. subst (λ (z : TranscriptView). last_tick_from 0 z.entries ≤ c.args.tick) (sym done) (last-stamped c.args.tick 0 script.entries c.args.frames.now c.posts_since-posts.result.now later))
+    c.stamp_all.ensures

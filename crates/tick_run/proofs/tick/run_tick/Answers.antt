@@ -52,7 +52,7 @@ both_sides-head_end-requires-clause-can g c κs within =
     can-hear readings m t run.book run.transcript c.due.new.self c.deref.result.now c.args.going.meters out.0 out.1 c.requires.meters
 
 pub send_tick-requires-clause-running : goal.send_tick-requires-clause-running
-send_tick-requires-clause-running g c =
+send_tick-requires-clause-running g c κs within =
     let readings = c.args.context.now.known.readings.now in
     let m = words_of c.args.context.now.known.masks.now in
     let t = c.args.tick in
@@ -66,7 +66,7 @@ send_tick-requires-clause-running g c =
     closed.0
 
 pub send_tick-requires-clause-sent : goal.send_tick-requires-clause-sent
-send_tick-requires-clause-sent g c =
+send_tick-requires-clause-sent g c κs within =
     let readings = c.args.context.now.known.readings.now in
     let m = words_of c.args.context.now.known.masks.now in
     let t = c.args.tick in
