@@ -12,7 +12,7 @@ use std::io::Write;
 use std::thread::{Threads, join_mut};
 
 // As many bytes are written at a time, or a piece more.
-const GROUP_BYTES: usize = 1 << 22;
+const GROUP_BYTES: usize = 1 << 21;
 
 // Pieces that are written together.
 #[derive(Drop)]

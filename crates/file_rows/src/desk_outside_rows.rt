@@ -1,9 +1,7 @@
 //! The desk in memory, and the desk over real files.
 
 use crate::fixtures::{check, check_bytes, check_same};
-use desk_outside::{
-    Desk, DeskCall, DeskError, DeskKind, FetchError, FileDesk, MemoryDesk, Pieces,
-};
+use desk_outside::{Desk, DeskCall, DeskError, DeskKind, FetchError, FileDesk, MemoryDesk, Pieces};
 use std::alloc::{AllocError, Global};
 use std::fs::Permissions;
 use std::io::Read;

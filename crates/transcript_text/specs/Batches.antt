@@ -11,7 +11,7 @@ piece_start entries at k = min (length entries) (at + k * 512)
 pub record HasPiece (entries : List Entry) (at k : ℕ) : Type 0 where
   pub lines : All (λ e. IsWritable e.line) entries
   pub within : at + k * 512 < length entries
-  pub few : k < 64
+  pub few : k < 32
 
 -- the bytes are the lines of piece k, and there are some
 pub record IsPiece (entries : List Entry) (at k : ℕ) (bytes : List ℕ) : Type 0 where

@@ -20,8 +20,8 @@ const ENTRIES_A_PIECE: usize = 512;
 /// As many bytes as a piece has, or a few more: room is made by it, so that what grows need not be moved.
 const BYTES_A_PIECE: usize = 72 * 1024;
 
-/// The most pieces that are made side by side, so that they have about 4 MB.
-const PIECES_A_BATCH: usize = 64;
+/// The most pieces that are made side by side, so that they have about 2 MB.
+const PIECES_A_BATCH: usize = 32;
 
 /// As many pieces as are worth a thread.
 const PIECES_A_THREAD: usize = 4;
@@ -30,7 +30,7 @@ const PIECES_A_THREAD: usize = 4;
 fn piece_count(transcript: &Transcript, at: usize) -> usize
     requires { at < length transcript.now.entries }
     ensures some { 0 < result }
-    ensures few { result ≤ 64 }
+    ensures few { result ≤ 32 }
     ensures each { (k : ℕ) → k < result → at + k * 512 < length transcript.now.entries }
 {
     let entries = transcript.len() - at;
@@ -40,7 +40,7 @@ fn piece_count(transcript: &Transcript, at: usize) -> usize
 /// The place at which a piece begins, where the first one begins at a place.
 fn piece_start(transcript: &Transcript, at: usize, piece: usize) -> usize
     requires within { at < length transcript.now.entries }
-    requires few { piece ≤ 64 }
+    requires few { piece ≤ 32 }
     ensures { result ≡ piece_start transcript.now.entries at piece }
 {
     transcript.len().min(at + piece * ENTRIES_A_PIECE)
