@@ -1,2 +1,4 @@
+pub mod Notes
 pub mod Meters
+pub mod SmallNotes
 pub mod Calls

@@ -1,7 +1,7 @@
 -- What a meter keeps of its rounds, and what it says to an announcement.
 use Rattle.std.specs.Prelude.{◌≡◌, ℕ, ◌-◌, ◌==◌, Bool, false, not, nat_lt, if◌then◌else◌, List, length, slice_index_or, slice_set, replicate, Option, Some, None, is_some, bytes_eq}
 use Rattle.missing_round.specs.Sets.{is_member, less}
-use Rattle.meter_core.specs.declared.Note.{Note}
+use Rattle.meter_core.specs.Notes.{Note}
 use Rattle.meter_core.specs.declared.Why.{Why}
 use Rattle.meter_core.specs.declared.Why.TheVariants.{OutOfPlan, NotRead, SelfMissing, Thin, OtherSet}
 use Rattle.meter_core.specs.declared.Heard.{Heard}

@@ -6,7 +6,9 @@ ghost use Rattle.missing_round.specs.Sets.{is_member};
 ghost use Rattle.meter_core.specs.Meters.{new_meter, marked, Hears};
 
 pub mod laws;
+mod notes;
 
+use crate::notes::Notes;
 use missing_round::MeterSet;
 use std::alloc::{AllocError, Global};
 use std::marker::Model;
@@ -37,19 +39,12 @@ pub enum Why {
     OtherSet(MeterSet),
 }
 
-/// What a meter keeps of one round.
-#[derive(Clone, Copy)]
-struct Note {
-    members: Option<MeterSet>,
-    kept: Option<MeterSet>,
-}
-
 /// One meter of a group, over all rounds.
 #[derive(Drop)]
 pub struct Meter {
     meter: u8,
     floor: u16,
-    notes: Vec<Note>,
+    notes: Notes,
 }
 
 impl Model for Meter {
@@ -57,7 +52,7 @@ impl Model for Meter {
 
     ghost Value = { MeterView };
 
-    ghost view = { λ m. record { meter = m.meter; floor = m.floor; notes = m.notes.items } };
+    ghost view = { λ m. record { meter = m.meter; floor = m.floor; notes = m.notes } };
 }
 
 impl Meter {
@@ -69,11 +64,7 @@ impl Meter {
         requires most_rounds { rounds ≤ 4096 }
         ensures { IfOk result (λ m. m ≡ new_meter meter floor rounds) }
     {
-        let blank = Note {
-            members: None,
-            kept: None,
-        };
-        let notes = vec![in alloc; blank; rounds as usize]?;
+        let notes = Notes::new(alloc, rounds as usize)?;
         Ok(Meter {
             meter,
             floor,
@@ -87,12 +78,8 @@ impl Meter {
         requires member { is_member self.old.meter members.now ≡ true }
         ensures { self.new ≡ marked self.old round members.now }
     {
-        let note = self.notes[round as usize];
-        if note.members.is_none() {
-            self.notes[round as usize] = Note {
-                members: Some(*members),
-                kept: note.kept,
-            };
+        if self.notes.members(round as usize).is_none() {
+            self.notes.mark(round as usize, *members);
         }
     }
 
@@ -103,8 +90,7 @@ impl Meter {
         if round as usize >= self.notes.len() {
             return Heard::Refused(Why::OutOfPlan);
         }
-        let note = self.notes[round as usize];
-        let Some(members) = note.members else {
+        let Some(members) = self.notes.members(round as usize) else {
             return Heard::Refused(Why::NotRead);
         };
         if missing.minus(members).len() > 0 {
@@ -117,12 +103,9 @@ impl Meter {
         if survivors < self.floor {
             return Heard::Refused(Why::Thin(survivors));
         }
-        match note.kept {
+        match self.notes.kept(round as usize) {
             None => {
-                self.notes[round as usize] = Note {
-                    members: note.members,
-                    kept: Some(*missing),
-                };
+                self.notes.keep(round as usize, *missing);
                 Heard::Answer
             }
             Some(kept) if kept == *missing => Heard::AnswerAgain,
@@ -160,6 +143,23 @@ mod tests {
         meter.mark_read(0, &MeterSet::full(3));
         assert!(&rt; meter.hear(0, &only(1).with(2)) == Heard::Refused(Why::Thin(1)));
         assert!(&rt; meter.hear(0, &only(2)) == Heard::Answer);
+        Ok(())
+    }
+
+    #[test]
+    fn wide_set_beside_low_ones(rt: HostRuntime) -> Result<(), AllocError> {
+        let mut meter = Meter::new(rt.alloc(), 0, 2, 3)?;
+        meter.mark_read(0, &MeterSet::full(200));
+        meter.mark_read(1, &MeterSet::full(200));
+        meter.mark_read(2, &MeterSet::full(60));
+        let wide = only(3).with(70).with(199);
+        assert!(&rt; meter.hear(0, &only(3)) == Heard::Answer);
+        assert!(&rt; meter.hear(1, &wide) == Heard::Answer);
+        assert!(&rt; meter.hear(2, &only(4)) == Heard::Answer);
+        assert!(&rt; meter.hear(0, &only(3)) == Heard::AnswerAgain);
+        assert!(&rt; meter.hear(1, &wide) == Heard::AnswerAgain);
+        assert!(&rt; meter.hear(2, &only(4)) == Heard::AnswerAgain);
+        assert!(&rt; meter.hear(1, &only(3)) == Heard::Refused(Why::OtherSet(wide)));
         Ok(())
     }
 }

@@ -8,7 +8,7 @@ use Rattle.std.proofs.lemmas.List.Filters.{length-filter_both}
 use Rattle.std.proofs.lemmas.Slice.Eq.{bytes_eq-Decides}
 use Rattle.missing_round.specs.Sets.{is_member}
 use Rattle.missing_round.proofs.SetLemmas.{is_member-filter, same_filter}
-use Rattle.meter_core.specs.declared.Note.{Note}
+use Rattle.meter_core.specs.Notes.{Note}
 use Rattle.meter_core.specs.declared.Heard.{Heard}
 use Rattle.meter_core.specs.declared.Heard.TheVariants.{Answer, AnswerAgain, Refused}
 use Rattle.meter_core.specs.declared.Why.{Why}
