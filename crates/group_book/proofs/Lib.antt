@@ -2,6 +2,7 @@ pub mod Tags
 pub mod LineLemmas
 pub mod PageLemmas
 pub mod PlaceLemmas
+pub mod WordLemmas
 pub mod BookLemmas
 pub mod CallLemmas
 pub mod PlainLines

@@ -1,5 +1,6 @@
 pub mod Places
 pub mod Pages
+pub mod Words
 pub mod Start
 pub mod Books
 pub mod BookParts

@@ -11,11 +11,12 @@ ghost use Rattle.group_book.specs.Replay.{IsJournal, IsPage};
 ghost use Rattle.group_book.specs.Tables.{IsTranscriptUnder, IsOutcomeUnder};
 ghost use Rattle.group_book.specs.BookParts.{HasWord, set_carried, IsOther, IsOtherSet, HasSetOf};
 
-use crate::copies::{copy_of_pages, copy_of_words};
+use crate::copies::copy_of_pages;
 use crate::lines::{add_close, add_end, add_send, add_take};
 use crate::page::Page;
 use crate::places::{is_round, page_at, word_at};
 use crate::start::{first_pages, no_words};
+use crate::words::Words;
 use crate::{Outcome, SendAnswer, TakeError};
 use group_plan::{Kind, Plan, Presence, Tag};
 use meter_frames::Frame;
@@ -35,7 +36,7 @@ pub struct Book {
     /// The rounds, one after another by groups.
     pages: Vec<Page>,
     /// The words of the posted frames, one kind after another and in each by places. The tag and the round give the rest.
-    words: Vec<Option<Word>>,
+    words: Words,
     journal: Lines,
 }
 
@@ -47,7 +48,7 @@ impl Model for Book {
 
     ghost view = { λ b. record { presence = b.presence; journal = b.journal.items; spare = b.journal.spare } };
 
-    ghost invariant = { λ b. Replays b.presence b.pages.items b.words.items b.journal.items };
+    ghost invariant = { λ b. Replays b.presence b.pages.items b.words b.journal.items };
 }
 
 impl Book {
@@ -123,7 +124,7 @@ impl Book {
             alloc: self.alloc,
             presence: self.presence.try_copy()?,
             pages: copy_of_pages(self.alloc, &self.pages)?,
-            words: copy_of_words(self.alloc, &self.words)?,
+            words: self.words.try_copy(self.alloc)?,
             journal: self.journal.try_copy()?,
         })
     }
@@ -176,7 +177,7 @@ impl Book {
             return SendAnswer::Differs { posted };
         }
         let at = word_at(self.plan(), tag);
-        self.words[at] = Some(frame.word);
+        self.words.put(at, frame.word);
         add_send(&mut self.journal, tag, Some(frame));
         SendAnswer::Sent
     }
@@ -258,7 +259,7 @@ impl Book {
         requires { IsTrue (knows self.now tag) }
         ensures { HasWord self.now tag result }
     {
-        self.words[word_at(self.presence.plan(), tag)]
+        self.words.get(word_at(self.presence.plan(), tag))
     }
 
     // Whether a Send of the tag has effect now.

@@ -12,11 +12,14 @@ pub(crate) fn copy_of_pages(alloc: Global, pages: &[Page]) -> Result<Vec<Page>, 
     pages.to_vec(alloc)
 }
 
-pub(crate) fn copy_of_words(
-    alloc: Global,
-    words: &[Option<Word>],
-) -> Result<Vec<Option<Word>>, AllocError>
+pub(crate) fn copy_of_words(alloc: Global, words: &[Word]) -> Result<Vec<Word>, AllocError>
     ensures { IfOk result (λ copy. copy.items ≡ words.now) }
 {
     words.to_vec(alloc)
+}
+
+pub(crate) fn copy_of_marks(alloc: Global, marks: &[bool]) -> Result<Vec<bool>, AllocError>
+    ensures { IfOk result (λ copy. copy.items ≡ marks.now) }
+{
+    marks.to_vec(alloc)
 }

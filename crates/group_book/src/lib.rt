@@ -8,6 +8,7 @@ mod lines;
 mod page;
 mod places;
 mod start;
+mod words;
 
 pub use answers::{Outcome, OutcomeState, SendAnswer, TakeError};
 pub use book::Book;

@@ -7,8 +7,8 @@ ghost use Rattle.group_book.specs.Places.{is_round, all_rounds, all_tags};
 ghost use Rattle.group_book.specs.Start.{first_page, first_page_at};
 
 use crate::page::Page;
+use crate::words::Words;
 use group_plan::Plan;
-use mod_word::Word;
 use std::alloc::{AllocError, Global};
 use transcript_log::{floor_of, members};
 
@@ -42,16 +42,9 @@ pub(crate) fn first_pages(alloc: Global, plan: &Plan) -> Result<Vec<Page>, Alloc
     Ok(pages)
 }
 
-// No word for so many tags.
-fn no_words_of(alloc: Global, tags: usize) -> Result<Vec<Option<Word>>, AllocError>
-    ensures { IfOk result (λ words. words.items ≡ replicate tags None) }
-{
-    vec![in alloc; None; tags]
-}
-
 /// No word under any tag of the plan.
-pub(crate) fn no_words(alloc: Global, plan: &Plan) -> Result<Vec<Option<Word>>, AllocError>
-    ensures { IfOk result (λ words. words.items ≡ replicate (all_tags plan.now) None) }
+pub(crate) fn no_words(alloc: Global, plan: &Plan) -> Result<Words, AllocError>
+    ensures { IfOk result (λ words. words ≡ replicate (all_tags plan.now) None) }
 {
-    no_words_of(alloc, plan.places() * 3)
+    Words::none(alloc, plan.places() * 3)
 }

@@ -12,7 +12,8 @@ invariant_of-self c =
 
 pub invariant_of-self-2 : goal.invariant_of-self-2
 invariant_of-self-2 c =
-    sent_now _ _ _ _ _ c.args.frame _ c.self.invariant
+    rw c.put.ensures
+    (sent_now _ _ _ _ _ c.args.frame _ c.self.invariant
     (ap (λ b. knows b c.args.frame.tag) c.self.view_is ∙ ap (λ q. is_place q c.args.frame.tag.group c.args.frame.tag.round c.args.frame.tag.meter) (sym c.plan.ensures) ∙ sym c.holds.ensures ∙ c.if-not-holds.false)
     (c.word_at-at.ensures.at ∙ ap (λ q. word_at q c.args.frame.tag.group c.args.frame.tag.round c.args.frame.tag.meter c.args.frame.tag.kind) c.plan-2.ensures
     ∙ ap (λ b. word_at b.presence.plan c.args.frame.tag.group c.args.frame.tag.round c.args.frame.tag.meter c.args.frame.tag.kind) (sym c.self.view_is))
@@ -21,4 +22,4 @@ invariant_of-self-2 c =
     c.in_default.ensures)
     c.requires.frame
     (subst (λ b. IsFree (posted_of b c.args.frame.tag) c.args.frame) (sym c.self.view_is) (subst (λ x. IsFree x c.args.frame) (sym (posted_is c.args.self.now c.args.frame.tag _ c.posted.ensures)) c.in_default-other_frame.ensures))
-    c.add_send-2.ensures.lines
+    c.add_send-2.ensures.lines)

@@ -29,7 +29,7 @@ take-verdict-requires c =
     c.posted-posted.ensures c.in_default.ensures c.if-is_none.ensures c.plan-2.ensures c.page_at-at.ensures.at c.index_mut.ensures.value in
     can_ask_now _ _ _ _ c.args.frame.now.tag _ found.replays found.place found.sent found.page
 
-found_at : (c : goal.After-add_take-2) → Finds c.self.inside.presence c.self.inside.pages.items c.self.inside.words.items c.self.inside.journal.items c.args.frame.now c.index_mut.result.now
+found_at : (c : goal.After-add_take-2) → Finds c.self.inside.presence c.self.inside.pages.items c.self.inside.words c.self.inside.journal.items c.args.frame.now c.index_mut.result.now
 found_at c =
     finds _ c.args.self.now _ _ c.args.frame.now _ _ _ _ _ c.index_mut.result.now c.self.view_is c.self.invariant c.plan.ensures c.holds.ensures c.if-not-holds.false
     c.posted-posted.ensures c.in_default.ensures c.if-is_none.ensures c.plan-2.ensures c.page_at-at.ensures.at c.index_mut.ensures.value
