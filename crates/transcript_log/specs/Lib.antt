@@ -8,6 +8,7 @@ pub mod Statements
 pub mod Rows
 pub mod Lines
 pub mod Kinds
+pub mod Extras
 pub mod SmallLines
 pub mod Transcripts
 pub mod Stamps

@@ -5,6 +5,7 @@ ghost use Rattle.std.specs.Prelude.{◌≡◌};
 ghost use Rattle.transcript_log.specs.Events.{event_of};
 
 mod draft;
+mod extras;
 mod lines;
 mod round_members;
 mod small;

@@ -1,78 +1,51 @@
-//! A list of lines that is kept small: 24 bytes a line, beside the sets of meters that lines name.
+//! A list of lines that is kept small: 12 bytes a line, and 12 more where it has a set of meters or a word, beside the sets.
 
-ghost use Rattle.std.specs.Prelude.{◌≡◌, ◌↔◌, ◌^◌, ◌-◌, ◌+◌, ◌<◌, ◌≤◌, ◌++◌, [], ◌∷◌, Some, IsTrue, IfOk, OnOk, OnErr, All, length, slice_get, slice_index_or, vec_len, vec_capacity};
+ghost use Rattle.std.specs.Prelude.{◌≡◌, ◌^◌, ◌+◌, ◌<◌, ◌≤◌, ◌++◌, [], ◌∷◌, IfOk, OnOk, OnErr, All, length, slice_index_or};
 ghost use Rattle.transcript_log.specs.declared.Line.{Line};
+ghost use Rattle.transcript_log.specs.Extras.{Grows};
 ghost use Rattle.transcript_log.specs.Kinds.{is_sending, is_taking};
 ghost use Rattle.transcript_log.specs.Lines.{HasOwnTag};
-ghost use Rattle.transcript_log.specs.SmallLines.{set_of, StandsAt, Grows};
+ghost use Rattle.transcript_log.specs.SmallLines.{extra_of, StandsAt};
 ghost use Rattle.transcript_log.specs.Transcripts.{IsLine};
 
 use crate::Line;
-use crate::small::{SmallLine, is_sending, is_taking, line_in, set_of, small_line};
+use crate::extras::Extras;
+use crate::small::{SmallLine, extra_of, is_sending, is_taking, line_in, small_line};
 use crate::transcript::line_is;
-use missing_round::MeterSet;
 use std::alloc::{AllocError, Global};
 use std::marker::Model;
 
-/// How many sets may be kept, so that the place of each has 32 bits.
-const MOST_SETS: usize = 0xffff_ffff;
-
-/// A list of lines. Lines one after another that have the same set of meters keep it once.
+/// A list of lines. The sets of meters and the words that some of them have stand in a list of their own.
 #[derive(Debug, Drop)]
 pub struct Lines {
     lines: Vec<SmallLine>,
-    sets: Vec<MeterSet>,
+    extras: Extras,
 }
 
 impl Model for Lines {
-    ghost use Rattle.std.specs.Prelude.{map, vec_len, vec_capacity};
+    ghost use Rattle.std.specs.Prelude.{◌-◌, min, map, vec_len, vec_capacity};
     ghost use Rattle.transcript_log.specs.Lines.{LinesView};
-    ghost use Rattle.transcript_log.specs.SmallLines.{line_in, spare_of, AreKept};
+    ghost use Rattle.transcript_log.specs.SmallLines.{line_in, AreKept};
 
     ghost Value = { LinesView };
 
-    ghost view = { λ l. record { items = map (line_in l.sets.items) l.lines.items; spare = spare_of (vec_capacity l.lines) (vec_len l.lines) (vec_capacity l.sets) (vec_len l.sets) } };
+    ghost view = { λ l. record { items = map (line_in l.extras.items) l.lines.items; spare = min (vec_capacity l.lines - vec_len l.lines) l.extras.spare } };
 
-    ghost invariant = { λ l. AreKept l.sets.items l.lines.items };
+    ghost invariant = { λ l. AreKept l.extras.items l.lines.items };
 }
 
-fn is_last(sets: &[MeterSet], set: MeterSet) -> bool
-    ensures { IsTrue result ↔ (slice_get sets.now (length sets.now - 1) ≡ Some set) }
+/// Adds the extra of a line, where it has one. The place is that of the extra, and any place where the line has none.
+fn add_extra(extras: &mut Extras, line: &Line) -> u32
+    requires { 0 < extras.old.spare }
+    ensures place { StandsAt extras.new.items result (extra_of line.now) }
+    ensures items { Grows extras.old.items extras.new.items }
+    ensures spare { extras.old.spare ≤ extras.new.spare + 1 }
 {
-    match sets.last() {
-        None => false,
-        Some(last) => *last == set,
+    let at = extras.len();
+    if let Some(extra) = extra_of(line) {
+        extras.push_reserved(extra);
     }
-}
-
-/// The place of a set, which is added where the last one differs from it.
-fn add_set(sets: &mut Vec<MeterSet>, set: MeterSet) -> u32
-    requires room { vec_len sets.old < vec_capacity sets.old }
-    requires few { vec_len sets.old < 2 ^ 32 - 1 }
-    ensures place { StandsAt sets.new.items result (Some set) }
-    ensures sets { Grows sets.old.items sets.new.items }
-    ensures capacity { vec_capacity sets.new ≡ vec_capacity sets.old }
-{
-    let len = sets.len();
-    if is_last(sets, set) {
-        return (len - 1) as u32;
-    }
-    sets.push_reserved(set);
-    len as u32
-}
-
-/// The place of a line's set, any place where the line has none.
-fn add_set_of(sets: &mut Vec<MeterSet>, line: &Line) -> u32
-    requires room { vec_len sets.old < vec_capacity sets.old }
-    requires few { vec_len sets.old < 2 ^ 32 - 1 }
-    ensures place { StandsAt sets.new.items result (set_of line.now) }
-    ensures sets { Grows sets.old.items sets.new.items }
-    ensures capacity { vec_capacity sets.new ≡ vec_capacity sets.old }
-{
-    match set_of(line) {
-        None => 0,
-        Some(set) => add_set(sets, set),
-    }
+    at
 }
 
 impl Lines {
@@ -82,7 +55,7 @@ impl Lines {
     {
         Lines {
             lines: Vec::new(alloc),
-            sets: Vec::new(alloc),
+            extras: Extras::new(alloc),
         }
     }
 
@@ -92,22 +65,19 @@ impl Lines {
     {
         Ok(Lines {
             lines: Vec::with_capacity(alloc, lines)?,
-            sets: Vec::new(alloc),
+            extras: Extras::new(alloc),
         })
     }
 
-    /// Makes room for so many lines. The sets that they name are at most 2^32 - 1; `AllocError` where these may be more.
+    /// Makes room for so many lines. Those with a set or a word are at most 2^32 - 1; `AllocError` where these may be more.
     pub fn reserve(&mut self, lines: u64) -> Result<(), AllocError>
         ensures room { OnOk result (lines ≤ self.new.spare) }
         ensures items { self.new.items ≡ self.old.items }
         ensures spare { self.old.spare ≤ self.new.spare }
     {
         let lines = lines as usize;
-        if MOST_SETS - self.sets.len() < lines {
-            return Err(AllocError);
-        }
-        self.lines.reserve(lines)?;
-        self.sets.reserve(lines)
+        self.extras.reserve(lines)?;
+        self.lines.reserve(lines)
     }
 
     /// How many lines there are.
@@ -130,8 +100,7 @@ impl Lines {
         ensures { result ≡ self.now.spare }
     {
         let lines = self.lines.capacity() - self.lines.len();
-        let sets = self.sets.capacity().min(MOST_SETS) - self.sets.len();
-        lines.min(sets) as u64
+        lines.min(self.extras.spare()) as u64
     }
 
     /// The line at a place, counted from 0.
@@ -139,7 +108,7 @@ impl Lines {
         requires { at < length self.now.items }
         ensures { result ≡ slice_index_or self.now.items at result }
     {
-        line_in(&self.sets, &self.lines[at])
+        line_in(&self.extras, &self.lines[at])
     }
 
     /// Whether the line at a place is a Send with a frame.
@@ -166,8 +135,8 @@ impl Lines {
         ensures spare { self.old.spare ≤ self.new.spare + 1 }
     {
         line_is(line);
-        let place = add_set_of(&mut self.sets, line);
-        self.lines.push_reserved(small_line(line, place));
+        let at = add_extra(&mut self.extras, line);
+        self.lines.push_reserved(small_line(line, at));
     }
 
     /// Adds a line.
@@ -187,7 +156,7 @@ impl Lines {
     {
         Ok(Lines {
             lines: self.lines.clone()?,
-            sets: self.sets.clone()?,
+            extras: self.extras.try_copy()?,
         })
     }
 }

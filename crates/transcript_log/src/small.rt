@@ -1,11 +1,16 @@
-//! Lines in a small form, of at most 24 bytes: each names its set of meters by a place in a list of sets.
+//! Lines in a small form, of at most 12 bytes. Those with a set of meters or a word name it by its place in a list.
 
-ghost use Rattle.std.specs.Prelude.{◌≡◌, ◌<◌, List, ℕ, length};
+ghost use Rattle.std.specs.Prelude.{◌≡◌, ◌<◌, List, [], ℕ, Some, length};
+ghost use Rattle.round_machine.specs.declared.Closing.TheVariants as closing;
+ghost use Rattle.transcript_log.specs.declared.Line.TheVariants.{Send, Close, End};
+ghost use Rattle.transcript_log.specs.declared.extras.Extra.{Extra};
+ghost use Rattle.transcript_log.specs.Extras.{extra_at};
 ghost use Rattle.transcript_log.specs.Kinds.{is_sending, is_taking};
 ghost use Rattle.transcript_log.specs.Lines.{HasOwnTag};
-ghost use Rattle.transcript_log.specs.SmallLines.{set_at, tag_in, closing_in, ending_in, line_in, ClosingIsPlaced, EndingIsPlaced, IsPlaced, set_of_closing, set_of_ending, set_of, StandsAt, ClosingIsKept, EndingIsKept, IsKept};
+ghost use Rattle.transcript_log.specs.SmallLines.{tag_in, sent, line_in, IsPlaced, extra_of_closing, extra_of_ending, extra_of, StandsAt, IsKept};
 
 use crate::Line;
+use crate::extras::{Extra, Extras};
 use group_plan::{Kind, Tag};
 use meter_frames::Frame;
 use missing_round::MeterSet;
@@ -22,53 +27,75 @@ pub(crate) struct SmallTag {
     round: u32,
 }
 
-/// A closing, with the place of its set.
-#[derive(Clone, Copy, Debug, PartialEq, Eq)]
-pub(crate) enum SmallClosing {
-    Announced(u32),
-    Thin(u32),
-    Already,
-}
-
-/// An ending, with the place of its set.
-#[derive(Clone, Copy, Debug, PartialEq, Eq)]
-pub(crate) enum SmallEnding {
-    Total(u64),
-    Lacking(u32),
-    Thin,
-    Already,
-    NotClosed,
-}
-
-/// A line, with the place of its set.
+/// A line. Where it has a set of meters or a word, `at` is their place in a list of extras. A line that was sent has the
+/// frame's kind in its variant: a field more would not fit.
 #[derive(Clone, Copy, Debug, PartialEq, Eq)]
 pub(crate) enum SmallLine {
-    Sent {
-        tag: SmallTag,
-        set: u32,
-        word: Word,
+    SentReading {
+        meter: u8,
+        group: u16,
+        round: u32,
+        at: u32,
+    },
+    SentAnnouncement {
+        meter: u8,
+        group: u16,
+        round: u32,
+        at: u32,
+    },
+    SentAnswer {
+        meter: u8,
+        group: u16,
+        round: u32,
+        at: u32,
     },
     NotSent {
         tag: SmallTag,
     },
     Took {
-        tag: SmallTag,
         verdict: Verdict,
+        tag: SmallTag,
     },
-    Closed {
+    Announced {
         group: u16,
         round: u32,
-        closing: SmallClosing,
+        at: u32,
     },
-    Ended {
+    ClosedThin {
         group: u16,
         round: u32,
-        ending: SmallEnding,
+        at: u32,
+    },
+    ClosedAlready {
+        group: u16,
+        round: u32,
+    },
+    Total {
+        group: u16,
+        round: u32,
+        at: u32,
+    },
+    Lacking {
+        group: u16,
+        round: u32,
+        at: u32,
+    },
+    EndedThin {
+        group: u16,
+        round: u32,
+    },
+    EndedAlready {
+        group: u16,
+        round: u32,
+    },
+    NotClosed {
+        group: u16,
+        round: u32,
     },
 }
 
 // A run keeps every line, so its size counts.
-const _: () = prove!(size_of::<SmallLine>() <= 24);
+const _: () = prove!(size_of::<SmallLine>() <= 12);
 
 fn small_tag(tag: Tag) -> SmallTag
     ensures { tag_in result ≡ tag }
@@ -92,196 +119,265 @@ fn tag_in(tag: SmallTag) -> Tag
     }
 }
 
-fn set_at(sets: &[MeterSet], place: u32) -> MeterSet
-    requires { place < length sets.now }
-    ensures { result ≡ set_at sets.now place }
+fn tag_of(meter: u8, kind: Kind, group: u16, round: u32) -> Tag
+    ensures { result ≡ record { group = group; round = round; meter = meter; kind = kind } }
 {
-    sets[place as usize]
+    Tag {
+        group,
+        round,
+        meter,
+        kind,
+    }
 }
 
-fn sent_in(sets: &[MeterSet], tag: Tag, place: u32, word: Word) -> Frame
-    requires { place < length sets.now }
-    ensures { result ≡ record { tag = tag; missing = set_at sets.now place; word = word } }
+fn sent_in(extras: &Extras, tag: Tag, at: u32) -> Line
+    requires { at < length extras.now.items }
+    ensures { result ≡ sent tag (extra_at extras.now.items at) }
 {
-    Frame {
+    let extra = extras.at(at);
+    let frame = Frame {
         tag,
-        missing: set_at(sets, place),
-        word,
-    }
-}
-
-fn closing_in(sets: &[MeterSet], closing: SmallClosing) -> Closing
-    requires { ClosingIsPlaced (length sets.now) closing }
-    ensures { result ≡ closing_in sets.now closing }
-{
-    match closing {
-        SmallClosing::Announced(place) => Closing::Announced(set_at(sets, place)),
-        SmallClosing::Thin(place) => Closing::Thin(set_at(sets, place)),
-        SmallClosing::Already => Closing::Already,
-    }
-}
-
-fn ending_in(sets: &[MeterSet], ending: SmallEnding) -> Ending
-    requires { EndingIsPlaced (length sets.now) ending }
-    ensures { result ≡ ending_in sets.now ending }
-{
-    match ending {
-        SmallEnding::Total(total) => Ending::Total(total),
-        SmallEnding::Lacking(place) => Ending::Lacking(set_at(sets, place)),
-        SmallEnding::Thin => Ending::Thin,
-        SmallEnding::Already => Ending::Already,
-        SmallEnding::NotClosed => Ending::NotClosed,
+        missing: extra.set,
+        word: extra.word,
+    };
+    Line::Send {
+        tag,
+        frame: Some(frame),
     }
 }
 
 /// The line that a small one stands for.
-pub(crate) fn line_in(sets: &[MeterSet], line: &SmallLine) -> Line
-    requires { IsPlaced (length sets.now) line.now }
-    ensures { result ≡ line_in sets.now line.now }
+pub(crate) fn line_in(extras: &Extras, line: &SmallLine) -> Line
+    requires { IsPlaced (length extras.now.items) line.now }
+    ensures { result ≡ line_in extras.now.items line.now }
 {
     match *line {
-        SmallLine::Sent { tag, set, word } => {
-            let tag = tag_in(tag);
-            let frame = Some(sent_in(sets, tag, set, word));
-            Line::Send { tag, frame }
-        }
+        SmallLine::SentReading {
+            meter,
+            group,
+            round,
+            at,
+        } => sent_in(extras, tag_of(meter, Kind::Reading, group, round), at),
+        SmallLine::SentAnnouncement {
+            meter,
+            group,
+            round,
+            at,
+        } => sent_in(extras, tag_of(meter, Kind::Announcement, group, round), at),
+        SmallLine::SentAnswer {
+            meter,
+            group,
+            round,
+            at,
+        } => sent_in(extras, tag_of(meter, Kind::Answer, group, round), at),
         SmallLine::NotSent { tag } => Line::Send {
             tag: tag_in(tag),
             frame: None,
         },
-        SmallLine::Took { tag, verdict } => Line::Take {
+        SmallLine::Took { verdict, tag } => Line::Take {
             tag: tag_in(tag),
             verdict,
         },
-        SmallLine::Closed {
+        SmallLine::Announced { group, round, at } => Line::Close {
             group,
             round,
-            closing,
-        } => Line::Close {
-            group,
-            round,
-            closing: closing_in(sets, closing),
+            closing: Closing::Announced(extras.at(at).set),
         },
-        SmallLine::Ended {
+        SmallLine::ClosedThin { group, round, at } => Line::Close {
             group,
             round,
-            ending,
-        } => Line::End {
+            closing: Closing::Thin(extras.at(at).set),
+        },
+        SmallLine::ClosedAlready { group, round } => Line::Close {
             group,
             round,
-            ending: ending_in(sets, ending),
+            closing: Closing::Already,
+        },
+        SmallLine::Total { group, round, at } => Line::End {
+            group,
+            round,
+            ending: Ending::Total(extras.at(at).word.value()),
+        },
+        SmallLine::Lacking { group, round, at } => Line::End {
+            group,
+            round,
+            ending: Ending::Lacking(extras.at(at).set),
+        },
+        SmallLine::EndedThin { group, round } => Line::End {
+            group,
+            round,
+            ending: Ending::Thin,
+        },
+        SmallLine::EndedAlready { group, round } => Line::End {
+            group,
+            round,
+            ending: Ending::Already,
+        },
+        SmallLine::NotClosed { group, round } => Line::End {
+            group,
+            round,
+            ending: Ending::NotClosed,
         },
     }
 }
 
 /// Whether a small line stands for a Send with a frame.
 pub(crate) fn is_sending(line: &SmallLine) -> bool
-    ensures { (sets : List (List ℕ)) → result ≡ is_sending (line_in sets line.now) }
+    ensures { (extras : List Extra) → result ≡ is_sending (line_in extras line.now) }
 {
-    matches!(line, SmallLine::Sent { .. })
+    matches!(
+        line,
+        SmallLine::SentReading { .. }
+            | SmallLine::SentAnnouncement { .. }
+            | SmallLine::SentAnswer { .. }
+    )
 }
 
 /// Whether a small line stands for a Take.
 pub(crate) fn is_taking(line: &SmallLine) -> bool
-    ensures { (sets : List (List ℕ)) → result ≡ is_taking (line_in sets line.now) }
+    ensures { (extras : List Extra) → result ≡ is_taking (line_in extras line.now) }
 {
     matches!(line, SmallLine::Took { .. })
 }
 
-fn set_of_closing(closing: Closing) -> Option<MeterSet>
-    ensures { result ≡ set_of_closing closing }
+fn set_alone(set: MeterSet) -> Extra
+    ensures { result ≡ record { set = set; word = 0 } }
+{
+    Extra { set, word: Word(0) }
+}
+
+fn word_alone(word: u64) -> Extra
+    ensures { result ≡ record { set = []; word = word } }
+{
+    Extra {
+        set: MeterSet::empty(),
+        word: Word(word),
+    }
+}
+
+fn extra_of_closing(closing: Closing) -> Option<Extra>
+    ensures { result ≡ extra_of_closing closing }
 {
     match closing {
-        Closing::Announced(set) | Closing::Thin(set) => Some(set),
+        Closing::Announced(set) | Closing::Thin(set) => Some(set_alone(set)),
         Closing::Already => None,
     }
 }
 
-fn set_of_ending(ending: Ending) -> Option<MeterSet>
-    ensures { result ≡ set_of_ending ending }
+fn extra_of_ending(ending: Ending) -> Option<Extra>
+    ensures { result ≡ extra_of_ending ending }
 {
     match ending {
-        Ending::Lacking(set) => Some(set),
-        Ending::Total(_) | Ending::Thin | Ending::Already | Ending::NotClosed => None,
+        Ending::Total(total) => Some(word_alone(total)),
+        Ending::Lacking(set) => Some(set_alone(set)),
+        Ending::Thin | Ending::Already | Ending::NotClosed => None,
     }
 }
 
-/// The set of meters that a line has.
-pub(crate) fn set_of(line: &Line) -> Option<MeterSet>
-    ensures { result ≡ set_of line.now }
+/// The set of meters and the word of a line, where it has one of them.
+pub(crate) fn extra_of(line: &Line) -> Option<Extra>
+    ensures { result ≡ extra_of line.now }
 {
     match *line {
         Line::Send { frame: None, .. } => None,
         Line::Send {
             frame: Some(frame),
             ..
-        } => Some(frame.missing),
+        } => Some(Extra {
+            set: frame.missing,
+            word: frame.word,
+        }),
         Line::Take { .. } => None,
-        Line::Close { closing, .. } => set_of_closing(closing),
-        Line::End { ending, .. } => set_of_ending(ending),
+        Line::Close { closing, .. } => extra_of_closing(closing),
+        Line::End { ending, .. } => extra_of_ending(ending),
     }
 }
 
-fn small_closing(closing: Closing, place: u32) -> SmallClosing
-    ensures { (sets : List (List ℕ)) → StandsAt sets place (set_of_closing closing) → ClosingIsKept sets closing result }
+fn small_sent(tag: Tag, at: u32) -> SmallLine
+    ensures { (extras : List Extra) (extra : Extra) → StandsAt extras at (Some extra) → IsKept extras (sent tag extra) result }
+{
+    let Tag {
+        group,
+        round,
+        meter,
+        kind,
+    } = tag;
+    match kind {
+        Kind::Reading => SmallLine::SentReading {
+            meter,
+            group,
+            round,
+            at,
+        },
+        Kind::Announcement => SmallLine::SentAnnouncement {
+            meter,
+            group,
+            round,
+            at,
+        },
+        Kind::Answer => SmallLine::SentAnswer {
+            meter,
+            group,
+            round,
+            at,
+        },
+    }
+}
+
+fn small_send(tag: Tag, frame: Option<Frame>, at: u32) -> SmallLine
+    requires { HasOwnTag (Send tag frame) }
+    ensures { (extras : List Extra) → StandsAt extras at (extra_of (Send tag frame)) → IsKept extras (Send tag frame) result }
+{
+    match frame {
+        None => SmallLine::NotSent {
+            tag: small_tag(tag),
+        },
+        Some(_) => small_sent(tag, at),
+    }
+}
+
+fn small_closing(group: u16, round: u32, closing: Closing, at: u32) -> SmallLine
+    ensures { (extras : List Extra) → StandsAt extras at (extra_of_closing closing) → IsKept extras (Close group round closing) result }
 {
     match closing {
-        Closing::Announced(_) => SmallClosing::Announced(place),
-        Closing::Thin(_) => SmallClosing::Thin(place),
-        Closing::Already => SmallClosing::Already,
+        Closing::Announced(_) => SmallLine::Announced { group, round, at },
+        Closing::Thin(_) => SmallLine::ClosedThin { group, round, at },
+        Closing::Already => SmallLine::ClosedAlready { group, round },
     }
 }
 
-fn small_ending(ending: Ending, place: u32) -> SmallEnding
-    ensures { (sets : List (List ℕ)) → StandsAt sets place (set_of_ending ending) → EndingIsKept sets ending result }
+fn small_ending(group: u16, round: u32, ending: Ending, at: u32) -> SmallLine
+    ensures { (extras : List Extra) → StandsAt extras at (extra_of_ending ending) → IsKept extras (End group round ending) result }
 {
     match ending {
-        Ending::Total(total) => SmallEnding::Total(total),
-        Ending::Lacking(_) => SmallEnding::Lacking(place),
-        Ending::Thin => SmallEnding::Thin,
-        Ending::Already => SmallEnding::Already,
-        Ending::NotClosed => SmallEnding::NotClosed,
+        Ending::Total(_) => SmallLine::Total { group, round, at },
+        Ending::Lacking(_) => SmallLine::Lacking { group, round, at },
+        Ending::Thin => SmallLine::EndedThin { group, round },
+        Ending::Already => SmallLine::EndedAlready { group, round },
+        Ending::NotClosed => SmallLine::NotClosed { group, round },
     }
 }
 
-/// The small form of a line whose set, where it has one, stands at this place.
-pub(crate) fn small_line(line: &Line, place: u32) -> SmallLine
+/// The small form of a line whose extra, where it has one, stands at this place.
+pub(crate) fn small_line(line: &Line, at: u32) -> SmallLine
     requires { HasOwnTag line.now }
-    ensures { (sets : List (List ℕ)) → StandsAt sets place (set_of line.now) → IsKept sets line.now result }
+    ensures { (extras : List Extra) → StandsAt extras at (extra_of line.now) → IsKept extras line.now result }
 {
     match *line {
-        Line::Send { tag, frame: None } => SmallLine::NotSent {
-            tag: small_tag(tag),
-        },
-        Line::Send {
-            tag,
-            frame: Some(frame),
-        } => SmallLine::Sent {
-            tag: small_tag(tag),
-            set: place,
-            word: frame.word,
-        },
+        Line::Send { tag, frame } => small_send(tag, frame, at),
         Line::Take { tag, verdict } => SmallLine::Took {
-            tag: small_tag(tag),
             verdict,
+            tag: small_tag(tag),
         },
         Line::Close {
             group,
             round,
             closing,
-        } => SmallLine::Closed {
-            group,
-            round,
-            closing: small_closing(closing, place),
-        },
+        } => small_closing(group, round, closing, at),
         Line::End {
             group,
             round,
             ending,
-        } => SmallLine::Ended {
-            group,
-            round,
-            ending: small_ending(ending, place),
-        },
+        } => small_ending(group, round, ending, at),
     }
 }
