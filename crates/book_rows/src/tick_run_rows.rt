@@ -53,7 +53,7 @@ fn three_meters_total_60(rt: HostRuntime) -> Result<(), Fail> {
     };
     check(&rt, ends_with(book.journal(), &end), "the end");
     // 9 Sends, 9 Takes, a Close and an End.
-    let transcript = transcript.finish(book.into_journal());
+    let transcript = transcript.finish(book.into_journal())?;
     check_same(&rt, &transcript.len(), &20, "the lines");
     Ok(())
 }

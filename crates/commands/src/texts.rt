@@ -44,7 +44,7 @@ fn finished_texts(alloc: Global, finished: Finished) -> Result<RunTexts, AllocEr
     let Finished { book, transcript } = finished;
     let report = report(alloc, &book)?;
     let summary = summary(alloc, &book)?;
-    let transcript = transcript.finish(book.into_journal());
+    let transcript = transcript.finish(book.into_journal())?;
     let _entries = transcript.len();
     Ok(RunTexts {
         transcript,

@@ -12,5 +12,7 @@ mod KeptExtras
 mod KeptLines
 pub mod RoundMembers
 mod StampLemmas
+mod SameStamps
+mod StretchLemmas
 mod Pushing
 mod Drafting

@@ -12,4 +12,5 @@ pub mod Extras
 pub mod SmallLines
 pub mod Transcripts
 pub mod Stamps
+pub mod Stretches
 pub mod Drafts

@@ -5,6 +5,7 @@ ghost use Rattle.transcript_log.specs.Drafts.{Begins, quiet};
 ghost use Rattle.transcript_log.specs.Events.{lines_of};
 ghost use Rattle.transcript_log.specs.Transcripts.{Fits, FitsLine, Pushes, last_tick_from, no_entries};
 
+use crate::stretches::Stretches;
 use crate::transcript::{Stamp, entry_is, fate_is, tick_is};
 use crate::{Entry, Lines, Transcript};
 use group_plan::Plan;
@@ -13,12 +14,15 @@ use std::alloc::{AllocError, Global};
 use std::marker::Model;
 use std::snapshot::Snapshot;
 
+/// A run has about so many entries for each Send, and each Send may have a stretch of its own.
+const ENTRIES_A_SEND: usize = 2;
+
 /// A transcript in the making. It keeps when its lines were written and the fates of their frames; the lines stand in a
 /// journal, which it is shown.
 #[derive(Drop)]
 pub struct Draft {
     plan: Plan,
-    stamps: Vec<Stamp>,
+    stamps: Stretches,
     lines: Snapshot<Lines>,
 }
 
@@ -30,22 +34,9 @@ impl Model for Draft {
     ghost use Rattle.transcript_log.specs.Stamps.{entries_of};
     ghost use Rattle.transcript_log.specs.Drafts.{IsDrafted};
 
-    ghost view = { λ d. record { plan = d.plan; entries = entries_of d.stamps.items d.lines.value.items } };
+    ghost view = { λ d. record { plan = d.plan; entries = entries_of d.stamps d.lines.value.items } };
 
-    ghost invariant = { λ d. IsDrafted d.plan d.stamps.items d.lines.value.items };
-}
-
-/// Adds the stamp of an entry.
-fn add_stamp(stamps: &mut Vec<Stamp>, entry: &Entry) -> Result<(), AllocError>
-    ensures ok { OnOk result (stamps.new.items ≡ stamps.old.items ++ record { tick = entry.now.tick; fate = entry.now.fate } ∷ []) }
-    ensures err { OnErr result (stamps.new.items ≡ stamps.old.items) }
-{
-    stamps.reserve(1)?;
-    stamps.push_reserved(Stamp {
-        tick: entry.tick,
-        fate: entry.fate,
-    });
-    Ok(())
+    ghost invariant = { λ d. IsDrafted d.plan d.stamps d.lines.value.items };
 }
 
 /// The fate of a line that is no Send.
@@ -58,13 +49,17 @@ fn no_copies() -> Fate
     }
 }
 
-/// Adds a stamp until there are so many.
-fn add_stamps(stamps: &mut Vec<Stamp>, count: usize, stamp: Stamp) -> Result<(), AllocError>
-    requires { length stamps.old.items ≤ count }
-    ensures ok { OnOk result (stamps.new.items ≡ stamps.old.items ++ replicate (count - length stamps.old.items) stamp) }
-    ensures err { OnErr result (stamps.new.items ≡ stamps.old.items) }
+/// Adds a stamp until there are so many. More than 2^32 - 1 at once are answered as want of memory.
+fn add_stamps(stamps: &mut Stretches, count: usize, stamp: Stamp) -> Result<(), AllocError>
+    requires { length stamps.old ≤ count }
+    ensures ok { OnOk result (stamps.new ≡ stamps.old ++ replicate (count - length stamps.old) stamp) }
+    ensures err { OnErr result (stamps.new ≡ stamps.old) }
 {
-    stamps.resize(count, stamp)
+    match u32::try_from(count - stamps.len()) {
+        Ok(0) => Ok(()),
+        Ok(more) => stamps.push(stamp, more),
+        Err(_) => Err(AllocError),
+    }
 }
 
 impl Draft {
@@ -75,7 +70,7 @@ impl Draft {
         let _groups = plan.groups();
         Ok(Draft {
             plan: plan.try_copy()?,
-            stamps: Vec::with_capacity(alloc, entries)?,
+            stamps: Stretches::with_room(alloc, entries / ENTRIES_A_SEND)?,
             lines: Snapshot::of(&Lines::new(alloc)),
         })
     }
@@ -88,7 +83,12 @@ impl Draft {
         ensures { Pushes self.old entry result self.new }
     {
         entry_is(&entry);
-        add_stamp(&mut self.stamps, &entry)?;
+        let _lines = journal.len();
+        let stamp = Stamp {
+            tick: entry.tick,
+            fate: entry.fate,
+        };
+        self.stamps.push(stamp, 1)?;
         self.lines = Snapshot::of(journal);
         Ok(())
     }
@@ -111,19 +111,20 @@ impl Draft {
     }
 
     /// The transcript, with the journal that has just the lines of its entries.
-    pub fn finish(self, journal: Lines) -> Transcript
+    pub fn finish(self, journal: Lines) -> Result<Transcript, AllocError>
         requires { journal.items ≡ lines_of self.entries }
-        ensures { result ≡ self }
+        ensures { IfOk result (λ transcript. transcript ≡ self) }
     {
         let Draft {
             plan,
             stamps,
             lines: _,
         } = self;
-        Transcript {
+        let stamps = stamps.spelled_out()?;
+        Ok(Transcript {
             plan,
             stamps,
             lines: journal,
-        }
+        })
     }
 }

@@ -9,6 +9,7 @@ mod extras;
 mod lines;
 mod round_members;
 mod small;
+mod stretches;
 mod transcript;
 
 pub use draft::Draft;
