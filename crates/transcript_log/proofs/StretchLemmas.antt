@@ -1,13 +1,9 @@
--- Stretches with one more, with a longer last one, and spelled out.
+-- Stretches of which the last is longer.
 use Rattle.std.proofs.Common.{◌≡◌, ℕ, zero, suc, ◌+◌, ◌++◌, ◌∷◌, [], List, length, set, get_or, replicate, ap, sym, ◌∙◌, arith, append_assoc, append-nil}
-use Rattle.std.proofs.lemmas.List.{flat_map_more, replicate-append-replicate}
+use Rattle.std.proofs.lemmas.List.{replicate-append-replicate}
 use Rattle.transcript_log.specs.declared.transcript.Stamp.{Stamp}
 use Rattle.transcript_log.specs.declared.stretches.Stretch.{Stretch}
 use Rattle.transcript_log.specs.Stretches.{stamps_in}
-
--- one more stretch adds its stamp so many times
-pub one_more_stretch : (ss : List Stretch) (s : Stretch) → stamps_in (ss ++ s ∷ []) ≡ stamps_in ss ++ replicate s.count s.stamp
-one_more_stretch ss s = sym (flat_map_more (λ (t : Stretch). replicate t.count t.stamp) [] ss s)
 
 -- a last stretch that is longer by n adds its stamp n times
 pub longer_stretch : (ss : List Stretch) (k : ℕ) (d : Stretch) (n : ℕ) → length ss ≡ suc k

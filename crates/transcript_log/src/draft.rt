@@ -49,7 +49,7 @@ fn no_copies() -> Fate
     }
 }
 
-/// Adds a stamp until there are so many. More than 2^32 - 1 at once are answered as want of memory.
+/// Adds a stamp until there are so many. `AllocError` also where 2^32 or more are added, since a stretch counts fewer.
 fn add_stamps(stamps: &mut Stretches, count: usize, stamp: Stamp) -> Result<(), AllocError>
     requires { length stamps.old ≤ count }
     ensures ok { OnOk result (stamps.new ≡ stamps.old ++ replicate (count - length stamps.old) stamp) }
@@ -63,7 +63,7 @@ fn add_stamps(stamps: &mut Stretches, count: usize, stamp: Stamp) -> Result<(), 
 }
 
 impl Draft {
-    /// The draft of a plan before its first entry, with room for so many entries.
+    /// The draft of a plan before its first entry, with room for about so many entries.
     pub fn with_room(alloc: Global, plan: &Plan, entries: usize) -> Result<Draft, AllocError>
         ensures { IfOk result (λ draft. draft ≡ no_entries plan.now) }
     {
@@ -94,6 +94,7 @@ impl Draft {
     }
 
     /// Adds an entry for each line that the journal has beyond those of the entries, all at one tick and with no copies.
+    /// `AllocError` also where they are 2^32 or more.
     pub fn push_all(&mut self, tick: u32, journal: &Lines) -> Result<(), AllocError>
         requires tick { last_tick_from 0 self.old.entries ≤ tick }
         requires before { Begins journal.now.items (lines_of self.old.entries) }
