@@ -98,7 +98,24 @@ impl Gate for Each {
     fn at(&self, _worker: u32) {}
 }
 
-// Collects a batch with 16 workers into a book, and looks for the marks, and for the number of lines that the book then has.
+// Collects a batch into a book, and looks for the marks, and for the number of lines that the book then has.
+fn check_collected(
+    rt: &(impl Threads + Wait + Abort + Sync),
+    alloc: Global,
+    row: &str,
+    book: Book,
+    batch: Vec<Parcel>,
+    workers: u32,
+    marks: &[Mark],
+    lines: usize,
+) -> Result<(), Fail> {
+    let (replies, count) = collected(rt, alloc, book, batch, workers, &Each)?;
+    check_all(rt, &replies, marks, row);
+    check_same(rt, &count, &lines, row);
+    Ok(())
+}
+
+// The same with 16 workers and with the caller alone.
 fn check_batch(
     rt: &(impl Threads + Wait + Abort + Sync),
     alloc: Global,
@@ -108,10 +125,9 @@ fn check_batch(
     marks: &[Mark],
     lines: usize,
 ) -> Result<(), Fail> {
-    let (replies, count) = collected(rt, alloc, book, batch, 16, &Each)?;
-    check_all(rt, &replies, marks, row);
-    check_same(rt, &count, &lines, row);
-    Ok(())
+    let (other, same) = (book.try_copy()?, batch.clone()?);
+    check_collected(rt, alloc, row, other, same, 16, marks, lines)?;
+    check_collected(rt, alloc, row, book, batch, 1, marks, lines)
 }
 
 #[test]
@@ -192,22 +208,46 @@ fn two_closes_in_one_batch(rt: HostRuntime) -> Result<(), Fail> {
     Ok(())
 }
 
-// With the gate of the program 1,200 parcels are enough for four workers.
-#[test]
-fn many_closes_in_one_batch(rt: HostRuntime) -> Result<(), Fail> {
-    let alloc = rt.alloc();
+// Has a thread for each 256 parcels, and a turn for each 64.
+struct Hundreds;
+
+impl Gate for Hundreds {
+    fn at(&self, _worker: u32) {}
+
+    fn enough(&self) -> usize {
+        256
+    }
+
+    fn block(&self) -> u32 {
+        64
+    }
+}
+
+// Collects 1,200 Closes of one round through a gate.
+fn check_closes<G: Gate>(
+    rt: &(impl Threads + Wait + Abort + Sync),
+    alloc: Global,
+    gate: &G,
+) -> Result<(), Fail> {
     let batch = vec![in alloc; Parcel::Close { group: 0, round: 0 }; 1200]?;
-    let (marks, lines) = collected(&rt, alloc, new_book(alloc)?, batch, 4, &Free)?;
-    check_same(&rt, &marks.len(), &1200, "the marks");
+    let (marks, lines) = collected(rt, alloc, new_book(alloc)?, batch, 4, gate)?;
+    check_same(rt, &marks.len(), &1200, "the marks");
     check_same(
-        &rt,
+        rt,
         &times(&marks, Closing::Thin(MeterSet::full(3))),
         &1,
         "thin",
     );
-    check_same(&rt, &times(&marks, Closing::Already), &1199, "already");
-    check_same(&rt, &lines, &1200, "the lines");
+    check_same(rt, &times(&marks, Closing::Already), &1199, "already");
+    check_same(rt, &lines, &1200, "the lines");
     Ok(())
+}
+
+// 1,200 parcels are enough for four workers of one gate, and with that of the program the caller commits them alone.
+#[test]
+fn many_closes_in_one_batch(rt: HostRuntime) -> Result<(), Fail> {
+    check_closes(&rt, rt.alloc(), &Hundreds)?;
+    check_closes(&rt, rt.alloc(), &Free)
 }
 
 // Whether there are so many marks, all of frames that were taken fresh.

@@ -23,7 +23,9 @@ use Rattle.shared_book.specs.Parcels.{Judged, Accepted, judged, judged_beside, j
 use Rattle.shared_book.specs.Turns.{lines_of, journal_after, MayFollow, LegalFrom, IsLegal}
 use Rattle.shared_book.specs.Passes.{PassView}
 use Rattle.collector_workers.specs.declared.mark.Mark.{Mark}
-use Rattle.collector_workers.specs.Batch.{IsMark, Collects}
+use Rattle.collector_workers.specs.declared.mark.Collected.{Collected}
+use Rattle.collector_workers.specs.declared.mark.CollectRefused.{CollectRefused}
+use Rattle.collector_workers.specs.Batch.{IsMark, Collects, CollectEnds}
 use Rattle.collector_workers.specs.Gathering.{turns_of, Gathers}
 use Rattle.collector_workers.proofs.Histories.{follows_accepted}
 use Rattle.collector_workers.proofs.Counts.{AreWithin, lines_count, replies_count, all_marked, mark_is}
@@ -113,7 +115,7 @@ collected o v w workers marks c l g presence journal =
     }
 
 -- what a book collects goes by its presence and its lines alone
-same_lines : (a b : BookView) (batch : List Parcel) (marks : List Mark) (c : BookView) → a.presence ≡ b.presence → a.journal ≡ b.journal → Collects a batch marks c → Collects b batch marks c
+pub same_lines : (a b : BookView) (batch : List Parcel) (marks : List Mark) (c : BookView) → a.presence ≡ b.presence → a.journal ≡ b.journal → Collects a batch marks c → Collects b batch marks c
 same_lines a b batch marks c p j h =
     let one = subst (λ (x : PresenceView). Collects (record { presence = x; journal = a.journal; spare = a.spare }) batch marks c) p h in
     let two = subst (λ (x : List Line). Collects (record { presence = b.presence; journal = x; spare = a.spare }) batch marks c) j one in
@@ -125,3 +127,8 @@ pub collects : (o : Opening) (v w : PassView) (workers : ℕ) (marks : List Mark
 collects o v w workers marks b c batch same_presence same_journal same_batch l g presence journal =
     subst (λ (ps : List Parcel). Collects b ps marks c) same_batch
     (same_lines o.book b o.parcels marks c same_presence same_journal (collected o v w workers marks c l g presence journal))
+
+-- how a collect ends goes by the presence and the lines of the book alone
+pub same_ends : (a b : BookView) (batch : List Parcel) (result : Result Collected CollectRefused) → a.presence ≡ b.presence → a.journal ≡ b.journal → CollectEnds a batch result → CollectEnds b batch result
+same_ends a b batch (Ok done) p j h = same_lines a b batch done.replies.items done.book p j h
+same_ends a b batch (Err refused) p j h = record { presence = h.presence ∙ p; journal = h.journal ∙ j }

@@ -5,3 +5,4 @@ pub mod Replies
 pub mod Counts
 pub mod Journals
 pub mod Numbers
+pub mod InOrder

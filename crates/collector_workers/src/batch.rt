@@ -5,7 +5,8 @@ ghost use Rattle.shared_book.specs.Ends.{opening, view, IsPassOf};
 ghost use Rattle.collector_workers.specs.Gathering.{AreMarksOf, AreReplies, Grows, IsTold, Settles, GatherEnds};
 ghost use Rattle.collector_workers.specs.Batch.{CollectEnds};
 
-use crate::crew::{all_blocks, join_all, split_all, work_all};
+use crate::alone::collect_alone;
+use crate::crew::{all_blocks, busy_workers, join_all, split_all, work_all};
 use crate::gate::Gate;
 use crate::mark::{CollectRefused, Collected, Mark};
 use group_book::Book;
@@ -132,23 +133,20 @@ pub fn gather<R: Threads + Wait + Sync, G: Gate>(
     Ok(marks)
 }
 
-/// Adds a batch to a book by workers. Each accepted parcel adds a line, in some order; every parcel has its mark. `workers`
-/// is an upper bound, as in `gather`. At `Err` there was no memory.
-pub fn collect<R: Threads + Wait + Sync, G: Gate>(
+// Adds a batch to a book that has room for its lines, by workers.
+fn collect_beside<R: Threads + Wait + Sync, G: Gate>(
     rt: &R,
     alloc: Global,
-    mut book: Book,
+    book: Book,
     batch: Vec<Parcel>,
     workers: u32,
     gate: &G,
 ) -> Result<Collected, CollectRefused>
     requires workers { (1 ≤ workers) × (workers ≤ 16) }
     requires batch { vec_len batch < 2 ^ 32 }
+    requires room { vec_len batch ≤ book.spare }
     ensures { CollectEnds book batch.items result }
 {
-    if book.reserve(batch.len() as u64).is_err() {
-        return Err(CollectRefused { book });
-    }
     let (shared, mut first) = match SharedBook::begin(alloc, book, batch) {
         Ok(begun) => begun,
         Err(BeginRefused { book, parcels: _ }) => return Err(CollectRefused { book }),
@@ -171,4 +169,47 @@ pub fn collect<R: Threads + Wait + Sync, G: Gate>(
             Err(CollectRefused { book })
         }
     }
+}
+
+// Adds a batch to a book that has room for its lines: by workers where more than one has enough to do, and else alone.
+fn collect_with_room<R: Threads + Wait + Sync, G: Gate>(
+    rt: &R,
+    alloc: Global,
+    book: Book,
+    batch: Vec<Parcel>,
+    workers: u32,
+    gate: &G,
+) -> Result<Collected, CollectRefused>
+    requires workers { (1 ≤ workers) × (workers ≤ 16) }
+    requires batch { vec_len batch < 2 ^ 32 }
+    requires room { vec_len batch ≤ book.spare }
+    ensures { CollectEnds book batch.items result }
+{
+    if busy_workers(workers as usize, batch.len(), gate.enough()) > 1 {
+        collect_beside(rt, alloc, book, batch, workers, gate)
+    } else {
+        collect_alone(alloc, book, &batch)
+    }
+}
+
+/// Adds a batch to a book by workers. Each accepted parcel adds a line, in some order; every parcel has its mark. `workers`
+/// is an upper bound, as in `gather`; where one of them has all that is enough, the caller does it alone, in order, and
+/// calls no gate. At `Err` there was no memory.
+#[tactic(auto, using(crate::proofs::Journals::same_ends))]
+pub fn collect<R: Threads + Wait + Sync, G: Gate>(
+    rt: &R,
+    alloc: Global,
+    mut book: Book,
+    batch: Vec<Parcel>,
+    workers: u32,
+    gate: &G,
+) -> Result<Collected, CollectRefused>
+    requires workers { (1 ≤ workers) × (workers ≤ 16) }
+    requires batch { vec_len batch < 2 ^ 32 }
+    ensures { CollectEnds book batch.items result }
+{
+    if book.reserve(batch.len() as u64).is_err() {
+        return Err(CollectRefused { book });
+    }
+    collect_with_room(rt, alloc, book, batch, workers, gate)
 }

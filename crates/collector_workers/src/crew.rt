@@ -46,7 +46,7 @@ fn new_worker(alloc: Global, pass: Pass) -> Worker
 }
 
 // How many of the workers have enough to do, where so many parcels are enough for one.
-fn busy_workers(workers: usize, parcels: usize, enough: usize) -> usize
+pub(crate) fn busy_workers(workers: usize, parcels: usize, enough: usize) -> usize
     ensures { result ≤ workers }
 {
     (parcels / enough.max(1)).max(1).min(parcels).min(workers)

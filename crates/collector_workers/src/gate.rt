@@ -1,12 +1,12 @@
-//! A gate before each turn of a worker, so that a test can choose who goes first.
+//! A gate before each turn of a worker, so that a test can choose who goes first; and how much is worth a thread.
 
-/// What each worker calls before each of its turns. It has no effect on any answer.
+/// What each worker calls before each of its turns, and how much work is worth a thread. It has no effect on any answer.
 pub trait Gate: Sync {
     /// Called by a worker; workers are numbered from 1.
     fn at(&self, worker: u32);
 
-    /// So many parcels are enough for a thread. One is enough where a gate says nothing else, so that a test has each of its
-    /// workers.
+    /// So many parcels are enough for a thread that commits. One is enough where a gate says nothing else, so that a test has
+    /// each of its workers.
     fn enough(&self) -> usize {
         1
     }
@@ -16,19 +16,30 @@ pub trait Gate: Sync {
     fn block(&self) -> u32 {
         1
     }
+
+    /// So many frames are enough for a thread beside the calling one, where a tick has two things to do with them that share
+    /// nothing else. Four where a gate says nothing else, so that a test has both ways.
+    fn beside(&self) -> usize {
+        4
+    }
 }
 
-/// A gate that lets each worker through, has a thread for each 256 parcels, and a turn for each 64.
+/// A gate that lets each worker through. It has a thread for each 16,384 parcels, since fewer are committed sooner by one
+/// thread alone, a turn for each 1,024, and a thread beside for 1,024 frames.
 pub struct Free;
 
 impl Gate for Free {
     fn at(&self, _worker: u32) {}
 
     fn enough(&self) -> usize {
-        256
+        16_384
     }
 
     fn block(&self) -> u32 {
-        64
+        1024
+    }
+
+    fn beside(&self) -> usize {
+        1024
     }
 }

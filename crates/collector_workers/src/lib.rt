@@ -1,6 +1,7 @@
 //! A batch of parcels that workers bring to one book.
 #![tactic(auto)]
 
+mod alone;
 mod batch;
 mod crew;
 mod gate;

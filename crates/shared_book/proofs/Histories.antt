@@ -17,7 +17,7 @@ use Rattle.shared_book.proofs.Judging.{posts_nothing, accepted-posts_nothing, jo
 
 -- ---- the line of an event that posts nothing
 
-event_of-core : (s : Shape) (j : List Line) (e : Event) → event_of (core_line s j e None) ≡ e
+pub event_of-core : (s : Shape) (j : List Line) (e : Event) → event_of (core_line s j e None) ≡ e
 event_of-core s j (Send tag) = refl
 event_of-core s j (Take tag) = refl
 event_of-core s j (Close g r) = refl
@@ -29,7 +29,7 @@ is_plain-core s j (Take tag) h = refl
 is_plain-core s j (Close g r) h = refl
 is_plain-core s j (End g r) h = refl
 
-core-itself : (s : Shape) (j : List Line) (e : Event) → posts_nothing e ≡ true → core_line s j e None ≡ core_line s j (event_of (core_line s j e None)) (frame_of (core_line s j e None))
+pub core-itself : (s : Shape) (j : List Line) (e : Event) → posts_nothing e ≡ true → core_line s j e None ≡ core_line s j (event_of (core_line s j e None)) (frame_of (core_line s j e None))
 core-itself s j (Send tag) h = absurd (cc)
 core-itself s j (Take tag) h = refl
 core-itself s j (Close g r) h = refl

@@ -4,9 +4,9 @@ ghost use Rattle.std.specs.Prelude.{◌≡◌, ◌≤◌};
 ghost use Rattle.transcript_log.specs.declared.Line.TheVariants.{Close as CloseLine, End as EndLine};
 ghost use Rattle.shared_book.specs.declared.parcel.Reply.TheVariants.{Closed, Ended};
 ghost use Rattle.shared_book.specs.declared.parcel.Request.TheVariants.{Take as TakeRequest, Close as CloseRequest, End as EndRequest};
-ghost use Rattle.shared_book.specs.Writes.{WriteEnds};
+ghost use Rattle.shared_book.specs.Writes.{WriteEnds, AloneEnds};
 
-use crate::parcel::{CommitError, Reply, Request};
+use crate::parcel::{CommitError, Parcel, Reply, Request};
 use group_book::Book;
 use meter_frames::Frame;
 use round_machine::{Closing, Ending};
@@ -99,5 +99,23 @@ fn ended(group: u16, round: u32, ending: &Ending) -> Made
             ending: *ending,
         },
         reply: Reply::Ended(*ending),
+    }
+}
+
+impl Parcel {
+    /// Commits the parcel to a book that the caller has alone. An error adds no line.
+    pub fn commit_alone(&self, book: &mut Book) -> Result<Reply, CommitError>
+        requires { 1 ≤ book.old.spare }
+        ensures { AloneEnds book.old self.now result book.new }
+    {
+        let request = match self.request() {
+            Ok(request) => request,
+            Err(e) => return Err(CommitError::Frame(e)),
+        };
+        let Made { line: _, reply } = match write(book, &request) {
+            Ok(made) => made,
+            Err(e) => return Err(e),
+        };
+        Ok(reply)
     }
 }

@@ -65,14 +65,12 @@ fn with_meter(hearers: Hearers, meter: u8, missing: MeterSet) -> Hearers
     }
 }
 
-/// The meters that heard, with the meter of this frame where it is an announcement of the round.
-fn with_heard(hearers: Hearers, frame: &Frame, group: u16, round: u32) -> Hearers
-    ensures { (came : List Frame) → AreHearers came group round hearers → AreHearers (came ++ frame.now ∷ []) group round result }
+/// Adds the meter of this frame to those that heard, where it is an announcement of the round.
+fn add_heard(hearers: &mut Hearers, frame: &Frame, group: u16, round: u32)
+    ensures { (came : List Frame) → AreHearers came group round hearers.old → AreHearers (came ++ frame.now ∷ []) group round hearers.new }
 {
     if is_announcement(frame.tag, group, round) {
-        with_meter(hearers, frame.tag.meter, frame.missing)
-    } else {
-        hearers
+        *hearers = with_meter(*hearers, frame.tag.meter, frame.missing);
     }
 }
 
@@ -94,7 +92,7 @@ fn hearers_in(came: &[Frame], group: u16, round: u32) -> Hearers
 {
     let mut hearers = no_hearers();
     for frame in came {
-        hearers = with_heard(hearers, frame, group, round);
+        add_heard(&mut hearers, frame, group, round);
     }
     hearers
 }

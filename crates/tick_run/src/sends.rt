@@ -26,9 +26,6 @@ use std::thread;
 use std::thread::Threads;
 use transcript_log::{Draft, Entry, Line, Lines};
 
-/// The book gets a thread of its own where the frames are enough for so many threads that commit.
-const THREADS_WORTH: usize = 4;
-
 /// Learns that the delays of a fate are 1 to 16 ticks.
 fn fate_is(_fate: Fate)
     ensures { All IsDelay _fate }
@@ -117,7 +114,7 @@ fn both_halves<R: Threads, G: Gate>(
     ensures carried { OnOk result (Carries tick frames.now (slots (λ b. meaning (b.vtable, b.value)) rack.old) (slots (λ b. meaning (b.vtable, b.value)) rack.new) (posts_of rack.old) (posts_of rack.new) link.old link.new) }
     ensures room { HasRoom (λ b. meaning (b.vtable, b.value)) rack.new }
 {
-    if frames.len() / THREADS_WORTH < crew.gate.enough() {
+    if frames.len() < crew.gate.beside() {
         write_all(frames, book);
         return carry_all(tick, frames, rack, link);
     }

@@ -21,9 +21,6 @@ use std::sync::Wait;
 use std::thread;
 use std::thread::Threads;
 
-/// The meters get a thread of their own where the copies are enough for so many threads that commit.
-const THREADS_WORTH: usize = 4;
-
 /// What the two sides of a tick have made.
 #[derive(Drop)]
 pub(crate) struct Sides {
@@ -85,7 +82,7 @@ pub(crate) fn both_sides<R: Threads + Wait + Sync, G: Gate>(
 {
     let crew = &context.crew;
     let known = &context.known;
-    if copies.len() / THREADS_WORTH < crew.gate.enough() {
+    if copies.len() < crew.gate.beside() {
         let meters = meters_side(crew.rt, crew.alloc, meters, known, copies, tick);
         let head_end = take_and_close(crew, run, copies, tick);
         return Sides { head_end, meters };

@@ -24,7 +24,7 @@ const BYTES_A_PIECE: usize = 72 * 1024;
 const PIECES_A_BATCH: usize = 32;
 
 /// As many pieces as are worth a thread.
-const PIECES_A_THREAD: usize = 4;
+const PIECES_A_THREAD: usize = 8;
 
 /// How many pieces are made side by side of the entries from a place on.
 fn piece_count(transcript: &Transcript, at: usize) -> usize

@@ -12,6 +12,6 @@ pub loop-frame-preserved : goal.loop-frame-preserved
 loop-frame-preserved c =
     let came = c.args.came.now in
     let k = c.loop-frame.frame-index in
-    subst (λ l. AreHearers l c.args.group c.args.round c.with_heard-hearers.result)
+    subst (λ l. AreHearers l c.args.group c.args.round c.add_heard.new.hearers)
     (sym (take_more came k c.frame-item.result c.loop-frame-test.true ∙ ap (λ (f : Frame). take k came ++ f ∷ []) (sym c.frame-item.is)))
-    (c.with_heard-hearers.ensures (take k came) c.loop-frame.invariant)
+    (c.add_heard.ensures (take k came) c.loop-frame.invariant)
