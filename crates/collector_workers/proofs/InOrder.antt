@@ -1,5 +1,5 @@
 -- A batch that was committed one parcel after another has been collected.
-use Rattle.std.proofs.Common.{◌≡◌, ℕ, ◌+◌, ◌≤◌, ◌<◌, Bool, true, false, cond, if◌then◌else◌, List, [], ◌∷◌, ◌++◌, length, take, drop, get_or, count_by, sum_by, zip, Option, Some, None, Result, Ok, Err, refl, sym, ap, ◌∙◌, subst, append_assoc, append-nil, arith}
+use Rattle.std.proofs.Common.{◌≡◌, ℕ, ◌+◌, ◌≤◌, ◌<◌, Bool, true, false, cond, if◌then◌else◌, List, [], ◌∷◌, ◌++◌, length, take, drop, get_or, count_by, zip, Option, None, Result, Ok, Err, refl, sym, ap, ◌∙◌, subst, append_assoc, append-nil, arith}
 use Rattle.std.proofs.lemmas.List.Sums.{sum_by-cons}
 use Rattle.std.proofs.lemmas.List.{drop_all, drop_more, take_all, take_more_set}
 use Rattle.std.specs.List.{AllZip}
@@ -13,7 +13,6 @@ use Rattle.transcript_log.specs.declared.Line.{Line}
 use Rattle.transcript_log.specs.Events.{event_of, frame_of}
 use Rattle.transcript_log.specs.Schedule.{Shape, shape_of_presence}
 use Rattle.transcript_log.specs.Journal.{core_line, IsJournalAfter}
-use Rattle.group_book.specs.declared.answers.TakeError.{TakeError}
 use Rattle.group_book.specs.declared.answers.TakeError.TheVariants.{Unknown}
 use Rattle.group_book.specs.Books.{BookView, shape_of, posted_in}
 use Rattle.shared_book.specs.declared.parcel.Parcel.{Parcel}
@@ -23,13 +22,12 @@ use Rattle.shared_book.specs.declared.parcel.Request.TheVariants.{Take as TakeRe
 use Rattle.shared_book.specs.declared.parcel.CommitError.{CommitError}
 use Rattle.shared_book.specs.declared.parcel.CommitError.TheVariants.{Frame as FrameCause, NoSuch, Other, Done, Take as TakeCause, Place}
 use Rattle.shared_book.specs.Parcels.{Judged, Accepted, BadFrame, RefusedFrame, Outside, judged, judged_beside, judged_request, judged_if_read, request_of, reply_of}
-use Rattle.shared_book.specs.Writes.{Adds, AloneEnds}
+use Rattle.shared_book.specs.Writes.{AloneEnds}
 use Rattle.shared_book.proofs.Judging.{posts_nothing, accepted-posts_nothing, posted-core}
 use Rattle.shared_book.proofs.Histories.{core-itself, event_of-core}
 use Rattle.collector_workers.specs.declared.mark.Mark.{Mark}
-use Rattle.collector_workers.specs.declared.mark.Mark.TheVariants.{Made, Bad, Refused, OutOfPlan}
 use Rattle.collector_workers.specs.Batch.{IsMark, is_accepted, is_made, is_reply, says, Collects}
-use Rattle.collector_workers.specs.Alone.{AddsLine, Leaves, IsOfNewPlace, IsMarked, MarksOne, CommitsOne, MarksFirst, MarksAll}
+use Rattle.collector_workers.specs.Alone.{AddsLine, Leaves, IsOfNewPlace, IsMarked, MarksOne, CommitsOne, MarksAll}
 
 -- ---- one parcel
 

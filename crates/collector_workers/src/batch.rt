@@ -188,13 +188,13 @@ fn collect_with_room<R: Threads + Wait + Sync, G: Gate>(
     if busy_workers(workers as usize, batch.len(), gate.enough()) > 1 {
         collect_beside(rt, alloc, book, batch, workers, gate)
     } else {
-        collect_alone(alloc, book, &batch)
+        collect_alone(alloc, book, &batch, gate)
     }
 }
 
 /// Adds a batch to a book by workers. Each accepted parcel adds a line, in some order; every parcel has its mark. `workers`
-/// is an upper bound, as in `gather`; where one of them has all that is enough, the caller does it alone, in order, and
-/// calls no gate. At `Err` there was no memory.
+/// is an upper bound, as in `gather`; where there is too little for two, the caller is worker 1, and does all in order. At `Err`
+/// there was no memory.
 #[tactic(auto, using(crate::proofs::Journals::same_ends))]
 pub fn collect<R: Threads + Wait + Sync, G: Gate>(
     rt: &R,

@@ -6,7 +6,7 @@ use Rattle.collector_workers.proofs.InOrder.{in_order}
 use Rattle.collector_workers.proofs.alone.collect_alone.Goals as goal
 
 pub returns : goal.returns
-returns c =
+returns g c =
     let vec = c.in-Ok.replies in
     let marks = c.commit_all.new.marks in
     let slice = ap length c.as_mut_slice.ensures.value in

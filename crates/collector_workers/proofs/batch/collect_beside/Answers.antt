@@ -1,4 +1,4 @@
-use Rattle.std.proofs.Common.{◌≡◌, ◌∙◌, ap}
+use Rattle.std.proofs.Common.{◌≡◌, ap}
 use Rattle.shared_book.specs.declared.turn.Opening.{Opening}
 use Rattle.shared_book.specs.Ends.{opening, view}
 use Rattle.collector_workers.proofs.Journals.{collects}
