@@ -21,4 +21,6 @@ mod plan_files_readings_rows;
 #[cfg(test)]
 mod totals_report_rows;
 #[cfg(test)]
+mod transcript_log_rows;
+#[cfg(test)]
 mod transcript_text_rows;

@@ -1,7 +1,7 @@
 -- Small lines under a list of extras that grows.
-use Rattle.std.proofs.Common.{◌≡◌, ℕ, ◌<◌, ◌≤◌, List, [], ◌∷◌, ◌++◌, length, map, All, refl, sym, subst, ap, ap₂, ◌∙◌, arith}
-use Rattle.std.proofs.lemmas.List.{map-append}
-use Rattle.std.proofs.lemmas.List.Elements.{All-head, All-tail, All-push, All-weaker}
+use Rattle.std.proofs.Common.{◌≡◌, ℕ, ◌<◌, ◌≤◌, List, [], ◌∷◌, ◌++◌, length, map, get_or, All, zero, suc, refl, sym, subst, ap, ap₂, ◌∙◌, arith}
+use Rattle.std.proofs.lemmas.List.{map-append, length-map}
+use Rattle.std.proofs.lemmas.List.Elements.{All-head, All-tail, All-push, All-weaker, All-get_or}
 use Rattle.group_plan.specs.declared.Kind.TheVariants.{Reading, Announcement, Answer}
 use Rattle.round_machine.specs.declared.Closing.TheVariants as closing
 use Rattle.round_machine.specs.declared.Ending.TheVariants as ending
@@ -70,3 +70,15 @@ still_kept xs ys ls l line kept grows is one = record {
   placed = All-push (IsPlaced (length ys)) ls l (All-weaker (IsPlaced (length xs)) (IsPlaced (length ys)) (λ (x : SmallLine) (p : IsPlaced (length xs) x). placed-more (length xs) (length ys) x grows.least p) ls kept.placed) is.0;
   sound = subst (All IsLine) (sym (one_line_more xs ys ls l line kept grows is)) (All-push IsLine (map (line_in xs) ls) line kept.sound one);
 }
+
+-- ---- the line at a place
+
+pub line_at : (xs : List Extra) (ls : List SmallLine) (at : ℕ) (l : SmallLine) (line : Line) → at < length ls → l ≡ get_or ls at l → get_or (map (line_in xs) ls) at line ≡ line_in xs l
+line_at xs [] at l line lt is = absurd (omega arith)
+line_at xs (k ∷ ls) zero l line lt is = ap (line_in xs) (sym is)
+line_at xs (k ∷ ls) (suc at) l line lt is = line_at xs ls at l line (omega arith) is
+
+pub line_at_is : (xs : List Extra) (ls : List SmallLine) (at : ℕ) (l : SmallLine) → AreKept xs ls → at < length ls → l ≡ get_or ls at l → IsLine (line_in xs l)
+line_at_is xs ls at l kept lt is =
+    subst IsLine (line_at xs ls at l (line_in xs l) lt is)
+    (All-get_or IsLine (map (line_in xs) ls) at (line_in xs l) (omega (arith, lt, length-map ls (line_in xs))) kept.sound)

@@ -16,3 +16,4 @@ mod SameStamps
 mod StretchLemmas
 mod Pushing
 mod Drafting
+mod Tails

@@ -52,6 +52,17 @@ IsPlaced n (small.Total g r at) = at < n
 IsPlaced n (small.Lacking g r at) = at < n
 IsPlaced n _ = Unit {0}
 
+-- the extra that a small line names, where it names one
+abbrev pub named_in : List Extra → SmallLine → Option Extra
+named_in extras (small.SentReading m g r at) = Some (extra_at extras at)
+named_in extras (small.SentAnnouncement m g r at) = Some (extra_at extras at)
+named_in extras (small.SentAnswer m g r at) = Some (extra_at extras at)
+named_in extras (small.Announced g r at) = Some (extra_at extras at)
+named_in extras (small.ClosedThin g r at) = Some (extra_at extras at)
+named_in extras (small.Total g r at) = Some (extra_at extras at)
+named_in extras (small.Lacking g r at) = Some (extra_at extras at)
+named_in extras _ = None
+
 -- ---- how a line is made small
 
 -- the extra of a closing: its set, and 0 as the word

@@ -111,6 +111,26 @@ impl Draft {
         Ok(())
     }
 
+    /// How many entries there are.
+    pub fn len(&self) -> usize
+        ensures { result ≡ length self.now.entries }
+    {
+        self.stamps.len()
+    }
+
+    /// The entries from a place on, as a transcript of the same plan. The journal is that of all entries.
+    pub fn tail(&self, journal: &Lines, from: usize) -> Result<Transcript, AllocError>
+        requires within { from ≤ length self.now.entries }
+        requires journal { journal.now.items ≡ lines_of self.now.entries }
+        ensures { IfOk result (λ tail. tail ≡ record { plan = self.now.plan; entries = drop from self.now.entries }) }
+    {
+        Ok(Transcript {
+            plan: self.plan.try_copy()?,
+            stamps: self.stamps.tail(from)?,
+            lines: journal.tail(from)?,
+        })
+    }
+
     /// The transcript, with the journal that has just the lines of its entries.
     pub fn finish(self, journal: Lines) -> Result<Transcript, AllocError>
         requires { journal.items ≡ lines_of self.entries }

@@ -1,16 +1,18 @@
 //! A list of lines that is kept small: 12 bytes a line, and 12 more where it has a set of meters or a word, beside the sets.
 
-ghost use Rattle.std.specs.Prelude.{◌≡◌, ◌^◌, ◌+◌, ◌<◌, ◌≤◌, ◌++◌, [], ◌∷◌, IfOk, OnOk, OnErr, All, length, slice_index_or};
+ghost use Rattle.std.specs.Prelude.{◌≡◌, ◌^◌, ◌+◌, ◌<◌, ◌≤◌, ◌++◌, [], ◌∷◌, IfOk, OnOk, OnErr, All, drop, length, slice_index_or};
 ghost use Rattle.transcript_log.specs.declared.Line.{Line};
 ghost use Rattle.transcript_log.specs.Extras.{Grows};
 ghost use Rattle.transcript_log.specs.Kinds.{is_sending, is_taking};
 ghost use Rattle.transcript_log.specs.Lines.{HasOwnTag};
-ghost use Rattle.transcript_log.specs.SmallLines.{extra_of, StandsAt};
+ghost use Rattle.transcript_log.specs.SmallLines.{StandsAt};
 ghost use Rattle.transcript_log.specs.Transcripts.{IsLine};
 
 use crate::Line;
-use crate::extras::Extras;
-use crate::small::{SmallLine, extra_of, is_sending, is_taking, line_in, small_line};
+use crate::extras::{Extra, Extras};
+use crate::small::{
+    SmallLine, extra_of, is_sending, is_taking, line_in, moved, named_in, small_line,
+};
 use crate::transcript::line_is;
 use std::alloc::{AllocError, Global};
 use std::marker::Model;
@@ -35,14 +37,14 @@ impl Model for Lines {
 }
 
 /// Adds the extra of a line, where it has one. The place is that of the extra, and any place where the line has none.
-fn add_extra(extras: &mut Extras, line: &Line) -> u32
+fn add_extra(extras: &mut Extras, extra: Option<Extra>) -> u32
     requires { 0 < extras.old.spare }
-    ensures place { StandsAt extras.new.items result (extra_of line.now) }
+    ensures place { StandsAt extras.new.items result extra }
     ensures items { Grows extras.old.items extras.new.items }
     ensures spare { extras.old.spare ≤ extras.new.spare + 1 }
 {
     let at = extras.len();
-    if let Some(extra) = extra_of(line) {
+    if let Some(extra) = extra {
         extras.push_reserved(extra);
     }
     at
@@ -135,7 +137,7 @@ impl Lines {
         ensures spare { self.old.spare ≤ self.new.spare + 1 }
     {
         line_is(line);
-        let at = add_extra(&mut self.extras, line);
+        let at = add_extra(&mut self.extras, extra_of(line));
         self.lines.push_reserved(small_line(line, at));
     }
 
@@ -148,6 +150,32 @@ impl Lines {
         self.reserve(1)?;
         self.push_reserved(line);
         Ok(())
+    }
+
+    /// Adds the line at a place of another list where there is room for it.
+    fn push_from(&mut self, others: &Lines, at: usize)
+        requires room { 0 < self.old.spare }
+        requires within { at < length others.now.items }
+        ensures items { (line : Line) → self.new.items ≡ self.old.items ++ slice_index_or others.now.items at line ∷ [] }
+        ensures spare { self.old.spare ≤ self.new.spare + 1 }
+    {
+        let line = &others.lines[at];
+        let place = add_extra(&mut self.extras, named_in(&others.extras, line));
+        self.lines.push_reserved(moved(line, place));
+    }
+
+    /// The lines from a place on, in a list of their own.
+    pub fn tail(&self, from: usize) -> Result<Lines, AllocError>
+        requires { from ≤ length self.now.items }
+        ensures { IfOk result (λ tail. tail.items ≡ drop from self.now.items) }
+    {
+        let len = self.len();
+        let mut tail = Lines::new(*self.lines.allocator());
+        tail.reserve((len - from) as u64)?;
+        for at in from..len {
+            tail.push_from(self, at);
+        }
+        Ok(tail)
     }
 
     /// The same lines. For how many more there is room is not said.

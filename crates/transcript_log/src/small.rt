@@ -7,7 +7,7 @@ ghost use Rattle.transcript_log.specs.declared.extras.Extra.{Extra};
 ghost use Rattle.transcript_log.specs.Extras.{extra_at};
 ghost use Rattle.transcript_log.specs.Kinds.{is_sending, is_taking};
 ghost use Rattle.transcript_log.specs.Lines.{HasOwnTag};
-ghost use Rattle.transcript_log.specs.SmallLines.{tag_in, sent, line_in, IsPlaced, extra_of_closing, extra_of_ending, extra_of, StandsAt, IsKept};
+ghost use Rattle.transcript_log.specs.SmallLines.{tag_in, sent, line_in, named_in, IsPlaced, extra_of_closing, extra_of_ending, extra_of, StandsAt, IsKept};
 
 use crate::Line;
 use crate::extras::{Extra, Extras};
@@ -379,5 +379,78 @@ pub(crate) fn small_line(line: &Line, at: u32) -> SmallLine
             round,
             ending,
         } => small_ending(group, round, ending, at),
+    }
+}
+
+/// The set of meters and the word that a small line names, where it names them.
+pub(crate) fn named_in(extras: &Extras, line: &SmallLine) -> Option<Extra>
+    requires { IsPlaced (length extras.now.items) line.now }
+    ensures { result ≡ named_in extras.now.items line.now }
+{
+    match *line {
+        SmallLine::SentReading { at, .. }
+        | SmallLine::SentAnnouncement { at, .. }
+        | SmallLine::SentAnswer { at, .. }
+        | SmallLine::Announced { at, .. }
+        | SmallLine::ClosedThin { at, .. }
+        | SmallLine::Total { at, .. }
+        | SmallLine::Lacking { at, .. } => Some(extras.at(at)),
+        SmallLine::NotSent { .. }
+        | SmallLine::Took { .. }
+        | SmallLine::ClosedAlready { .. }
+        | SmallLine::EndedThin { .. }
+        | SmallLine::EndedAlready { .. }
+        | SmallLine::NotClosed { .. } => None,
+    }
+}
+
+/// The same line for another list of extras, where its extra, if it has one, stands at this place.
+pub(crate) fn moved(line: &SmallLine, at: u32) -> SmallLine
+    ensures { (extras others : List Extra) → StandsAt others at (named_in extras line.now) → IsKept others (line_in extras line.now) result }
+{
+    match *line {
+        SmallLine::SentReading {
+            meter,
+            group,
+            round,
+            ..
+        } => SmallLine::SentReading {
+            meter,
+            group,
+            round,
+            at,
+        },
+        SmallLine::SentAnnouncement {
+            meter,
+            group,
+            round,
+            ..
+        } => SmallLine::SentAnnouncement {
+            meter,
+            group,
+            round,
+            at,
+        },
+        SmallLine::SentAnswer {
+            meter,
+            group,
+            round,
+            ..
+        } => SmallLine::SentAnswer {
+            meter,
+            group,
+            round,
+            at,
+        },
+        SmallLine::Announced { group, round, .. } => SmallLine::Announced { group, round, at },
+        SmallLine::ClosedThin { group, round, .. } => SmallLine::ClosedThin { group, round, at },
+        SmallLine::Total { group, round, .. } => SmallLine::Total { group, round, at },
+        SmallLine::Lacking { group, round, .. } => SmallLine::Lacking { group, round, at },
+        SmallLine::NotSent { .. }
+        | SmallLine::Took { .. }
+        | SmallLine::ClosedAlready { .. }
+        | SmallLine::EndedThin { .. }
+        | SmallLine::EndedAlready { .. }
+        | SmallLine::NotClosed { .. } => *line,
     }
 }

@@ -1,6 +1,6 @@
 //! Lists of stamps that are kept small: equal ones one after another take 12 bytes, however many there are.
 
-ghost use Rattle.std.specs.Prelude.{◌≡◌, ◌<◌, ◌^◌, ◌+◌, [], ◌++◌, true, false, IfOk, OnOk, OnErr, length, replicate};
+ghost use Rattle.std.specs.Prelude.{◌≡◌, ◌<◌, ◌^◌, ◌+◌, ◌≤◌, [], ◌++◌, true, false, IfOk, OnOk, OnErr, drop, length, replicate};
 ghost use Rattle.transcript_log.specs.Stretches.{stamps_in};
 
 use crate::transcript::{Stamp, fate_is};
@@ -85,6 +85,23 @@ fn spell_out(alloc: Global, count: usize, stretches: &[Stretch]) -> Result<Vec<S
     Ok(stamps)
 }
 
+/// The place of the first of the last stretches that have at least so many stamps, and how many these have.
+fn last_stretches(stretches: &[Stretch], wanted: usize) -> (usize, usize)
+    requires enough { wanted ≤ length (stamps_in stretches.now) }
+    requires few { length (stamps_in stretches.now) < 2 ^ 64 }
+    ensures place { result.0 ≤ length stretches.now }
+    ensures len { result.1 ≡ length (stamps_in (drop result.0 stretches.now)) }
+    ensures enough { wanted ≤ result.1 }
+{
+    let mut at = stretches.len();
+    let mut len = 0;
+    while len < wanted {
+        at -= 1;
+        len += stretches[at].count as usize;
+    }
+    (at, len)
+}
+
 impl Stretches {
     /// No stamp, with memory for about so many stretches.
     pub(crate) fn with_room(alloc: Global, stretches: usize) -> Result<Stretches, AllocError>
@@ -119,5 +136,17 @@ impl Stretches {
         ensures { IfOk result (λ stamps. stamps.items ≡ self.now) }
     {
         spell_out(*self.stretches.allocator(), self.len, &self.stretches)
+    }
+
+    /// The stamps from a place on, one by one.
+    pub(crate) fn tail(&self, from: usize) -> Result<Vec<Stamp>, AllocError>
+        requires { from ≤ length self.now }
+        ensures { IfOk result (λ stamps. stamps.items ≡ drop from self.now) }
+    {
+        let alloc = *self.stretches.allocator();
+        let wanted = self.len - from;
+        let (first, len) = last_stretches(&self.stretches, wanted);
+        let stamps = spell_out(alloc, len, &self.stretches[first..])?;
+        Vec::from_slice(alloc, &stamps[len - wanted..])
     }
 }

@@ -1,11 +1,14 @@
-use Rattle.std.proofs.Common.{◌++◌, ◌∷◌, [], sym, ap, ◌∙◌, map, subst}
+use Rattle.std.proofs.Common.{◌++◌, ◌∷◌, [], Option, sym, ap, ◌∙◌, map, subst}
+use Rattle.transcript_log.specs.declared.extras.Extra.{Extra}
 use Rattle.transcript_log.specs.Lines.{LinesView}
-use Rattle.transcript_log.specs.SmallLines.{line_in, AreKept, IsKept}
+use Rattle.transcript_log.specs.SmallLines.{line_in, StandsAt, AreKept, IsKept}
 use Rattle.transcript_log.proofs.KeptLines.{still_kept, one_line_more}
 use Rattle.transcript_log.proofs.lines.Lines.push_reserved.Goals as goal
 
 is_kept : (c : goal.After-push_reserved) → IsKept c.add_extra-at.new.extras.items c.args.line.now c.small_line.result
-is_kept c = c.small_line.ensures c.add_extra-at.new.extras.items c.add_extra-at.ensures.place
+is_kept c =
+    c.small_line.ensures c.add_extra-at.new.extras.items
+    (subst (λ (extra : Option Extra). StandsAt c.add_extra-at.new.extras.items c.add_extra-at.result extra) c.extra_of.ensures c.add_extra-at.ensures.place)
 
 pub invariant_of-self : goal.invariant_of-self
 invariant_of-self c =
