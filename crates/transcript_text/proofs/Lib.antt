@@ -30,6 +30,7 @@ mod EntriesAgain
 mod SpanAgain
 mod HeadAgain
 mod HexLemmas
+pub mod BegunText
 pub mod ReadAgain
 pub mod WholeLines
 mod Located

@@ -1,7 +1,7 @@
 -- Pieces of the lines of entries that are made side by side.
 use Rattle.std.specs.Prelude.{◌≡◌, ℕ, ◌+◌, ◌*◌, ◌<◌, min, List, ◌++◌, length, All}
 use Rattle.transcript_log.specs.declared.Entry.{Entry}
-use Rattle.transcript_text.specs.Writing.{IsWritable, text_from}
+use Rattle.transcript_text.specs.Writing.{IsWritable, lines_from}
 
 -- the place at which piece k begins, where the first one begins at a place
 abbrev pub piece_start : List Entry → ℕ → ℕ → ℕ
@@ -15,5 +15,5 @@ pub record HasPiece (entries : List Entry) (at k : ℕ) : Type 0 where
 
 -- the bytes are the lines of piece k, and there are some
 pub record IsPiece (entries : List Entry) (at k : ℕ) (bytes : List ℕ) : Type 0 where
-  pub lines : bytes ++ text_from entries (piece_start entries at (k + 1)) ≡ text_from entries (piece_start entries at k)
+  pub lines : bytes ++ lines_from entries (piece_start entries at (k + 1)) ≡ lines_from entries (piece_start entries at k)
   pub some : 0 < length bytes

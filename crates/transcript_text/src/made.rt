@@ -7,10 +7,19 @@ use std::collections::VecDeque;
 pub(crate) enum Place {
     /// The head.
     Head,
-    /// The line of the entry at this place, or after the last entry the `end` line.
+    /// The line of the entry at this place, or what stands behind the last entry.
     Entry(usize),
     /// Nothing.
     End,
+}
+
+/// How far a text goes.
+#[derive(Clone, Copy, Debug)]
+pub(crate) enum Until {
+    /// As far as the last entry.
+    LastEntry,
+    /// As far as the `end` line, which is its last.
+    EndLine,
 }
 
 /// Pieces of a text that are made and not yet taken, and what comes after them.

@@ -1,16 +1,16 @@
 //! The text of a transcript, made in pieces.
 
-ghost use Rattle.std.specs.Prelude.{◌≡◌, ◌≤◌, ◌++◌, ◌∷◌, [], length, All, Ok, OnOk, OnErr, IfOk};
+ghost use Rattle.std.specs.Prelude.{◌≡◌, ◌<◌, ◌≤◌, ◌++◌, ◌∷◌, [], length, take, All, Ok, OnOk, OnErr, IfOk};
 ghost use Rattle.transcript_log.specs.Transcripts.{IsTranscript};
 ghost use Rattle.transcript_text.specs.declared.version.Version.TheVariants.{Two};
 ghost use Rattle.transcript_text.specs.Heads.{read_of};
 ghost use Rattle.transcript_text.specs.Spelling.{transcript_text};
-ghost use Rattle.transcript_text.specs.Writing.{IsWritable};
-ghost use Rattle.transcript_text.specs.Pieces.{bytes_of, to_come, AreFilled, AreNext};
+ghost use Rattle.transcript_text.specs.Writing.{IsWritable, lines_text, begun_text};
+ghost use Rattle.transcript_text.specs.Pieces.{bytes_of, rest_at, to_come, AreFilled, AreNext, AreNextOfBoth};
 
-use crate::batch::next_batch;
+use crate::batch::{PIECES_A_BATCH, next_batch};
 use crate::head_writing::put_head;
-use crate::made::{Made, Place};
+use crate::made::{Made, Place, Until};
 use crate::writing::put_end;
 use std::alloc::{AllocError, Global};
 use std::collections::VecDeque;
@@ -18,13 +18,14 @@ use std::marker::Model;
 use std::thread::Threads;
 use transcript_log::Transcript;
 
-/// The text of a transcript, which is made in pieces, many of them side by side. Clauses see it as the bytes that are
-/// still to come.
+/// The text of a transcript, or a part of it, which is made in pieces, many of them side by side. Clauses see it as the
+/// bytes that are still to come.
 #[derive(Drop)]
 pub struct TextPieces<'a, R: Threads + Sync> {
     rt: &'a R,
     alloc: Global,
     transcript: &'a Transcript,
+    until: Until,
     made: Made,
 }
 
@@ -34,7 +35,7 @@ impl<'a, R: Threads + Sync> Model for TextPieces<'a, R> {
 
     ghost Value = { List ℕ };
 
-    ghost view = { λ p. to_come p.transcript.now p.made };
+    ghost view = { λ p. to_come p.transcript.now p.until p.made };
 
     ghost invariant = { λ p. AreFilled p.made.pieces.items };
 }
@@ -50,21 +51,59 @@ fn one(alloc: Global, piece: Vec<u8>, after: Place) -> Result<Made, AllocError>
 
 /// The head.
 fn head(alloc: Global, transcript: &Transcript) -> Result<Made, AllocError>
-    ensures { IfOk result (AreNext transcript.now Place.Head) }
+    ensures { IfOk result (AreNextOfBoth transcript.now Place.Head) }
 {
     let mut piece = Vec::new(alloc);
     put_head(&mut piece, transcript.plan())?;
     one(alloc, piece, Place::Entry(0))
 }
 
-/// The `end` line after so many entries, which are all.
-fn end(alloc: Global, transcript: &Transcript, entries: usize) -> Result<Made, AllocError>
-    requires { length transcript.now.entries ≤ entries }
-    ensures { IfOk result (AreNext transcript.now (Place.Entry entries)) }
+/// The `end` line, behind the last entry.
+fn end(alloc: Global, transcript: &Transcript, at: usize) -> Result<Made, AllocError>
+    requires { length transcript.now.entries ≤ at }
+    ensures { IfOk result (AreNext transcript.now Until.EndLine (Place.Entry at)) }
 {
     let mut piece = Vec::new(alloc);
-    put_end(&mut piece, entries)?;
+    put_end(&mut piece, transcript.len())?;
     one(alloc, piece, Place::End)
+}
+
+/// No piece, and nothing after it.
+fn nothing(alloc: Global) -> Made
+    ensures { (result.pieces.items ≡ []) × (result.after ≡ Place.End) }
+{
+    Made {
+        pieces: VecDeque::new(alloc),
+        after: Place::End,
+    }
+}
+
+/// What stands behind the last entry.
+#[tactic(auto, using(crate::proofs::PieceLemmas::nothing_next))]
+fn behind_lines(
+    alloc: Global,
+    transcript: &Transcript,
+    until: Until,
+    at: usize,
+) -> Result<Made, AllocError>
+    requires { length transcript.now.entries ≤ at }
+    ensures { IfOk result (AreNext transcript.now until (Place.Entry at)) }
+{
+    match until {
+        Until::LastEntry => Ok(nothing(alloc)),
+        Until::EndLine => end(alloc, transcript, at),
+    }
+}
+
+/// How many pieces are made side by side. A part's are made one by one, since its text is made beside a run that goes on.
+fn pieces_at_once(until: Until) -> usize
+    ensures some { 0 < result }
+    ensures few { result ≤ 32 }
+{
+    match until {
+        Until::LastEntry => 1,
+        Until::EndLine => PIECES_A_BATCH,
+    }
 }
 
 /// The next pieces from a place on.
@@ -72,19 +111,19 @@ fn next_pieces(
     rt: &(impl Threads + Sync),
     alloc: Global,
     transcript: &Transcript,
+    until: Until,
     place: Place,
 ) -> Result<Made, AllocError>
     requires { All (λ e. IsWritable e.line) transcript.now.entries }
-    ensures { IfOk result (AreNext transcript.now place) }
+    ensures { IfOk result (AreNext transcript.now until place) }
 {
     match place {
         Place::Head => head(alloc, transcript),
-        Place::Entry(at) if at < transcript.len() => next_batch(rt, alloc, transcript, at),
-        Place::Entry(at) => end(alloc, transcript, at),
-        Place::End => Ok(Made {
-            pieces: VecDeque::new(alloc),
-            after: Place::End,
-        }),
+        Place::Entry(at) if at < transcript.len() => {
+            next_batch(rt, alloc, transcript, at, pieces_at_once(until))
+        }
+        Place::Entry(at) => behind_lines(alloc, transcript, until, at),
+        Place::End => Ok(nothing(alloc)),
     }
 }
 
@@ -93,16 +132,17 @@ fn refill(
     rt: &(impl Threads + Sync),
     alloc: Global,
     transcript: &Transcript,
+    until: Until,
     made: &mut Made,
 ) -> Result<(), AllocError>
     requires lines { All (λ e. IsWritable e.line) transcript.now.entries }
     requires filled { AreFilled made.old.pieces.items }
-    ensures text { to_come transcript.now made.new ≡ to_come transcript.now made.old }
+    ensures text { to_come transcript.now until made.new ≡ to_come transcript.now until made.old }
     ensures filled { AreFilled made.new.pieces.items }
-    ensures end { OnOk result (made.new.pieces.items ≡ [] → to_come transcript.now made.new ≡ []) }
+    ensures end { OnOk result (made.new.pieces.items ≡ [] → to_come transcript.now until made.new ≡ []) }
 {
     if made.pieces.is_empty() {
-        *made = next_pieces(rt, alloc, transcript, made.after)?;
+        *made = next_pieces(rt, alloc, transcript, until, made.after)?;
     }
     Ok(())
 }
@@ -121,8 +161,30 @@ fn take_first(pieces: &mut VecDeque<Vec<u8>>, piece: &mut Vec<u8>)
 }
 
 impl<'a, R: Threads + Sync> TextPieces<'a, R> {
+    /// The text from a place on, as far as it is to go.
+    fn at(
+        rt: &'a R,
+        alloc: Global,
+        transcript: &'a Transcript,
+        place: Place,
+        until: Until,
+    ) -> TextPieces<'a, R>
+        ensures { result ≡ rest_at transcript.now until place }
+    {
+        TextPieces {
+            rt,
+            alloc,
+            transcript,
+            until,
+            made: Made {
+                pieces: VecDeque::new(alloc),
+                after: place,
+            },
+        }
+    }
+
     /// The whole text.
-    #[tactic(auto, using(crate::proofs::ReadAgain::read_again))]
+    #[tactic(auto, using(crate::proofs::ReadAgain::read_again, crate::proofs::BegunText::whole))]
     pub fn new(rt: &'a R, alloc: Global, transcript: &'a Transcript) -> TextPieces<'a, R>
         ensures text { result ≡ transcript_text transcript.now }
         // What holds of every transcript.
@@ -131,15 +193,42 @@ impl<'a, R: Threads + Sync> TextPieces<'a, R> {
         ensures read_back { read_of Two (transcript_text transcript.now) ≡ Ok transcript.now }
     {
         let _entries = transcript.len();
-        TextPieces {
-            rt,
-            alloc,
-            transcript,
-            made: Made {
-                pieces: VecDeque::new(alloc),
-                after: Place::Head,
-            },
-        }
+        TextPieces::at(rt, alloc, transcript, Place::Head, Until::EndLine)
+    }
+
+    /// The head and the lines of a part that begins with the first entry, without the `end` line.
+    #[tactic(auto, using(crate::proofs::BegunText::begun))]
+    pub fn begun(rt: &'a R, alloc: Global, part: &'a Transcript) -> TextPieces<'a, R>
+        ensures { result ≡ begun_text part.now.plan part.now.entries }
+    {
+        TextPieces::at(rt, alloc, part, Place::Head, Until::LastEntry)
+    }
+
+    /// The lines of a part, without the head and the `end` line.
+    #[tactic(auto, using(crate::proofs::BegunText::lines))]
+    pub fn lines(rt: &'a R, alloc: Global, part: &'a Transcript) -> TextPieces<'a, R>
+        ensures { result ≡ lines_text part.now.entries }
+    {
+        TextPieces::at(rt, alloc, part, Place::Entry(0), Until::LastEntry)
+    }
+
+    /// What is left of the text behind so many entries: the lines of those after them, and the `end` line.
+    #[tactic(auto, using(crate::proofs::ReadAgain::read_again, crate::proofs::BegunText::left))]
+    pub fn after(
+        rt: &'a R,
+        alloc: Global,
+        transcript: &'a Transcript,
+        entries: usize,
+    ) -> TextPieces<'a, R>
+        requires { entries ≤ length transcript.now.entries }
+        ensures text { begun_text transcript.now.plan (take entries transcript.now.entries) ++ result ≡ transcript_text transcript.now }
+        // What holds of every transcript.
+        ensures sound { IsTranscript transcript.now }
+        // So `read` gives the transcript back.
+        ensures read_back { read_of Two (transcript_text transcript.now) ≡ Ok transcript.now }
+    {
+        let _entries = transcript.len();
+        TextPieces::at(rt, alloc, transcript, Place::Entry(entries), Until::EndLine)
     }
 
     /// Puts the next bytes in place of what the piece held: the head, some hundreds of lines, or the `end` line. It is
@@ -151,7 +240,13 @@ impl<'a, R: Threads + Sync> TextPieces<'a, R> {
         ensures err { OnErr result (self.new ≡ self.old) }
     {
         let _entries = self.transcript.len();
-        refill(self.rt, self.alloc, self.transcript, &mut self.made)?;
+        refill(
+            self.rt,
+            self.alloc,
+            self.transcript,
+            self.until,
+            &mut self.made,
+        )?;
         take_first(&mut self.made.pieces, piece);
         Ok(())
     }

@@ -5,7 +5,7 @@ ghost use Rattle.meter_frames.specs.Frames.{spelling, FitsKind};
 ghost use Rattle.transcript_text.specs.declared.version.Version.TheVariants.{Two};
 ghost use Rattle.field_texts.specs.Sets.{numbers_text};
 ghost use Rattle.transcript_text.specs.Spelling.{ended, joined, verdict_text, tag_fields, sent_fields, closing_fields, ending_fields, entry_text, entries_text};
-ghost use Rattle.transcript_text.specs.Writing.{IsWritable, text_from};
+ghost use Rattle.transcript_text.specs.Writing.{IsWritable, lines_from};
 
 use crate::hex_digits::hex_digits;
 use field_texts::{put_number, put_set};
@@ -192,7 +192,7 @@ pub(crate) fn put_lines(
     requires lines { All (λ e. IsWritable e.line) transcript.now.entries }
     requires order { from ≤ until }
     requires within { until ≤ length transcript.now.entries }
-    ensures lines { OnOk result (out.new.items ++ text_from transcript.now.entries until ≡ out.old.items ++ text_from transcript.now.entries from) }
+    ensures lines { OnOk result (out.new.items ++ lines_from transcript.now.entries until ≡ out.old.items ++ lines_from transcript.now.entries from) }
     ensures some { OnOk result (from < until → 0 < length out.new.items) }
 {
     for at in from..until {
