@@ -1,3 +1,4 @@
+pub mod Begun
 pub mod Desk
 pub mod Files
 pub mod Groups

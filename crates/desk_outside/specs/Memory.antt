@@ -1,10 +1,11 @@
 -- A desk in memory: what it tells, and which of its calls fail.
-use Rattle.std.specs.Prelude.{◌≡◌, ℕ, Bool, true, false, ◌||◌, if◌then◌else◌, List, [], Some, None, is_none, Result, Ok, Err, Vec, ⊤}
+use Rattle.std.specs.Prelude.{◌≡◌, ℕ, Bool, true, false, ◌||◌, if◌then◌else◌, List, [], Some, None, is_none, Result, Ok, Err, Vec, string_bytes, ⊤}
 use Rattle.std.specs.declared.alloc.Global.{Global}
 use Rattle.desk_outside.specs.declared.desk.FetchError.{FetchError}
 use Rattle.desk_outside.specs.declared.desk.FetchError.TheVariants.{Failed as FetchFailed, TooLong as FetchTooLong, Memory as FetchMemory}
 use Rattle.desk_outside.specs.declared.desk.DeskError.{DeskError}
 use Rattle.desk_outside.specs.declared.desk.DeskError.TheVariants.{Failed, Memory}
+use Rattle.desk_outside.specs.declared.memory.BegunInMemory.{BegunInMemory}
 use Rattle.desk_outside.specs.declared.memory.MemoryDesk.{MemoryDesk}
 use Rattle.desk_outside.specs.Parts.{held_in, is_listed}
 use Rattle.desk_outside.specs.Desk.{View, Step, stored, after_step, one_more}
@@ -20,6 +21,14 @@ empty_view = record { held = λ name. Some None; said = Some []; complained = So
 -- the outside once the name holds the bytes, with no call
 abbrev pub after_place : View → List ℕ → List ℕ → View
 after_place v name bytes = record v { held = stored v.held name bytes }
+
+-- the name for which a file was begun
+abbrev pub begun_name : BegunInMemory → List ℕ
+begun_name file = string_bytes file.name
+
+-- what a begun file has
+abbrev pub begun_bytes : BegunInMemory → List ℕ
+begun_bytes file = file.bytes.items
 
 -- how often its calls have failed
 abbrev pub faults_of : MemoryDesk → ℕ

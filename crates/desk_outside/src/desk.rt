@@ -1,9 +1,10 @@
 //! The outside, as a program sees it.
 
-ghost use Rattle.std.specs.Prelude.{◌≡◌, ◌≤◌, ◌<◌, ◌^◌, ℕ, IfOk, IsErrOf};
+ghost use Rattle.std.specs.Prelude.{◌≡◌, ◌≤◌, ◌<◌, ◌^◌, ℕ, [], IfOk, IfSome, IsErrOf};
+ghost use Rattle.desk_outside.specs.Begun.{Has, BegunPutEnds};
 ghost use Rattle.desk_outside.specs.Desk.{View, FetchEnds, PutEnds, SayEnds, ComplainEnds, Rose};
 
-use crate::Pieces;
+use crate::{BegunFile, Pieces};
 use std::alloc::{AllocError, Global};
 use std::marker::Model;
 use thiserror::Error;
@@ -89,6 +90,9 @@ pub enum DeskError {
 
 /// Named bytes, an output and a place for complaints.
 pub trait Desk {
+    /// A new file that the desk has begun.
+    type Begun: BegunFile + Send + Drop;
+
     /// What the names hold, what was said and complained, and the calls, each where it is told.
     ghost view: { Self → View };
 
@@ -117,6 +121,26 @@ pub trait Desk {
         ensures later { faults self.old ≤ faults self.new }
         ensures cause { IsErrOf result DeskError.Failed
             → Rose (faults self.old) (faults self.new) };
+
+    /// Begins a new file for a name, ahead of its bytes. None where that can't be had: a put of the name then tells why.
+    fn begin(&mut self, name: &str) -> Option<Self::Begun>
+        ensures same_view { view self.new ≡ view self.old }
+        ensures same_faults { faults self.new ≡ faults self.old }
+        ensures begun { IfSome result (λ file. (Self.Begun.name file ≡ name.now) × Has (Self.Begun.contents file) []) };
+
+    /// Puts what a begun file has, and then the bytes that are still to come, under its name, in place of what that held.
+    /// Where that was not done the begun file is gone.
+    fn put_begun<P: Pieces>(&mut self, file: Self::Begun, pieces: &mut P) -> Result<(), DeskError>
+        requires { P.ready pieces.old }
+        ensures ends { BegunPutEnds (Self.Begun.name file) (Self.Begun.contents file) (P.rest pieces.old) (view self.old) (view self.new) result }
+        ensures later { faults self.old ≤ faults self.new }
+        ensures cause { IsErrOf result DeskError.Failed
+            → Rose (faults self.old) (faults self.new) };
+
+    /// Lets a begun file go. Its name holds what it held.
+    fn discard(&mut self, file: Self::Begun)
+        ensures same_view { view self.new ≡ view self.old }
+        ensures same_faults { faults self.new ≡ faults self.old };
 
     /// Prints the bytes.
     fn say(&mut self, bytes: &[u8]) -> Result<(), DeskError>

@@ -1,15 +1,17 @@
 //! The desk over files and the standard streams, of which it tells nothing.
 
-ghost use Rattle.std.specs.Prelude.{◌≡◌, ◌≤◌, ◌<◌, ◌^◌, IsErrOf};
+ghost use Rattle.std.specs.Prelude.{◌≡◌, ◌≤◌, ◌<◌, ◌^◌, string_bytes, None, IfOk, IfSome, IsErrOf};
+ghost use Rattle.desk_outside.specs.Begun.{BegunPutEnds};
 ghost use Rattle.desk_outside.specs.Desk.{FetchEnds, PutEnds, SayEnds, ComplainEnds, Rose, one_more, untold};
 
+use crate::flow::{Flusher, append_groups, append_pieces};
 use crate::pieces::{Slice, write_pieces};
-use crate::whole::{FileId, replace, without_link};
-use crate::{Desk, DeskError, FetchError, Pieces};
+use crate::whole::{FileId, NewFile, replace, without_link};
+use crate::{BegunFile, Desk, DeskError, FetchError, Pieces};
 use std::alloc::Global;
-use std::fs::{File, OpenFile, OpenOptions};
-use std::io::{ErrorKind, Read};
-use std::path::Path;
+use std::fs::{File, OpenFile, OpenOptions, Permissions};
+use std::io::{ErrorKind, Read, Write};
+use std::path::PathBuf;
 use std::rt::Files;
 use std::thread::Threads;
 use std::{fs, io, str};
@@ -30,7 +32,7 @@ pub struct FileDesk<'r, R> {
 }
 
 impl<'r, R: Files<File = File> + Print + Eprint + AllocGlobal + Threads> FileDesk<'r, R> {
-    ghost use Rattle.desk_outside.specs.Files.{faults_of};
+    ghost use Rattle.desk_outside.specs.Files.{faults_of, Counts};
 
     /// A desk that has fetched nothing and counts no fault.
     pub fn new(rt: &'r R) -> FileDesk<'r, R>
@@ -74,51 +76,152 @@ impl<'r, R: Files<File = File> + Print + Eprint + AllocGlobal + Threads> FileDes
         }
     }
 
-    // Puts the pieces where the name leads to a file or to something else that takes bytes.
-    fn put_over<P: Pieces>(
-        &self,
-        mut found: File,
-        name: &str,
-        pieces: &mut P,
-    ) -> Result<(), DeskError>
-        requires { P.ready pieces.old }
-    {
+    // How to put where the name leads to a file or to something else that takes bytes.
+    fn way_over(&self, found: File, name: &str) -> Result<Way, DeskError> {
         let metadata = found.metadata().map_err(put_error)?;
         let file = FileId::of(&metadata);
         if metadata.is_file() && self.fetched.contains(&file) {
             return Err(DeskError::Failed);
         }
         if self.is_output(file) {
-            let mut output = io::writer(self.rt);
-            return write_pieces(self.alloc, &mut output, pieces).map_err(|_| DeskError::Failed);
+            return Ok(Way::Output);
         }
         if !metadata.is_file() {
-            return write_pieces(self.alloc, &mut found, pieces).map_err(|_| DeskError::Failed);
+            return Ok(Way::AsItIs(found));
         }
         let path = without_link(self.rt, self.alloc, name).map_err(put_error)?;
-        let permissions = Some(metadata.permissions());
-        replace(self.rt, self.alloc, path.as_path(), permissions, pieces).map_err(put_error)
+        Ok(Way::Whole(path, Some(metadata.permissions())))
     }
 
-    // Puts the pieces under a name that leads nowhere.
-    fn put_new<P: Pieces>(&self, name: &str, pieces: &mut P) -> Result<(), DeskError>
-        requires { P.ready pieces.old }
-    {
+    // How to put under a name that leads nowhere.
+    fn way_new(&self, name: &str) -> Result<Way, DeskError> {
         if fs::symlink_metadata(self.rt, name).is_ok() {
             return Err(DeskError::Failed);
         }
-        replace(self.rt, self.alloc, Path::new(name), None, pieces).map_err(put_error)
+        Ok(Way::Whole(PathBuf::from_str(self.alloc, name)?, None))
+    }
+
+    // How to put under a name.
+    fn way(&self, name: &str) -> Result<Way, DeskError> {
+        match OpenOptions::new().write(true).open(self.rt, name) {
+            Ok(found) => self.way_over(found, name),
+            Err(error) if error.kind() == ErrorKind::NotFound => self.way_new(name),
+            Err(error) => Err(put_error(error)),
+        }
     }
 
     // Puts the pieces and counts nothing.
     fn put_uncounted<P: Pieces>(&self, name: &str, pieces: &mut P) -> Result<(), DeskError>
         requires { P.ready pieces.old }
     {
-        match OpenOptions::new().write(true).open(self.rt, name) {
-            Ok(found) => self.put_over(found, name, pieces),
-            Err(error) if error.kind() == ErrorKind::NotFound => self.put_new(name, pieces),
-            Err(error) => Err(put_error(error)),
+        let put = match self.way(name)? {
+            Way::Whole(path, permissions) => {
+                return replace(self.rt, self.alloc, path, permissions, pieces).map_err(put_error);
+            }
+            Way::AsItIs(mut found) => write_pieces(self.alloc, &mut found, pieces),
+            Way::Output => write_pieces(self.alloc, &mut io::writer(self.rt), pieces),
+        };
+        put.map_err(|_| DeskError::Failed)
+    }
+
+    // Counts a put where it failed.
+    fn counted(&mut self, put: Result<(), DeskError>) -> Result<(), DeskError>
+        ensures same { result ≡ put }
+        ensures count { Counts (faults_of self.old) (faults_of self.new) result }
+    {
+        if put == Err(DeskError::Failed) {
+            self.count_fault();
         }
+        put
+    }
+
+    // Begins a new file where a put would make one.
+    fn begin_whole(&self, name: &str) -> Option<BegunOnDisk<'r, R>>
+        ensures { IfSome result (λ file. string_bytes file.name ≡ name.now) }
+    {
+        // A pipe isn't opened ahead of its bytes, since its reader would come to their end.
+        if fs::metadata(self.rt, name).is_ok_and(|found| !found.is_file()) {
+            return None;
+        }
+        match self.way(name) {
+            Ok(Way::Whole(path, permissions)) => self.begin_at(name, path, permissions).ok(),
+            Ok(Way::AsItIs(_) | Way::Output) | Err(_) => None,
+        }
+    }
+
+    // Begins a new file beside a path, for a name that leads there.
+    fn begin_at(
+        &self,
+        name: &str,
+        path: PathBuf,
+        permissions: Option<Permissions>,
+    ) -> io::Result<BegunOnDisk<'r, R>>
+        ensures { IfOk result (λ file. string_bytes file.name ≡ name.now) }
+    {
+        let name = String::from_str(self.alloc, name)?;
+        let file = NewFile::begin(self.rt, self.alloc, path, permissions)?;
+        let flusher = Flusher::new(file.handle.try_clone().ok());
+        Ok(BegunOnDisk {
+            rt: self.rt,
+            alloc: self.alloc,
+            name,
+            file,
+            flusher,
+        })
+    }
+}
+
+// How to put under a name.
+#[derive(Drop)]
+enum Way {
+    // By a new file that takes the path, with these permissions or those of any new file.
+    Whole(PathBuf, Option<Permissions>),
+    // Into what the name leads to.
+    AsItIs(File),
+    // Into standard output.
+    Output,
+}
+
+/// A file that a desk over files has begun. It lies beside the path that it will take. What it has goes to the disk while more
+/// is appended.
+#[derive(Drop)]
+pub struct BegunOnDisk<'r, R> {
+    rt: &'r R,
+    alloc: Global,
+    name: String,
+    file: NewFile<File>,
+    flusher: Flusher<File>,
+}
+
+impl<'r, R: Files<File = File> + Threads> BegunOnDisk<'r, R> {
+    // Writes the bytes that are still to come, one piece after another.
+    fn write_on<P: Pieces>(&mut self, pieces: &mut P) -> io::Result<()>
+        requires { P.ready pieces.old }
+        ensures { self.new.name ≡ self.old.name }
+    {
+        let (handle, flusher) = (&mut self.file.handle, &mut self.flusher);
+        append_pieces(self.alloc, handle, flusher, pieces)
+    }
+
+    // Writes the bytes that are still to come, which are the last ones, and makes pieces beside that.
+    fn write_last<P: Pieces>(&mut self, pieces: &mut P) -> io::Result<()>
+        requires { P.ready pieces.old }
+        ensures { self.new.name ≡ self.old.name }
+    {
+        let (handle, flusher) = (&mut self.file.handle, &mut self.flusher);
+        append_groups(self.rt, self.alloc, handle, flusher, pieces)
+    }
+}
+
+impl<'r, R: Files<File = File> + Threads> BegunFile for BegunOnDisk<'r, R> {
+    ghost use Rattle.desk_outside.specs.Files.{begun_name};
+
+    ghost name = { begun_name };
+
+    ghost contents = { λ begun. ⟦<File as Write>⟧.contents begun.file.handle };
+
+    fn append<P: Pieces>(&mut self, pieces: &mut P) -> Result<(), DeskError> {
+        self.write_on(pieces).map_err(put_error)
     }
 }
 
@@ -131,8 +234,11 @@ fn put_error(error: io::Error) -> DeskError {
 }
 
 #[tactic(auto, unfolding(crate::specs::Desk::after_step))]
-impl<'r, R: Files<File = File> + Print + Eprint + AllocGlobal + Threads> Desk for FileDesk<'r, R> {
-    ghost use Rattle.desk_outside.specs.Files.{faults_of, CountsFetch, Counts};
+impl<'r, R: Files<File = File> + Print + Eprint + AllocGlobal + Threads + Sync> Desk
+    for FileDesk<'r, R> {
+    type Begun = BegunOnDisk<'r, R>;
+
+    ghost use Rattle.desk_outside.specs.Files.{faults_of, begun_name, CountsFetch, Counts};
 
     ghost view = { λ _. untold };
 
@@ -177,10 +283,33 @@ impl<'r, R: Files<File = File> + Print + Eprint + AllocGlobal + Threads> Desk fo
         ensures count { Counts (faults_of self.old) (faults_of self.new) result }
     {
         let put = self.put_uncounted(name, pieces);
-        if put == Err(DeskError::Failed) {
-            self.count_fault();
-        }
-        put
+        self.counted(put)
+    }
+
+    fn begin(&mut self, name: &str) -> Option<BegunOnDisk<'r, R>> {
+        self.begin_whole(name)
+    }
+
+    fn put_begun<P: Pieces>(
+        &mut self,
+        file: BegunOnDisk<'r, R>,
+        pieces: &mut P,
+    ) -> Result<(), DeskError>
+        requires { P.ready pieces.old }
+        ensures ends { BegunPutEnds (begun_name file.entry) None (P.rest pieces.old) untold untold result }
+        ensures later { faults_of self.old ≤ faults_of self.new }
+        ensures cause { IsErrOf result DeskError.Failed
+            → Rose (faults_of self.old) (faults_of self.new) }
+        ensures count { Counts (faults_of self.old) (faults_of self.new) result }
+    {
+        let mut file = file;
+        let written = file.write_last(pieces);
+        let put = file.file.finish(self.rt, written).map_err(put_error);
+        self.counted(put)
+    }
+
+    fn discard(&mut self, file: BegunOnDisk<'r, R>) {
+        file.file.remove(self.rt);
     }
 
     fn say(&mut self, bytes: &[u8]) -> Result<(), DeskError>

@@ -5,6 +5,7 @@ ghost use Rattle.std.specs.Io.KnownBytes.{Appends};
 ghost use Rattle.desk_outside.specs.Groups.{bytes_of};
 
 use crate::Pieces;
+use crate::pieces::write_pieces;
 use std::alloc::{AllocError, Global};
 use std::fs::OpenFile;
 use std::io;
@@ -62,11 +63,33 @@ fn write_group<W: Write>(out: &mut W, group: &[Vec<u8>]) -> io::Result<()>
     Ok(())
 }
 
-// Has what was written on the disk, where there is a handle for it.
-fn flush<F: OpenFile>(handle: &mut Option<F>) -> io::Result<()> {
-    match handle {
-        Some(file) => file.sync_data(),
-        None => Ok(()),
+// What has the bytes of a file on the disk while more of them are made.
+#[derive(Drop)]
+pub(crate) struct Flusher<F> {
+    // A second handle of the file, where there is one.
+    handle: Option<F>,
+    // Whether something was written after the last flush.
+    is_behind: bool,
+}
+
+impl<F: OpenFile> Flusher<F> {
+    // That of a file in which nothing was written yet. Without a second handle nothing goes to the disk ahead.
+    pub(crate) fn new(handle: Option<F>) -> Flusher<F> {
+        Flusher {
+            handle,
+            is_behind: false,
+        }
+    }
+
+    // Has what was written on the disk.
+    fn flush(&mut self) -> io::Result<()> {
+        match &self.handle {
+            Some(file) if self.is_behind => {
+                self.is_behind = false;
+                file.sync_data()
+            }
+            _ => Ok(()),
+        }
     }
 }
 
@@ -74,7 +97,7 @@ fn flush<F: OpenFile>(handle: &mut Option<F>) -> io::Result<()> {
 fn flush_and_make<R: Threads, F: OpenFile + Send, P: Pieces>(
     rt: &R,
     alloc: Global,
-    handle: &mut Option<F>,
+    flusher: &mut Flusher<F>,
     pieces: &mut P,
 ) -> io::Result<Group>
     requires { P.ready pieces.old }
@@ -85,7 +108,7 @@ fn flush_and_make<R: Threads, F: OpenFile + Send, P: Pieces>(
 {
     let (flushed, next) = join_mut(
         rt,
-        &mut || flush(handle),
+        &mut || flusher.flush(),
         &mut || -> Result<Group, AllocError>
             requires { P.ready pieces.now }
             ensures ready { P.ready pieces.exit.now }
@@ -103,7 +126,7 @@ fn write_and_make<R: Threads, F: Write + OpenFile + Send, P: Pieces>(
     rt: &R,
     alloc: Global,
     file: &mut F,
-    handle: &mut Option<F>,
+    flusher: &mut Flusher<F>,
     group: &[Vec<u8>],
     pieces: &mut P,
 ) -> io::Result<Group>
@@ -125,14 +148,36 @@ fn write_and_make<R: Threads, F: Write + OpenFile + Send, P: Pieces>(
             ensures bytes { IfOk result (λ group. P.rest pieces.entry.now ≡ bytes_of group.pieces.items ++ P.rest pieces.exit.now) }
             ensures last { IfOk result (λ group. group.is_last ≡ true → P.rest pieces.exit.now ≡ []) }
             ensures fewer { IfOk result (λ group. group.is_last ≡ false → length (P.rest pieces.exit.now) < length (P.rest pieces.entry.now)) }
-        { flush_and_make(rt, alloc, handle, pieces) },
+        { flush_and_make(rt, alloc, flusher, pieces) },
     );
+    flusher.is_behind = true;
     written?;
     next
 }
 
-// Writes all the pieces that are still to come. Where they are more than one group, those that are written go to the disk by a
-// second handle of the file; where there is none, they go there at the end.
+// Writes these pieces and all that are still to come after them, and has those that were written before the last ones on the disk.
+fn write_from<R: Threads, F: Write + OpenFile + Send + Drop, P: Pieces>(
+    rt: &R,
+    alloc: Global,
+    file: &mut F,
+    flusher: &mut Flusher<F>,
+    first: Group,
+    pieces: &mut P,
+) -> io::Result<()>
+    requires ready { P.ready pieces.old }
+    requires last { first.is_last ≡ true → P.rest pieces.old ≡ [] }
+    ensures { OnOk result (Appends (F.contents file.old) (F.contents file.new) (bytes_of first.pieces.items ++ P.rest pieces.old)) }
+{
+    let mut group = first;
+    while !group.is_last {
+        group = write_and_make(rt, alloc, file, flusher, &group.pieces, pieces)?;
+    }
+    flusher.is_behind = flusher.is_behind || !group.pieces.is_empty();
+    write_group(file, &group.pieces)
+}
+
+// Writes all the pieces that are still to come into a new file. Where they are more than one group, those that are written go to
+// the disk by a second handle of the file; where there is none, they go there at the end.
 pub(crate) fn write_groups<R: Threads, F: Write + OpenFile + Send + Drop, P: Pieces>(
     rt: &R,
     alloc: Global,
@@ -142,14 +187,42 @@ pub(crate) fn write_groups<R: Threads, F: Write + OpenFile + Send + Drop, P: Pie
     requires { P.ready pieces.old }
     ensures { OnOk result (Appends (F.contents file.old) (F.contents file.new) (P.rest pieces.old)) }
 {
-    let mut group = next_group(alloc, pieces)?;
-    let mut handle = if group.is_last {
+    let group = next_group(alloc, pieces)?;
+    let handle = if group.is_last {
         None
     } else {
         file.try_clone().ok()
     };
-    while !group.is_last {
-        group = write_and_make(rt, alloc, file, &mut handle, &group.pieces, pieces)?;
-    }
-    write_group(file, &group.pieces)
+    write_from(rt, alloc, file, &mut Flusher::new(handle), group, pieces)
+}
+
+// Writes all the pieces that are still to come at the end of a file. What was written before goes to the disk while the first of
+// them are made.
+pub(crate) fn append_groups<R: Threads, F: Write + OpenFile + Send + Drop, P: Pieces>(
+    rt: &R,
+    alloc: Global,
+    file: &mut F,
+    flusher: &mut Flusher<F>,
+    pieces: &mut P,
+) -> io::Result<()>
+    requires { P.ready pieces.old }
+    ensures { OnOk result (Appends (F.contents file.old) (F.contents file.new) (P.rest pieces.old)) }
+{
+    let group = flush_and_make(rt, alloc, flusher, pieces)?;
+    write_from(rt, alloc, file, flusher, group, pieces)
+}
+
+// Writes all the pieces that are still to come at the end of a file, one after another, once what was written before is on the disk.
+pub(crate) fn append_pieces<F: Write + OpenFile, P: Pieces>(
+    alloc: Global,
+    file: &mut F,
+    flusher: &mut Flusher<F>,
+    pieces: &mut P,
+) -> io::Result<()>
+    requires { P.ready pieces.old }
+    ensures { OnOk result (Appends (F.contents file.old) (F.contents file.new) (P.rest pieces.old)) }
+{
+    flusher.flush()?;
+    flusher.is_behind = true;
+    write_pieces(alloc, file, pieces)
 }

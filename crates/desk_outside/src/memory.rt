@@ -1,13 +1,14 @@
 //! The desk in memory, which tells everything and fails where it is told to.
 
-ghost use Rattle.std.specs.Prelude.{◌≡◌, ◌≤◌, ◌<◌, ◌^◌, ◌||◌, ◌++◌, if◌then◌else◌, ℕ, List, [], true, false, Some, None, OnOk, OnErr, IsErrOf};
+ghost use Rattle.std.specs.Prelude.{◌≡◌, ◌≤◌, ◌<◌, ◌^◌, ◌||◌, ◌++◌, if◌then◌else◌, ℕ, List, [], true, false, Some, None, OnOk, OnErr, IfSome, IsErrOf};
 ghost use Rattle.std.specs.Option.{option_copied};
 ghost use Rattle.std.specs.Str.{bytes_eq};
 ghost use Rattle.desk_outside.specs.Parts.{held_in, is_listed};
+ghost use Rattle.desk_outside.specs.Begun.{BegunPutEnds};
 ghost use Rattle.desk_outside.specs.Desk.{FetchEnds, PutEnds, SayEnds, ComplainEnds, Rose, Unstored, Said, Complained, call_of, one_more};
 
-use crate::pieces::{Slice, collected};
-use crate::{CallName, Desk, DeskCall, DeskError, DeskKind, FetchError, Pieces};
+use crate::pieces::{Slice, collected, write_pieces};
+use crate::{BegunFile, CallName, Desk, DeskCall, DeskError, DeskKind, FetchError, Pieces};
 use std::alloc::{AllocError, Global};
 use std::collections::BTreeMap;
 
@@ -82,7 +83,7 @@ impl MemoryDesk {
         ensures err { OnErr result (view_of self.new ≡ view_of self.old) }
         ensures turns { turns_of self.new ≡ turns_of self.old }
     {
-        let bytes = collected(self.alloc, &mut Slice { rest: bytes })?;
+        let bytes = collected(self.alloc, Vec::new(self.alloc), &mut Slice { rest: bytes })?;
         store(self.alloc, &mut self.files, name, bytes)
     }
 
@@ -122,6 +123,67 @@ impl MemoryDesk {
         ensures { result ≡ faults_of self.now }
     {
         self.turns.faults
+    }
+}
+
+impl MemoryDesk {
+    ghost use Rattle.desk_outside.specs.Memory.{view_of, faults_of, turns_of, after_turn, is_failing, Fails};
+
+    // Puts these bytes, and then those that are still to come, as one call.
+    #[tactic(auto, unfolding(crate::specs::Desk::after_step))]
+    fn put_after<P: Pieces>(
+        &mut self,
+        name: &str,
+        before: Vec<u8>,
+        pieces: &mut P,
+    ) -> Result<(), DeskError>
+        requires { P.ready pieces.old }
+        ensures ends { PutEnds name.now (before.items ++ P.rest pieces.old) (view_of self.old) (view_of self.new) result }
+        ensures later { faults_of self.old ≤ faults_of self.new }
+        ensures cause { IsErrOf result DeskError.Failed
+            → Rose (faults_of self.old) (faults_of self.new) }
+        ensures fails { Fails (is_failing (turns_of self.old)) (Unstored name.now)
+            (view_of self.old) (view_of self.new) result }
+        ensures turn { turns_of self.new
+            ≡ after_turn (turns_of self.old) (is_failing (turns_of self.old)) }
+    {
+        if self.turns.take(false) {
+            note(self.alloc, &mut self.calls, DeskKind::Put, name, true)?;
+            return Err(DeskError::Failed);
+        }
+        let call = DeskCall {
+            kind: DeskKind::Put,
+            name: CallName::new(self.alloc, name)?,
+            failed: false,
+        };
+        self.calls.reserve(1)?;
+        let bytes = collected(self.alloc, before, pieces)?;
+        store(self.alloc, &mut self.files, name, bytes)?;
+        self.calls.push(call).unwrap();
+        Ok(())
+    }
+}
+
+/// A file that a desk in memory has begun.
+#[derive(Drop)]
+pub struct BegunInMemory {
+    alloc: Global,
+    name: String,
+    bytes: Vec<u8>,
+}
+
+impl BegunFile for BegunInMemory {
+    ghost use Rattle.desk_outside.specs.Memory.{begun_name, begun_bytes};
+
+    ghost name = { begun_name };
+
+    ghost contents = { λ file. Some (begun_bytes file) };
+
+    fn append<P: Pieces>(&mut self, pieces: &mut P) -> Result<(), DeskError> {
+        match write_pieces(self.alloc, &mut self.bytes, pieces) {
+            Ok(()) => Ok(()),
+            Err(_) => Err(DeskError::Memory),
+        }
     }
 }
 
@@ -178,7 +240,9 @@ fn append(
 
 #[tactic(auto, unfolding(crate::specs::Desk::after_step))]
 impl Desk for MemoryDesk {
-    ghost use Rattle.desk_outside.specs.Memory.{view_of, faults_of, turns_of, after_turn, is_failing, is_failing_fetch, Fails, FetchFails};
+    type Begun = BegunInMemory;
+
+    ghost use Rattle.desk_outside.specs.Memory.{view_of, faults_of, turns_of, after_turn, is_failing, is_failing_fetch, begun_name, begun_bytes, Fails, FetchFails};
 
     ghost view = { view_of };
 
@@ -238,20 +302,50 @@ impl Desk for MemoryDesk {
         ensures turn { turns_of self.new
             ≡ after_turn (turns_of self.old) (is_failing (turns_of self.old)) }
     {
-        if self.turns.take(false) {
-            note(self.alloc, &mut self.calls, DeskKind::Put, name, true)?;
-            return Err(DeskError::Failed);
+        self.put_after(name, Vec::new(self.alloc), pieces)
+    }
+
+    fn begin(&mut self, name: &str) -> Option<BegunInMemory>
+        ensures same_view { view_of self.new ≡ view_of self.old }
+        ensures same_faults { faults_of self.new ≡ faults_of self.old }
+        ensures begun { IfSome result (λ file. (begun_name file ≡ name.now) × (begun_bytes file ≡ [])) }
+        ensures same_turns { turns_of self.new ≡ turns_of self.old }
+    {
+        match String::from_str(self.alloc, name) {
+            Ok(name) => Some(BegunInMemory {
+                alloc: self.alloc,
+                name,
+                bytes: Vec::new(self.alloc),
+            }),
+            Err(AllocError) => None,
         }
-        let call = DeskCall {
-            kind: DeskKind::Put,
-            name: CallName::new(self.alloc, name)?,
-            failed: false,
-        };
-        self.calls.reserve(1)?;
-        let bytes = collected(self.alloc, pieces)?;
-        store(self.alloc, &mut self.files, name, bytes)?;
-        self.calls.push(call).unwrap();
-        Ok(())
+    }
+
+    fn put_begun<P: Pieces>(&mut self, file: BegunInMemory, pieces: &mut P) -> Result<(), DeskError>
+        requires { P.ready pieces.old }
+        ensures ends { BegunPutEnds (begun_name file) (Some (begun_bytes file)) (P.rest pieces.old) (view_of self.old) (view_of self.new) result }
+        ensures later { faults_of self.old ≤ faults_of self.new }
+        ensures cause { IsErrOf result DeskError.Failed
+            → Rose (faults_of self.old) (faults_of self.new) }
+        ensures fails { Fails (is_failing (turns_of self.old)) (Unstored (begun_name file))
+            (view_of self.old) (view_of self.new) result }
+        ensures turn { turns_of self.new
+            ≡ after_turn (turns_of self.old) (is_failing (turns_of self.old)) }
+    {
+        let BegunInMemory {
+            alloc: _,
+            name,
+            bytes,
+        } = file;
+        self.put_after(&name, bytes, pieces)
+    }
+
+    fn discard(&mut self, file: BegunInMemory)
+        ensures same_view { view_of self.new ≡ view_of self.old }
+        ensures same_faults { faults_of self.new ≡ faults_of self.old }
+        ensures same_turns { turns_of self.new ≡ turns_of self.old }
+    {
+        drop(file);
     }
 
     fn say(&mut self, bytes: &[u8]) -> Result<(), DeskError>

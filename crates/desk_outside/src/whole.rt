@@ -52,21 +52,74 @@ fn create_beside<R: Files>(
     Err(io::Error::from(ErrorKind::AlreadyExists))
 }
 
-// Writes all the pieces and has them on the disk.
-fn fill<R: Threads, F: Write + OpenFile + Drop + Send, P: Pieces>(
-    rt: &R,
-    alloc: Global,
-    mut file: F,
-    permissions: Option<Permissions>,
-    pieces: &mut P,
-) -> io::Result<()>
-    requires { P.ready pieces.old }
-{
-    if let Some(permissions) = permissions {
-        file.set_permissions(permissions)?;
+// A new file beside a path, which it takes once all its bytes are on the disk.
+#[derive(Drop)]
+pub(crate) struct NewFile<F> {
+    // What it is written by.
+    pub(crate) handle: F,
+    beside: PathBuf,
+    path: PathBuf,
+}
+
+impl<F: OpenFile + Drop> NewFile<F> {
+    // Makes an empty file beside the path, with these permissions or those of any new file.
+    pub(crate) fn begin<R: Files<File = F>>(
+        rt: &R,
+        alloc: Global,
+        path: PathBuf,
+        permissions: Option<Permissions>,
+    ) -> io::Result<NewFile<F>> {
+        let mode = if permissions.is_some() { 0o600 } else { 0o666 };
+        let (handle, beside) = create_beside(rt, alloc, path.as_path(), mode)?;
+        let new = NewFile {
+            handle,
+            beside,
+            path,
+        };
+        match permissions {
+            Some(permissions) => new.with_permissions(rt, permissions),
+            None => Ok(new),
+        }
     }
-    write_groups(rt, alloc, &mut file, pieces)?;
-    file.sync_all()
+
+    // The file with these permissions. Where it can't have them it is removed.
+    fn with_permissions<R: Files>(
+        self,
+        rt: &R,
+        permissions: Permissions,
+    ) -> io::Result<NewFile<F>> {
+        match self.handle.set_permissions(permissions) {
+            Ok(()) => Ok(self),
+            Err(error) => {
+                self.remove(rt);
+                Err(error)
+            }
+        }
+    }
+
+    // Removes the file.
+    pub(crate) fn remove<R: Files>(self, rt: &R) {
+        let _ = fs::remove_file(rt, &self.beside);
+    }
+
+    // Has the bytes on the disk and the file in place of what the path names.
+    fn take_path<R: Files>(&self, rt: &R) -> io::Result<()> {
+        self.handle.sync_all()?;
+        fs::rename(rt, &self.beside, &self.path)
+    }
+
+    // Has the file in place of what the path names, where its bytes were written. Where anything fails the path names what it
+    // named, and nothing is left beside it.
+    pub(crate) fn finish<R: Files>(self, rt: &R, written: io::Result<()>) -> io::Result<()> {
+        let put = match written {
+            Ok(()) => self.take_path(rt),
+            Err(error) => Err(error),
+        };
+        if put.is_err() {
+            self.remove(rt);
+        }
+        put
+    }
 }
 
 // Puts a file of these pieces in place of what the path names, with these permissions or those of any new file. Where
@@ -74,22 +127,15 @@ fn fill<R: Threads, F: Write + OpenFile + Drop + Send, P: Pieces>(
 pub(crate) fn replace<R: Files<File = F> + Threads, F: Write + OpenFile + Send + Drop, P: Pieces>(
     rt: &R,
     alloc: Global,
-    path: Path<'_>,
+    path: PathBuf,
     permissions: Option<Permissions>,
     pieces: &mut P,
 ) -> io::Result<()>
     requires { P.ready pieces.old }
 {
-    let mode = if permissions.is_some() { 0o600 } else { 0o666 };
-    let (file, beside) = create_beside(rt, alloc, path, mode)?;
-    let renamed = match fill(rt, alloc, file, permissions, pieces) {
-        Ok(()) => fs::rename(rt, &beside, path),
-        Err(error) => Err(error),
-    };
-    if renamed.is_err() {
-        let _ = fs::remove_file(rt, &beside);
-    }
-    renamed
+    let mut new = NewFile::begin(rt, alloc, path, permissions)?;
+    let written = write_groups(rt, alloc, &mut new.handle, pieces);
+    new.finish(rt, written)
 }
 
 // The path of the file that a name leads to: the name itself, or where it is a link the path without links.

@@ -1,7 +1,9 @@
 //! The desk in memory, and the desk over real files.
 
 use crate::fixtures::{check, check_bytes, check_same};
-use desk_outside::{Desk, DeskCall, DeskError, DeskKind, FetchError, FileDesk, MemoryDesk, Pieces};
+use desk_outside::{
+    BegunFile, Desk, DeskCall, DeskError, DeskKind, FetchError, FileDesk, MemoryDesk, Pieces,
+};
 use std::alloc::{AllocError, Global};
 use std::fs::Permissions;
 use std::io::Read;
@@ -275,13 +277,14 @@ fn file_desk_writes_a_pipe_as_it_is(rt: HostRuntime) -> Result<(), Fail> {
 // Bytes of a piece.
 const PIECE_BYTES: usize = 1 << 16;
 
-// The pieces of these bytes, after which there is no memory.
+// The pieces of these bytes, after which there may be no memory.
 #[derive(Drop)]
-struct Broken<'a> {
+struct Made<'a> {
     rest: &'a [u8],
+    is_broken: bool,
 }
 
-impl Pieces for Broken<'_> {
+impl Pieces for Made<'_> {
     ghost use Rattle.std.specs.Prelude.{⊤};
 
     ghost rest = { λ pieces. pieces.rest.now };
@@ -289,7 +292,7 @@ impl Pieces for Broken<'_> {
     ghost ready = { λ pieces. ⊤ };
 
     fn next(&mut self, piece: &mut Vec<u8>) -> Result<(), AllocError> {
-        if self.rest.is_empty() {
+        if self.is_broken && self.rest.is_empty() {
             return Err(AllocError);
         }
         let (front, after) = self.rest.split_at(self.rest.len().min(PIECE_BYTES));
@@ -297,6 +300,14 @@ impl Pieces for Broken<'_> {
         piece.extend_from_slice(front)?;
         self.rest = after;
         Ok(())
+    }
+}
+
+// The pieces of these bytes.
+fn whole(rest: &[u8]) -> Made<'_> {
+    Made {
+        rest,
+        is_broken: false,
     }
 }
 
@@ -334,11 +345,156 @@ fn file_desk_keeps_a_file_where_pieces_fail_after_a_group(rt: HostRuntime) -> Re
     let bytes = bytes_of_groups(alloc)?;
     let mut desk = FileDesk::new(&rt);
     check_puts(&rt, &mut desk, &[("broken_test/a", b"old", Ok(()))]);
-    let put = desk.put_pieces("broken_test/a", &mut Broken { rest: &bytes });
+    let mut broken = whole(&bytes);
+    broken.is_broken = true;
+    let put = desk.put_pieces("broken_test/a", &mut broken);
     check_same(&rt, &put, &Err(DeskError::Memory), "the pieces");
     let came = fs::read(&rt, "broken_test/a")?;
     check_bytes(&rt, &came, b"old", "the old bytes");
     check_count(&rt, "broken_test", 1)?;
     fs::remove_dir_all(&rt, "broken_test")?;
+    Ok(())
+}
+
+// Begins a file, appends each part to it, and puts it with the last pieces. None where it isn't begun.
+fn put_in_parts<D: Desk>(
+    desk: &mut D,
+    name: &str,
+    parts: &[&[u8]],
+    last: &mut Made<'_>,
+) -> Option<Result<(), DeskError>> {
+    let mut file = desk.begin(name)?;
+    for part in parts {
+        if let Err(error) = file.append(&mut whole(part)) {
+            desk.discard(file);
+            return Some(Err(error));
+        }
+    }
+    Some(desk.put_begun(file, last))
+}
+
+// Begins a file, appends these pieces to it, and lets it go. None where it isn't begun.
+fn let_go<D: Desk>(
+    desk: &mut D,
+    name: &str,
+    pieces: &mut Made<'_>,
+) -> Option<Result<(), DeskError>> {
+    let mut file = desk.begin(name)?;
+    let appended = file.append(pieces);
+    desk.discard(file);
+    Some(appended)
+}
+
+// Looks for what a file holds, and for no more names in its folder than these many.
+fn check_file(
+    rt: &(impl Files + AllocGlobal + Abort + Clone),
+    (folder, name): (&str, &str),
+    bytes: &[u8],
+    count: usize,
+) -> io::Result<()> {
+    check_bytes(rt, &fs::read(rt, name)?, bytes, name);
+    check_count(rt, folder, count)
+}
+
+#[test]
+fn file_desk_puts_files_that_it_began(rt: HostRuntime) -> Result<(), Fail> {
+    make_whole_test(&rt)?;
+    let mut desk = FileDesk::new(&rt);
+    for name in ["whole_test/to_held", "whole_test/made"] {
+        let parts = [b"".as_slice(), b"new ".as_slice(), b"by".as_slice()];
+        let put = put_in_parts(&mut desk, name, &parts, &mut whole(b"tes"));
+        check_same(&rt, &put, &Some(Ok(())), name);
+        check_bytes(&rt, &fs::read(&rt, name)?, b"new bytes", name);
+    }
+    check_left(&rt)?;
+    fs::remove_dir_all(&rt, "whole_test")?;
+    Ok(())
+}
+
+// Names for which no file is begun: those of a fetched file, a link to nothing, a folder, what is no file, and a folder
+// that isn't there.
+static NOT_BEGUN: [&str; 7] = [
+    "begin_test/fetched",
+    "begin_test/to_fetched",
+    "begin_test/same_file",
+    "begin_test/to_nothing",
+    "begin_test",
+    "/dev/null",
+    "begin_test/absent/a",
+];
+
+#[test]
+fn file_desk_begins_no_file_where_a_put_makes_none(rt: HostRuntime) -> Result<(), Fail> {
+    empty_folder(&rt, "begin_test")?;
+    fs::write(&rt, "begin_test/fetched", "old")?;
+    symlink(&rt, "fetched", "begin_test/to_fetched")?;
+    symlink(&rt, "absent", "begin_test/to_nothing")?;
+    fs::hard_link(&rt, "begin_test/fetched", "begin_test/same_file")?;
+    let mut desk = FileDesk::new(&rt);
+    let _ = desk.fetch(rt.alloc(), "begin_test/fetched", 3)?;
+    for name in NOT_BEGUN {
+        let put = put_in_parts(&mut desk, name, &[], &mut whole(b"new"));
+        check_same(&rt, &put, &None, name);
+    }
+    let place = ("begin_test", "begin_test/fetched");
+    check_file(&rt, place, b"old", 4)?;
+    fs::remove_dir_all(&rt, "begin_test")?;
+    Ok(())
+}
+
+#[test]
+fn file_desk_appends_several_groups(rt: HostRuntime) -> Result<(), Fail> {
+    let alloc = rt.alloc();
+    empty_folder(&rt, "append_test")?;
+    let bytes = bytes_of_groups(alloc)?;
+    let (front, after) = bytes.split_at(bytes.len() / 2);
+    let mut desk = FileDesk::new(&rt);
+    let name = "append_test/a";
+    let put = put_in_parts(&mut desk, name, &[front, b""], &mut whole(after));
+    check_same(&rt, &put, &Some(Ok(())), "several groups");
+    check_file(&rt, ("append_test", name), &bytes, 1)?;
+    fs::remove_dir_all(&rt, "append_test")?;
+    Ok(())
+}
+
+#[test]
+fn file_desk_keeps_a_file_where_a_begun_one_is_let_go(rt: HostRuntime) -> Result<(), Fail> {
+    let alloc = rt.alloc();
+    empty_folder(&rt, "let_go_test")?;
+    let bytes = bytes_of_groups(alloc)?;
+    let mut broken = whole(&bytes);
+    broken.is_broken = true;
+    let mut desk = FileDesk::new(&rt);
+    let name = "let_go_test/a";
+    check_puts(&rt, &mut desk, &[(name, b"old", Ok(()))]);
+    let gone = let_go(&mut desk, name, &mut whole(&bytes));
+    check_same(&rt, &gone, &Some(Ok(())), "let go");
+    let put = put_in_parts(&mut desk, name, &[&bytes], &mut broken);
+    check_same(&rt, &put, &Some(Err(DeskError::Memory)), "the pieces");
+    check_file(&rt, ("let_go_test", name), b"old", 1)?;
+    fs::remove_dir_all(&rt, "let_go_test")?;
+    Ok(())
+}
+
+// Files that a desk in memory begins, each with its last part, and what their name holds after the put.
+static BEGUN: [(&[u8], Result<(), DeskError>, &[u8]); 3] = [
+    (b"w", Ok(()), b"new"),
+    (b"ws", Err(DeskError::Failed), b"new"),
+    (b"", Ok(()), b"ne"),
+];
+
+#[test]
+fn memory_desk_puts_files_that_it_began(rt: HostRuntime) -> Result<(), Fail> {
+    let mut desk = MemoryDesk::new(vec![in rt.alloc(); 1]?);
+    for (last, put, held) in BEGUN.iter() {
+        let parts = [b"n".as_slice(), b"e".as_slice()];
+        let done = put_in_parts(&mut desk, "a", &parts, &mut whole(last));
+        check_same(&rt, &done, &Some(*put), "the put");
+        let gone = let_go(&mut desk, "a", &mut whole(b"gone"));
+        check_same(&rt, &gone, &Some(Ok(())), "let go");
+        check_same(&rt, &desk.held("a"), &Some(*held), "a");
+    }
+    check_same(&rt, &desk.calls().len(), &3, "the calls");
+    check_same(&rt, &desk.faults(), &1, "the faults");
     Ok(())
 }

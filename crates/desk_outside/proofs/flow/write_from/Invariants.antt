@@ -1,11 +1,11 @@
 use Rattle.std.proofs.Common.{◌≡◌, ◌+◌, ◌++◌, [], length, true, if◌then◌else◌}
 use Rattle.desk_outside.specs.Groups.{bytes_of}
 use Rattle.desk_outside.proofs.Written.{Reaches}
-use Rattle.desk_outside.proofs.flow.write_groups.Given as goal
+use Rattle.desk_outside.proofs.flow.write_from.Given as goal
 
 abbrev pub invariant-loop-group : goal.invariant-loop-group
 invariant-loop-group g l = record {
-  reaches : Reaches (g.F.Write.contents l.fn.file) (g.F.Write.contents l.file) (bytes_of l.group.pieces.items ++ g.P.Pieces.rest l.pieces) (g.P.Pieces.rest l.fn.pieces);
+  reaches : Reaches (g.F.Write.contents l.fn.file) (g.F.Write.contents l.file) (bytes_of l.group.pieces.items ++ g.P.Pieces.rest l.pieces) (bytes_of l.fn.first.pieces.items ++ g.P.Pieces.rest l.fn.pieces);
   last : l.group.is_last ≡ true → g.P.Pieces.rest l.pieces ≡ [];
   ready : g.P.Pieces.ready l.pieces;
 }
