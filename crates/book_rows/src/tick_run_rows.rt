@@ -13,7 +13,7 @@ use std::alloc::Global;
 use std::sync::Wait;
 use std::test::Fail;
 use std::thread::Threads;
-use tick_run::{Finished, run_plan};
+use tick_run::{Finished, Nobody, run_plan};
 use transcript_log::{Line, Lines};
 
 // Whether this is the last line.
@@ -31,7 +31,17 @@ fn run(rt: &(impl Threads + Wait + Sync), alloc: Global, rack: &mut Rack) -> Res
     let plan = plan_of_north(alloc, 1)?;
     let readings = table(alloc, &plan, &[10, 20, 30])?;
     let keys = keys_of_north(alloc, &plan, [1, 2, 3, 4, 5, 6])?;
-    match run_plan(rt, alloc, &plan, &readings, &keys, rack, 2, &Free) {
+    match run_plan(
+        rt,
+        alloc,
+        &plan,
+        &readings,
+        &keys,
+        rack,
+        2,
+        &Free,
+        &mut Nobody,
+    ) {
         Ok(done) => Ok(done),
         Err(_) => Err(Fail::new("want of memory")),
     }

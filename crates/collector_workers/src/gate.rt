@@ -22,10 +22,16 @@ pub trait Gate: Sync {
     fn beside(&self) -> usize {
         4
     }
+
+    /// So many entries of a transcript are enough to be recorded by a thread beside the run; 0 counts as one. Eight where a gate
+    /// says nothing else, so that a test has several parts.
+    fn part(&self) -> usize {
+        8
+    }
 }
 
 /// A gate that lets each worker through. It has a thread for each 16,384 parcels, since fewer are committed sooner by one
-/// thread alone, a turn for each 1,024, and a thread beside for 1,024 frames.
+/// thread alone, a turn for each 1,024, and a thread beside for 1,024 frames or 16,384 entries.
 pub struct Free;
 
 impl Gate for Free {
@@ -41,5 +47,9 @@ impl Gate for Free {
 
     fn beside(&self) -> usize {
         1024
+    }
+
+    fn part(&self) -> usize {
+        16_384
     }
 }

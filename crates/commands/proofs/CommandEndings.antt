@@ -4,6 +4,7 @@ use Rattle.std.specs.Borrow.{Bor}
 use Rattle.std.specs.Prelude.{Option}
 use Rattle.desk_outside.specs.Desk.{View, IsLonger, after_step}
 use Rattle.link_lanes.specs.Lanes.{Meaning}
+use Rattle.link_lanes.specs.declared.cupboard.RackError.{RackError}
 use Rattle.transcript_text.specs.declared.version.Version.TheVariants.{One}
 use Rattle.transcript_log.specs.Transcripts.{TranscriptView}
 use Rattle.transcript_text.specs.ReadBack.{HasText}
@@ -18,7 +19,7 @@ use Rattle.twin_worlds.specs.MasksText.{masks_text}
 use Rattle.commands.specs.Twins.{TwinBytes, AreReadBy, Compared, TwinRefuses}
 use Rattle.commands.specs.Words.{RunNames, TwinNames, Size}
 use Rattle.commands.specs.Calls.{most_bytes, HasFetched, EndsAtFetch, Unread, IsRead, after_fetches, putting, PutsEnd}
-use Rattle.commands.specs.Ends.{fetched_by, put_by, RunEnds, RefusesReadings, audited_line, AuditCommandEnds, compared_by, moved_line, TwinCommandEnds, made_file_of, made_plan_text, made_readings_text, put_where, LoadEnds, converted_line, ConvertEnds}
+use Rattle.commands.specs.Ends.{fetched_by, put_by, RunEnds, RefusesLane, RefusesReadings, audited_line, AuditCommandEnds, compared_by, moved_line, TwinCommandEnds, made_file_of, made_plan_text, made_readings_text, put_where, LoadEnds, converted_line, ConvertEnds}
 use Rattle.audit_check.specs.declared.answers.AuditCounts.{AuditCounts}
 use Rattle.plan_files.specs.declared.fault.FileError.{FileError}
 use Rattle.plan_files.specs.PlanFiles.{plan_of}
@@ -49,6 +50,20 @@ run_ends cupboard names v u w texts outcome plan readings p r transcript report 
     subst (λ u. PutsEnd (put_by names texts) texts.summary u w outcome) after by_summary
     in
     inr (plan, readings, plan_read, readings_read, inr (texts, made_here, is_only cupboard plan readings texts made_here, here))
+
+-- the first file is put under the name for which it was begun
+pub first_named : (n m second : List ℕ) (bytes more line : List ℕ) (v w : View) (outcome : Outcome) → n ≡ m
+    → PutsEnd (putting n bytes ∷ putting second more ∷ []) line v w outcome → PutsEnd (putting m bytes ∷ putting second more ∷ []) line v w outcome
+first_named n m second bytes more line v w outcome same = subst (λ name. PutsEnd (putting name bytes ∷ putting second more ∷ []) line v w outcome) same
+
+-- a lane row of a run is refused
+pub run_refuses_lane : (cupboard : List Meaning) (names : RunNames) (v w : View) (fault got : RackError) (why : Refusal) (plan readings p r : List ℕ)
+    → IsRead (v.held names.plan) plan → IsRead (v.held names.readings) readings → w ≡ after_fetches (fetched_by names) v → p ≡ plan → r ≡ readings
+    → why ≡ refusal.Lane fault → TextsEnd cupboard p r (Err why) → got ≡ fault → RunEnds cupboard names v w (BadLane got)
+run_refuses_lane cupboard names v w fault got why plan readings p r plan_read readings_read after plan_is readings_is why_is ends same =
+    let refuses : RefusesLane cupboard p fault = subst (λ why. TextsEnd cupboard p r (Err why)) why_is ends in
+    let here : RefusesLane cupboard plan fault = subst (λ bytes. RefusesLane cupboard bytes fault) plan_is refuses in
+    inr (plan, readings, plan_read, readings_read, inl (subst (RefusesLane cupboard plan) (sym same) here, after))
 
 -- the readings file of a run is refused
 pub run_refuses_readings : (cupboard : List Meaning) (names : RunNames) (v w : View) (name : Bor (List ℕ)) (fault got : FileError) (why : Refusal) (plan readings p r : List ℕ)
@@ -144,6 +159,10 @@ load_ends cupboard size name given v w texts outcome p r transcript summary name
       is_only cupboard (made_plan_text size) (made_readings_text size) texts here,
       subst (λ n. PutsEnd (put_where n texts.transcript) texts.summary v w outcome) (sym name_is) by_summary,
     )
+
+-- a call before, which changed nothing that is seen
+pub load_from : (cupboard : List Meaning) (size : Size) (name : Option (List ℕ)) (u v w : View) (outcome : Outcome) → u ≡ v → LoadEnds cupboard size name u w outcome → LoadEnds cupboard size name v w outcome
+load_from cupboard size name u v w outcome same = subst (λ v. LoadEnds cupboard size name v w outcome) same
 
 -- ---- `twin`
 

@@ -1,3 +1,4 @@
+mod AheadLemmas
 pub mod AcceptedLemmas
 mod CommandEndings
 mod CupboardLemmas

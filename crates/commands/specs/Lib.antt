@@ -1,3 +1,4 @@
+pub mod Ahead
 pub mod Words
 pub mod Commands
 pub mod Calls

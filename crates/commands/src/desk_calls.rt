@@ -2,15 +2,20 @@
 
 ghost use Rattle.std.specs.Prelude.{◌≡◌, ◌≤◌, ◌++◌, [], ◌∷◌, IfErr, OnOk, IsErrOf};
 ghost use Rattle.desk_outside.specs.Desk.{Rose, PutEnds};
+ghost use Rattle.transcript_text.specs.Spelling.{transcript_text};
+ghost use Rattle.tick_run.specs.Recorded.{IsRecorded};
+ghost use Rattle.commands.specs.Ahead.{IsAhead};
 ghost use Rattle.commands.specs.Calls.{OneFetched, TwoFetched, putting, PutsEnd};
 ghost use Rattle.commands.specs.Outcomes.{IsFault};
 ghost use Rattle.commands.specs.Sources.{source_bytes};
 
+use crate::ahead::{Ahead, put_transcript};
 use crate::outcome::Outcome;
 use crate::source::{Source, TranscriptPieces};
-use desk_outside::{Desk, DeskError, FetchError};
+use desk_outside::{BegunFile, Desk, DeskError, FetchError};
 use std::alloc::Global;
 use std::thread::Threads;
+use transcript_log::Transcript;
 use transcript_text::TextPieces;
 
 /// The most bytes that a file may have.
@@ -141,6 +146,62 @@ pub fn put_two<'a, R: Threads + Sync, D: Desk>(
     match put(rt, alloc, first, desk) {
         Ok(()) => {}
         Err(DeskError::Failed) => return Outcome::CannotWrite(first.name),
+        Err(DeskError::Memory) => return Outcome::NoMemory,
+    }
+    match put(rt, alloc, second, desk) {
+        Ok(()) => {}
+        Err(DeskError::Failed) => return Outcome::CannotWrite(second.name),
+        Err(DeskError::Memory) => return Outcome::NoMemory,
+    }
+    match desk.say(line) {
+        Ok(()) => Outcome::Done,
+        Err(DeskError::Failed) => Outcome::CannotPrint,
+        Err(DeskError::Memory) => Outcome::NoMemory,
+    }
+}
+
+/// Puts a transcript of which much may be written ahead, and then says a line.
+pub fn put_ahead<'a, R: Threads + Sync, B: BegunFile + Send + Drop, D: Desk<Begun = B>>(
+    ahead: Ahead<'a, '_, R, B>,
+    transcript: &Transcript,
+    line: &[u8],
+    desk: &mut D,
+) -> Outcome<'a>
+    requires { IsRecorded (IsAhead B.contents ahead.entries ahead.file) transcript.now }
+    ensures ends { PutsEnd (putting ahead.entry.name.now (transcript_text transcript.now) ∷ []) line.now (D.view desk.old) (D.view desk.new) result }
+    ensures later { D.faults desk.old ≤ D.faults desk.new }
+    ensures cause { IsFault result → Rose (D.faults desk.old) (D.faults desk.new) }
+{
+    let name = ahead.name;
+    match put_transcript(ahead, transcript, desk) {
+        Ok(()) => {}
+        Err(DeskError::Failed) => return Outcome::CannotWrite(name),
+        Err(DeskError::Memory) => return Outcome::NoMemory,
+    }
+    match desk.say(line) {
+        Ok(()) => Outcome::Done,
+        Err(DeskError::Failed) => Outcome::CannotPrint,
+        Err(DeskError::Memory) => Outcome::NoMemory,
+    }
+}
+
+/// Puts a transcript of which much may be written ahead, then another file, and then says a line.
+pub fn put_run<'a, R: Threads + Sync, B: BegunFile + Send + Drop, D: Desk<Begun = B>>(
+    ahead: Ahead<'a, '_, R, B>,
+    transcript: &Transcript,
+    second: NewFile<'a, '_>,
+    line: &[u8],
+    desk: &mut D,
+) -> Outcome<'a>
+    requires { IsRecorded (IsAhead B.contents ahead.entries ahead.file) transcript.now }
+    ensures ends { PutsEnd (putting ahead.entry.name.now (transcript_text transcript.now) ∷ putting second.entry.name.now (source_bytes second.entry.source) ∷ []) line.now (D.view desk.old) (D.view desk.new) result }
+    ensures later { D.faults desk.old ≤ D.faults desk.new }
+    ensures cause { IsFault result → Rose (D.faults desk.old) (D.faults desk.new) }
+{
+    let (rt, alloc, name) = (ahead.rt, ahead.alloc, ahead.name);
+    match put_transcript(ahead, transcript, desk) {
+        Ok(()) => {}
+        Err(DeskError::Failed) => return Outcome::CannotWrite(name),
         Err(DeskError::Memory) => return Outcome::NoMemory,
     }
     match put(rt, alloc, second, desk) {

@@ -1,6 +1,7 @@
 //! The commands, over any desk: everything that the program does.
 #![tactic(auto)]
 
+mod ahead;
 mod audit;
 mod complaints;
 mod convert;

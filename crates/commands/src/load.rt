@@ -7,9 +7,9 @@ ghost use Rattle.commands.specs.Commands.{size_in, name_in};
 ghost use Rattle.commands.specs.Ends.{LoadEnds};
 ghost use Rattle.commands.specs.Outcomes.{IsFault};
 
-use crate::desk_calls::{NewFile, put_one, say};
+use crate::ahead::Ahead;
+use crate::desk_calls::{put_ahead, say};
 use crate::outcome::Outcome;
-use crate::source::Source;
 use crate::texts::{Refusal, run_texts};
 use crate::words::LoadWords;
 use collector_workers::Gate;
@@ -48,21 +48,31 @@ pub fn load<'a, R: Threads + Wait + Sync, D: Desk, G: Gate>(
         Err(MakeError::Memory) => return Outcome::NoMemory,
         Err(MakeError::Range) => unreachable!(),
     };
-    let texts = match run_texts(rt, alloc, plan, readings, cupboard, words.workers, gate) {
+    let mut ahead = Ahead::begin_where(rt, alloc, words.transcript, desk);
+    let texts = match run_texts(
+        rt,
+        alloc,
+        plan,
+        readings,
+        cupboard,
+        words.workers,
+        gate,
+        &mut ahead,
+    ) {
         Ok(texts) => texts,
-        Err(Refusal::Lane(fault)) => return Outcome::BadLane(fault),
-        Err(Refusal::Memory) => return Outcome::NoMemory,
-        Err(Refusal::Plan(_fault)) => unreachable!(),
-        Err(Refusal::Readings(_fault)) => unreachable!(),
-    };
-    match words.transcript {
-        None => say(texts.summary.as_slice(), desk),
-        Some(name) => {
-            let transcript = NewFile {
-                name,
-                source: Source::Transcript(&texts.transcript),
+        Err(refusal) => {
+            ahead.discard(desk);
+            return match refusal {
+                Refusal::Lane(fault) => Outcome::BadLane(fault),
+                Refusal::Memory => Outcome::NoMemory,
+                Refusal::Plan(_fault) => unreachable!(),
+                Refusal::Readings(_fault) => unreachable!(),
             };
-            put_one(rt, alloc, transcript, texts.summary.as_slice(), desk)
         }
+    };
+    let line = texts.summary.as_slice();
+    match words.transcript {
+        None => say(line, desk),
+        Some(_name) => put_ahead(ahead, &texts.transcript, line, desk),
     }
 }

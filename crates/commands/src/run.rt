@@ -6,7 +6,8 @@ ghost use Rattle.commands.specs.Words.{names_of};
 ghost use Rattle.commands.specs.Ends.{RunEnds};
 ghost use Rattle.commands.specs.Outcomes.{IsFault};
 
-use crate::desk_calls::{NewFile, fetch_two, put_two};
+use crate::ahead::Ahead;
+use crate::desk_calls::{NewFile, fetch_two, put_run};
 use crate::outcome::Outcome;
 use crate::source::Source;
 use crate::texts::{Refusal, run_texts};
@@ -18,7 +19,8 @@ use std::alloc::Global;
 use std::sync::Wait;
 use std::thread::Threads;
 
-/// Fetches the plan and the readings, runs, puts the transcript and then the report, and says the summary.
+/// Fetches the plan and the readings, runs, puts the transcript and then the report, and says the summary. The transcript's file
+/// is begun before the run, so that much of it is written while the run goes on.
 pub fn run<'a, R: Threads + Wait + Sync, D: Desk, G: Gate>(
     rt: &R,
     alloc: Global,
@@ -38,28 +40,32 @@ pub fn run<'a, R: Threads + Wait + Sync, D: Desk, G: Gate>(
         Ok(bytes) => bytes,
         Err(outcome) => return outcome,
     };
-    match run_texts(rt, alloc, plan, readings, cupboard, words.workers, gate) {
-        Ok(texts) => {
-            let transcript = NewFile {
-                name: files.transcript,
-                source: Source::Transcript(&texts.transcript),
+    let mut ahead = Ahead::begin(rt, alloc, files.transcript, desk);
+    let texts = match run_texts(
+        rt,
+        alloc,
+        plan,
+        readings,
+        cupboard,
+        words.workers,
+        gate,
+        &mut ahead,
+    ) {
+        Ok(texts) => texts,
+        Err(refusal) => {
+            ahead.discard(desk);
+            return match refusal {
+                Refusal::Plan(fault) => Outcome::BadPlan(files.plan, fault),
+                Refusal::Lane(fault) => Outcome::BadLane(fault),
+                Refusal::Readings(fault) => Outcome::BadReadings(files.readings, fault),
+                Refusal::Memory => Outcome::NoMemory,
             };
-            let report = NewFile {
-                name: files.report,
-                source: Source::Bytes(texts.report.as_slice()),
-            };
-            put_two(
-                rt,
-                alloc,
-                transcript,
-                report,
-                texts.summary.as_slice(),
-                desk,
-            )
         }
-        Err(Refusal::Plan(fault)) => Outcome::BadPlan(files.plan, fault),
-        Err(Refusal::Lane(fault)) => Outcome::BadLane(fault),
-        Err(Refusal::Readings(fault)) => Outcome::BadReadings(files.readings, fault),
-        Err(Refusal::Memory) => Outcome::NoMemory,
-    }
+    };
+    let report = NewFile {
+        name: files.report,
+        source: Source::Bytes(texts.report.as_slice()),
+    };
+    let line = texts.summary.as_slice();
+    put_run(ahead, &texts.transcript, report, line, desk)
 }

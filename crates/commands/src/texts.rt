@@ -1,7 +1,10 @@
 //! What `run` makes of the bytes of its two files.
 
 ghost use Rattle.std.specs.Prelude.{◌≡◌, ◌≤◌, ◌^◌, length, map, IfOk};
+ghost use Rattle.group_plan.specs.Plans.{PlanView};
 ghost use Rattle.transcript_log.specs.Events.{lines_of};
+ghost use Rattle.transcript_log.specs.Transcripts.{no_entries};
+ghost use Rattle.tick_run.specs.Recorded.{IsRecorded};
 ghost use Rattle.commands.specs.RunTexts.{TextsEnd, AreTextsOf, texts_of};
 
 use collector_workers::Gate;
@@ -10,7 +13,7 @@ use plan_files::{FileCause, FileError, read_plan, read_readings};
 use std::alloc::{AllocError, Global};
 use std::sync::Wait;
 use std::thread::Threads;
-use tick_run::{Finished, RunError, run_plan};
+use tick_run::{Finished, Recorder, RunError, run_plan};
 use totals_report::{report, summary};
 use transcript_log::Transcript;
 
@@ -39,7 +42,8 @@ pub enum Refusal {
 #[tactic(auto, using(crate::proofs::RunLemmas::text_is_read))]
 fn finished_texts(alloc: Global, finished: Finished) -> Result<RunTexts, AllocError>
     requires { finished.book.journal ≡ lines_of finished.transcript.entries }
-    ensures { IfOk result (λ kept. AreTextsOf finished.book finished.transcript (texts_of kept)) }
+    ensures transcript { IfOk result (λ kept. kept.transcript ≡ finished.transcript) }
+    ensures texts { IfOk result (λ kept. AreTextsOf finished.book finished.transcript (texts_of kept)) }
 {
     let Finished { book, transcript } = finished;
     let report = report(alloc, &book)?;
@@ -53,8 +57,9 @@ fn finished_texts(alloc: Global, finished: Finished) -> Result<RunTexts, AllocEr
     })
 }
 
-/// The texts of a run of the values of the two files. Their bytes are let go once they are read.
-pub fn run_texts<R: Threads + Wait + Sync, G: Gate>(
+/// The texts of a run of the values of the two files. Their bytes are let go once they are read. The recorder is told entries while
+/// the run goes on.
+pub fn run_texts<R: Threads + Wait + Sync, G: Gate, W: Recorder + Send>(
     rt: &R,
     alloc: Global,
     plan_bytes: Vec<u8>,
@@ -62,12 +67,17 @@ pub fn run_texts<R: Threads + Wait + Sync, G: Gate>(
     cupboard: Vec<Box<dyn Lane>>,
     workers: u32,
     gate: &G,
+    recorder: &mut W,
 ) -> Result<RunTexts, Refusal>
     requires plan { length plan_bytes.items ≤ 2 ^ 28 }
     requires readings { length readings_bytes.items ≤ 2 ^ 28 }
     requires least { 1 ≤ workers }
     requires most { workers ≤ 16 }
-    ensures { TextsEnd (map (λ b. meaning b) cupboard.items) plan_bytes.items readings_bytes.items result }
+    requires ready { W.ready recorder.old }
+    requires keeps { (plan : PlanView) → W.keeps recorder.old (no_entries plan) }
+    ensures name { W.name recorder.new ≡ W.name recorder.old }
+    ensures recorded { IfOk result (λ kept. IsRecorded (W.keeps recorder.new) kept.transcript) }
+    ensures texts { TextsEnd (map (λ b. meaning b) cupboard.items) plan_bytes.items readings_bytes.items result }
 {
     let file = match read_plan(alloc, &plan_bytes) {
         Ok(file) => file,
@@ -93,7 +103,7 @@ pub fn run_texts<R: Threads + Wait + Sync, G: Gate>(
     };
     drop(readings_bytes);
     let finished = match run_plan(
-        rt, alloc, &file.plan, &readings, &file.keys, &mut rack, workers, gate,
+        rt, alloc, &file.plan, &readings, &file.keys, &mut rack, workers, gate, recorder,
     ) {
         Ok(finished) => finished,
         Err(RunError::Memory) => return Err(Refusal::Memory),

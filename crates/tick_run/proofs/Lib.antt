@@ -1,3 +1,4 @@
+pub mod RecordedLemmas
 pub mod OrderLemmas
 pub mod PastLemmas
 pub mod BatchLemmas

@@ -11,3 +11,5 @@ pub mod Meters
 pub mod Hearers
 pub mod Hidden
 pub mod Sides
+pub mod Recorded
+pub mod Strides

@@ -13,12 +13,15 @@ mod known;
 mod meter_side;
 mod meters;
 mod pieces;
+mod recorder;
 mod run;
 mod running;
 mod sends;
 mod sides;
+mod strides;
 mod tick;
 
+pub use recorder::{Nobody, Recorder};
 pub use run::{Finished, run_plan};
 use std::alloc::AllocError;
 

@@ -14,9 +14,9 @@ ghost use Rattle.transcript_log.specs.Journal.{IsJournalAfter};
 ghost use Rattle.transcript_log.specs.Transcripts.{no_entries};
 ghost use Rattle.group_book.specs.Books.{shape_of};
 ghost use Rattle.tick_run.specs.Running.{IsRunning, starting};
-ghost use Rattle.tick_run.specs.Sending.{KeptFates};
 ghost use Rattle.tick_run.specs.Finished.{IsFinished, HasRowsOf};
 ghost use Rattle.tick_run.specs.Hidden.{AreHidden, IsOfOnePlan};
+ghost use Rattle.tick_run.specs.Recorded.{IsRecorded};
 ghost use Rattle.tick_run.specs.Meters.{AreMeters};
 
 use crate::RunError;
@@ -24,9 +24,11 @@ use crate::context::{Context, Crew};
 use crate::hidden::HiddenReadings;
 use crate::known::Known;
 use crate::meters::Meters;
+use crate::recorder::Recorder;
 use crate::running::Running;
 use crate::sides::beside;
-use crate::tick::{Going, run_tick};
+use crate::strides::run_ticks;
+use crate::tick::Going;
 use collector_workers::Gate;
 use group_book::Book;
 use group_plan::{Plan, Presence, Readings};
@@ -44,29 +46,6 @@ use transcript_log::Draft;
 pub struct Finished {
     pub book: Book,
     pub transcript: Draft,
-}
-
-/// Makes all ticks, from 0 to the last.
-fn run_ticks<R: Threads + Wait + Sync, G: Gate>(
-    context: &Context<R, G>,
-    going: Going,
-    rack: &mut Rack,
-) -> Result<Running, RunError>
-    requires running { IsRunning context.now.known.readings.now (words_of context.now.known.masks.now) (starting 0) going.run.book going.run.transcript going.run.link }
-    requires meters { AreMeters going.run.book 0 going.meters }
-    requires known { IsOfOnePlan context.now.known }
-    requires workers { (1 ≤ context.now.crew.workers) × (context.now.crew.workers ≤ 16) }
-    requires room { HasRoom (λ b. meaning (b.vtable, b.value)) rack.old }
-    ensures running { IfOk result (λ after. IsRunning context.now.known.readings.now (words_of context.now.known.masks.now) (starting (last_tick context.now.known.readings.now.plan + 1)) after.book after.transcript after.link) }
-    ensures fates { (hung : List Slot) → KeptFates hung 0 going.run.transcript.entries (slots (λ b. meaning (b.vtable, b.value)) rack.old) (posts_of rack.old) →
-        IfOk result (λ after. KeptFates hung (last_tick context.now.known.readings.now.plan + 1) after.transcript.entries (slots (λ b. meaning (b.vtable, b.value)) rack.new) (posts_of rack.new)) }
-{
-    let mut going = going;
-    for tick in 0..context.known.readings.plan().last_tick() + 1 {
-        going = run_tick(context, going, rack, tick)?;
-    }
-    let Going { run, meters: _ } = going;
-    Ok(run)
 }
 
 /// So many lines has a meter in a round on most links: Sends and Takes of a reading, an announcement and an answer.
@@ -218,10 +197,11 @@ fn make_finished(run: Running) -> Finished
 }
 
 /// Makes all ticks of a run that begins.
-fn run_whole<R: Threads + Wait + Sync, G: Gate>(
+fn run_whole<R: Threads + Wait + Sync, G: Gate, W: Recorder + Send>(
     context: &Context<R, G>,
     going: Going,
     rack: &mut Rack,
+    recorder: &mut W,
 ) -> Result<Finished, RunError>
     requires running { IsRunning context.now.known.readings.now (words_of context.now.known.masks.now) (starting 0) going.run.book going.run.transcript going.run.link }
     requires meters { AreMeters going.run.book 0 going.meters }
@@ -230,19 +210,24 @@ fn run_whole<R: Threads + Wait + Sync, G: Gate>(
     requires workers { (1 ≤ context.now.crew.workers) × (context.now.crew.workers ≤ 16) }
     requires posts { posts_of rack.old ≡ [] }
     requires room { HasRoom (λ b. meaning (b.vtable, b.value)) rack.old }
+    requires ready { W.ready recorder.old }
+    requires keeps { W.keeps recorder.old (no_entries context.now.known.readings.now.plan) }
     ensures finished { (keys : Keys) → words_of context.now.known.masks.now ≡ streams keys →
         IfOk result (λ f. IsFinished context.now.known.readings.now keys (slots (λ b. meaning (b.vtable, b.value)) rack.old) f.book f.transcript) }
     ensures posts { IfOk result (λ f. posts_of rack.new ≡ posts_of_entries f.transcript.entries) }
     ensures members { IfOk result (λ f. IsPresenceTable f.book.presence.plan f.book.presence.table) }
+    ensures name { W.name recorder.new ≡ W.name recorder.old }
+    ensures recorded { IfOk result (λ f. IsRecorded (W.keeps recorder.new) f.transcript) }
 {
     readings_are_limited(context.known.readings);
-    let run = run_ticks(context, going, rack)?;
+    let run = run_ticks(context, going, rack, recorder)?;
     Ok(make_finished(run))
 }
 
 /// Runs a plan by ticks, from the first to the last: its readings are sent and taken, its rounds are closed, answered and
-/// ended. Frames are hidden under the stream words of the keys, and go through the lanes of the rack.
-pub fn run_plan<R: Threads + Wait + Sync, G: Gate>(
+/// ended. Frames are hidden under the stream words of the keys, and go through the lanes of the rack. The recorder is told entries
+/// while the run goes on, from the first on; how many of them, is not said.
+pub fn run_plan<R: Threads + Wait + Sync, G: Gate, W: Recorder + Send>(
     rt: &R,
     alloc: Global,
     plan: &Plan,
@@ -251,6 +236,7 @@ pub fn run_plan<R: Threads + Wait + Sync, G: Gate>(
     rack: &mut Rack,
     workers: u32,
     gate: &G,
+    recorder: &mut W,
 ) -> Result<Finished, RunError>
     requires readings { readings.now.plan ≡ plan.now }
     requires keys { (table_of keys.now).plan ≡ plan.now }
@@ -258,9 +244,13 @@ pub fn run_plan<R: Threads + Wait + Sync, G: Gate>(
     requires room { HasRoom (λ b. meaning (b.vtable, b.value)) rack.old }
     requires least { 1 ≤ workers }
     requires most { workers ≤ 16 }
+    requires ready { W.ready recorder.old }
+    requires keeps { W.keeps recorder.old (no_entries plan.now) }
     ensures finished { IfOk result (λ f. IsFinished readings.now (table_of keys.now) (slots (λ b. meaning (b.vtable, b.value)) rack.old) f.book f.transcript) }
     ensures posts { IfOk result (λ f. posts_of rack.new ≡ posts_of_entries f.transcript.entries) }
     ensures report { IfOk result (λ f. HasRowsOf f.transcript.entries f.book) }
+    ensures name { W.name recorder.new ≡ W.name recorder.old }
+    ensures recorded { IfOk result (λ f. IsRecorded (W.keeps recorder.new) f.transcript) }
 {
     let masks = ChaMasks::new(keys);
     let Begun { going, hidden } = begin_and_hide(rt, alloc, plan, readings, &masks)?;
@@ -277,5 +267,5 @@ pub fn run_plan<R: Threads + Wait + Sync, G: Gate>(
             hidden: &hidden,
         },
     };
-    run_whole(&context, going, rack)
+    run_whole(&context, going, rack, recorder)
 }

@@ -10,6 +10,7 @@ ghost use Rattle.transcript_log.specs.declared.Line.TheVariants.{Send};
 ghost use Rattle.transcript_log.specs.Drafts.{Begins};
 ghost use Rattle.transcript_log.specs.Events.{lines_of};
 ghost use Rattle.transcript_log.specs.Transcripts.{last_tick_from};
+ghost use Rattle.tick_run.specs.Recorded.{Extends};
 ghost use Rattle.tick_run.specs.Progress.{IsDelay, sending};
 ghost use Rattle.tick_run.specs.Running.{IsRunning, sending_at};
 ghost use Rattle.tick_run.specs.Sending.{IsOfPlan, WritesOne, Writes, CarriesOne, Carries, stamped, KeepsFates, GoesOn, AreDue, CanSendAll};
@@ -226,6 +227,7 @@ pub(crate) fn send_all<R: Threads, G: Gate>(
     ensures later { OnOk result (last_tick_from 0 run.new.transcript.entries ≤ tick) }
     ensures plan { OnOk result (run.new.transcript.plan ≡ run.old.transcript.plan) }
     ensures room { HasRoom (λ b. meaning (b.vtable, b.value)) rack.new }
+    ensures grows { OnOk result (Extends run.old.transcript run.new.transcript) }
 {
     reserve(frames.len(), run, rack)?;
     let before = rack.posts().len();

@@ -14,6 +14,7 @@ ghost use Rattle.tick_run.specs.Running.{run_shape, IsRunning, starting, closed}
 ghost use Rattle.tick_run.specs.Sending.{KeepsFates, KeptFates};
 ghost use Rattle.tick_run.specs.TickFrames.{frames_due};
 ghost use Rattle.tick_run.specs.Hidden.{IsOfOnePlan};
+ghost use Rattle.tick_run.specs.Recorded.{Extends};
 ghost use Rattle.tick_run.specs.Meters.{AreMeters, HasSet};
 ghost use Rattle.tick_run.specs.Sides.{AllSend, AnswerCopies};
 ghost use Rattle.tick_run.specs.declared.meters.Meters.{Meters};
@@ -75,6 +76,7 @@ fn send_tick<R: Threads, G: Gate>(
     ensures fates { (hung : List Slot) → KeepsFates hung tick run.old.transcript.entries (slots (λ b. meaning (b.vtable, b.value)) rack.old) (posts_of rack.old) →
         OnOk result (KeepsFates hung tick run.new.transcript.entries (slots (λ b. meaning (b.vtable, b.value)) rack.new) (posts_of rack.new)) }
     ensures room { HasRoom (λ b. meaning (b.vtable, b.value)) rack.new }
+    ensures grows { OnOk result (Extends run.old.transcript run.new.transcript) }
 {
     let frames = frames_at(context, &run.book, sent, tick)?;
     send_all(&context.crew, tick, &frames, run, rack)
@@ -99,6 +101,7 @@ pub(crate) fn run_tick<R: Threads + Wait + Sync, G: Gate>(
     ensures fates { (hung : List Slot) → KeptFates hung tick going.run.transcript.entries (slots (λ b. meaning (b.vtable, b.value)) rack.old) (posts_of rack.old) →
         IfOk result (λ after. KeptFates hung (tick + 1) after.run.transcript.entries (slots (λ b. meaning (b.vtable, b.value)) rack.new) (posts_of rack.new)) }
     ensures room { HasRoom (λ b. meaning (b.vtable, b.value)) rack.new }
+    ensures grows { IfOk result (λ after. Extends going.run.transcript after.run.transcript) }
 {
     rack.retire(tick);
     let Going { run, meters } = going;

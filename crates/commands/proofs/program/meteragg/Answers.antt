@@ -12,6 +12,3 @@ returns-clause-confirmed g c = runs_are_confirmed
 
 pub returns-clause-recorded : goal.returns-clause-recorded
 returns-clause-recorded g c = runs_are_recorded
-
-pub tell-requires : goal.tell-requires
-tell-requires g c = has_complaint _ _ _ _ c.perform-outcome.result c.perform-outcome.ensures.ends

@@ -4,13 +4,13 @@ use Rattle.plan_files.specs.Readings.{readings_of, ReadingsEnd}
 use Rattle.commands.proofs.RunLemmas.{plan_of_readings, makes, readings_refused}
 use Rattle.commands.proofs.texts.run_texts.Goals as goal
 
-pub returns-in_default-cause : goal.returns-in_default-cause
-returns-in_default-cause g c =
+pub returns-in_default-cause-clause-texts : goal.returns-in_default-cause-clause-texts
+returns-in_default-cause-clause-texts g c =
     let is : plan_of c.args.plan_bytes.items ≡ Ok (view_of c.in-Ok.file) = ap plan_of (sym c.deref.ensures.value) ∙ c.in-Ok.ensures.file in
     search rules
 
-pub returns-in_default-cause-2 : goal.returns-in_default-cause-2
-returns-in_default-cause-2 g c =
+pub returns-in_default-cause-2-clause-texts : goal.returns-in_default-cause-2-clause-texts
+returns-in_default-cause-2-clause-texts g c =
     readings_refused _ _ _ _ _ _ c.in-Err-read_readings.fault (ap plan_of (sym c.deref.ensures.value) ∙ c.in-Ok.ensures.file) c.as_slice.ensures.value c.in-Ok-fit.ensures.0
     (subst (λ (bytes : List ℕ). ReadingsEnd c.in-Ok.file.plan bytes (Err c.in-Err-read_readings.fault)) c.deref-2.ensures.value c.in-Err-read_readings.ensures)
     c.in_default-cause-2.not-Memory
@@ -20,8 +20,8 @@ run_plan-requires-clause-readings g c =
     let same : c.in-Ok-read_readings.readings.plan ≡ c.in-Ok.file.plan = plan_of_readings _ _ _ c.in-Ok-read_readings.ensures in
     search rules
 
-pub returns-in-Ok-finished_texts : goal.returns-in-Ok-finished_texts
-returns-in-Ok-finished_texts g c =
+pub returns-in-Ok-finished_texts-clause-texts : goal.returns-in-Ok-finished_texts-clause-texts
+returns-in-Ok-finished_texts-clause-texts g c =
     makes _ _ _ _ _ _ _ _ _ _ (ap plan_of (sym c.deref.ensures.value) ∙ c.in-Ok.ensures.file) c.as_slice.ensures.value c.in-Ok-fit.ensures.0
     (ap (readings_of c.in-Ok.file.plan) (sym c.deref-2.ensures.value) ∙ c.in-Ok-read_readings.ensures)
-    c.in-Ok-run_plan.ensures.finished c.in-Ok-finished_texts.ensures
+    c.in-Ok-run_plan.ensures.finished c.in-Ok-finished_texts.ensures.texts

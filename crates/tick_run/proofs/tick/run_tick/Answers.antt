@@ -9,6 +9,7 @@ use Rattle.tick_run.proofs.TakeLemmas.{all-taken, all-spelled}
 use Rattle.tick_run.proofs.SendingLemmas.{keeps-retired, kept-next}
 use Rattle.tick_run.proofs.BatchedLemmas.{last-running}
 use Rattle.tick_run.proofs.SidesLemmas.{can-hear, ok_of, sides-closed, sides-meters, sides-fates, meters-go_on}
+use Rattle.tick_run.proofs.RecordedLemmas.{extends-on, sides-extend}
 use Rattle.tick_run.proofs.tick.run_tick.Goals as goal
 
 pub both_sides-head_end-requires-clause-later : goal.both_sides-head_end-requires-clause-later
@@ -110,3 +111,13 @@ returns-clause-fates g c = λ hung kept.
     let retired = keeps-retired hung t run.transcript.entries _ _ _ _ kept c.retire.ensures.lanes c.retire.ensures.posts in
     let after = sides-fates hung t (tags_of (frames_in copies)) run.book now.book run.transcript now.transcript c.due.new.self now.link _ _ both retired in
     kept-next hung t c.send_tick.new.run.transcript.entries _ _ (c.in_ok-send_tick.ensures.fates hung after)
+
+pub returns-clause-grows : goal.returns-clause-grows
+returns-clause-grows g c =
+    let t = c.args.tick in
+    let run = c.args.going.run in
+    let copies = c.deref.result.now in
+    let now = c.in_ok-run.run' in
+    let both = ok_of (λ after. TakenAndClosed t (tags_of (frames_in copies)) run.book after.book run.transcript after.transcript c.due.new.self after.link) c.both_sides-head_end.result.head_end now c.in_ok-run.was c.both_sides-head_end.ensures.head_end in
+    extends-on run.transcript now.transcript c.send_tick.new.run.transcript
+    (sides-extend t (tags_of (frames_in copies)) run.book now.book run.transcript now.transcript c.due.new.self now.link both) c.in_ok-send_tick.ensures.grows

@@ -1,0 +1,196 @@
+//! The file of a transcript, of which much is written ahead, while the run goes on.
+
+ghost use Rattle.std.specs.Prelude.{◌≡◌, ◌≤◌, ◌<◌, List, ℕ, Some, IfSome, IsErrOf};
+ghost use Rattle.std.specs.Option.{ForSome};
+ghost use Rattle.std.specs.Thread.{IsSync};
+ghost use Rattle.group_plan.specs.Plans.{PlanView};
+ghost use Rattle.desk_outside.specs.Desk.{Rose, PutEnds};
+ghost use Rattle.transcript_log.specs.Transcripts.{no_entries};
+ghost use Rattle.transcript_text.specs.Spelling.{transcript_text};
+ghost use Rattle.transcript_text.specs.Writing.{lines_text, begun_text};
+ghost use Rattle.tick_run.specs.Recorded.{IsRecorded, Records};
+ghost use Rattle.commands.specs.Ahead.{IsAhead};
+
+use crate::source::TranscriptPieces;
+use desk_outside::{BegunFile, Desk, DeskError};
+use std::alloc::Global;
+use std::thread::Threads;
+use tick_run::Recorder;
+use transcript_log::Transcript;
+use transcript_text::TextPieces;
+
+/// The file of a transcript, which a desk has begun for a name. It is a head start only: where there is no such file, or it
+/// was given up, the whole text is put in the end.
+#[derive(Drop)]
+pub struct Ahead<'n, 'r, R, B: BegunFile + Drop> {
+    pub(crate) rt: &'r R,
+    pub(crate) alloc: Global,
+    pub(crate) name: &'n str,
+    pub(crate) file: Option<B>,
+    // How many entries have their lines in the file, after its head; none where the file was given up.
+    pub(crate) entries: Option<usize>,
+    ghost named: { ForSome file (λ f. B.name f ≡ name.now) },
+}
+
+impl<'n, 'r, R: Threads + Sync, B: BegunFile + Send + Drop> Ahead<'n, 'r, R, B> {
+    /// A file that the desk begins for a name, with nothing in it.
+    pub fn begin<D: Desk<Begun = B>>(
+        rt: &'r R,
+        alloc: Global,
+        name: &'n str,
+        desk: &mut D,
+    ) -> Ahead<'n, 'r, R, B>
+        ensures same_view { D.view desk.new ≡ D.view desk.old }
+        ensures same_faults { D.faults desk.new ≡ D.faults desk.old }
+        ensures name { result.name.now ≡ name.now }
+        ensures empty { (plan : PlanView) → IsAhead B.contents result.entries result.file (no_entries plan) }
+    {
+        Ahead {
+            rt,
+            alloc,
+            name,
+            file: desk.begin(name),
+            entries: Some(0),
+        }
+    }
+
+    /// A file that the desk begins for a name, where there is one; no file where there is none.
+    pub fn begin_where<D: Desk<Begun = B>>(
+        rt: &'r R,
+        alloc: Global,
+        name: Option<&'n str>,
+        desk: &mut D,
+    ) -> Ahead<'n, 'r, R, B>
+        ensures same_view { D.view desk.new ≡ D.view desk.old }
+        ensures same_faults { D.faults desk.new ≡ D.faults desk.old }
+        ensures name { IfSome name.entry (λ n. result.name.now ≡ n.now) }
+        ensures empty { (plan : PlanView) → IsAhead B.contents result.entries result.file (no_entries plan) }
+    {
+        match name {
+            Some(name) => Ahead::begin(rt, alloc, name, desk),
+            None => Ahead {
+                rt,
+                alloc,
+                name: "",
+                file: None,
+                entries: None,
+            },
+        }
+    }
+
+    /// Lets the file go.
+    pub fn discard<D: Desk<Begun = B>>(self, desk: &mut D)
+        ensures same_view { D.view desk.new ≡ D.view desk.old }
+        ensures same_faults { D.faults desk.new ≡ D.faults desk.old }
+    {
+        let Ahead {
+            rt: _,
+            alloc: _,
+            name: _,
+            file,
+            entries: _,
+        } = self;
+        if let Some(file) = file {
+            desk.discard(file);
+        }
+    }
+}
+
+impl<R: Threads + Sync, B: BegunFile + Send + Drop> Recorder for Ahead<'_, '_, R, B> {
+    ghost name = { λ ahead. ahead.name.now };
+
+    // Threads may share the handle.
+    ghost ready = { λ ahead. IsSync R.row };
+
+    ghost keeps = { λ ahead. IsAhead B.contents ahead.entries ahead.file };
+
+    fn is_recording(&self) -> bool {
+        self.file.is_some() && self.entries.is_some()
+    }
+
+    fn record(&mut self, part: &Transcript) {
+        match (self.file.take(), self.entries) {
+            (Some(mut file), Some(entries)) => {
+                self.entries = append_part(self.rt, self.alloc, &mut file, entries, part);
+                self.file = Some(file);
+            }
+            (file, _) => self.file = file,
+        }
+    }
+}
+
+/// The text of a part behind so many entries: the first one's has the head.
+fn part_text<'a, R: Threads + Sync>(
+    rt: &'a R,
+    alloc: Global,
+    entries: usize,
+    part: &'a Transcript,
+) -> TextPieces<'a, R>
+    ensures first { entries ≡ 0 → result ≡ begun_text part.now.plan part.now.entries }
+    ensures next { 0 < entries → result ≡ lines_text part.now.entries }
+{
+    if entries == 0 {
+        TextPieces::begun(rt, alloc, part)
+    } else {
+        TextPieces::lines(rt, alloc, part)
+    }
+}
+
+/// Appends a part to the file, which has the text of so many entries. The answer is how many it has the text of then; none where
+/// that is not known.
+fn append_part<R: Threads + Sync, B: BegunFile>(
+    rt: &R,
+    alloc: Global,
+    file: &mut B,
+    entries: usize,
+    part: &Transcript,
+) -> Option<usize>
+    ensures name { B.name file.new ≡ B.name file.old }
+    ensures records { Records (IsAhead B.contents (Some entries) (Some file.old)) (IsAhead B.contents result (Some file.new)) part.now }
+{
+    let more = part.len();
+    if more == 0 {
+        return Some(entries);
+    }
+    let mut pieces = TranscriptPieces {
+        text: part_text(rt, alloc, entries, part),
+    };
+    match file.append(&mut pieces) {
+        Ok(()) => entries.checked_add(more),
+        Err(_) => None,
+    }
+}
+
+/// Puts a transcript: what is left of its text behind what was written ahead, or the whole text.
+pub fn put_transcript<R: Threads + Sync, B: BegunFile + Send + Drop, D: Desk<Begun = B>>(
+    ahead: Ahead<'_, '_, R, B>,
+    transcript: &Transcript,
+    desk: &mut D,
+) -> Result<(), DeskError>
+    requires { IsRecorded (IsAhead B.contents ahead.entries ahead.file) transcript.now }
+    ensures ends { PutEnds ahead.entry.name.now (transcript_text transcript.now) (D.view desk.old) (D.view desk.new) result }
+    ensures later { D.faults desk.old ≤ D.faults desk.new }
+    ensures cause { IsErrOf result DeskError.Failed → Rose (D.faults desk.old) (D.faults desk.new) }
+{
+    let Ahead {
+        rt,
+        alloc,
+        name,
+        file,
+        entries,
+    } = ahead;
+    match (file, entries) {
+        (Some(file), Some(entries)) if entries > 0 => {
+            let mut rest = TranscriptPieces {
+                text: TextPieces::after(rt, alloc, transcript, entries),
+            };
+            return desk.put_begun(file, &mut rest);
+        }
+        (Some(file), _) => desk.discard(file),
+        (None, _) => {}
+    }
+    let mut whole = TranscriptPieces {
+        text: TextPieces::new(rt, alloc, transcript),
+    };
+    desk.put_pieces(name, &mut whole)
+}
