@@ -1,4 +1,5 @@
 mod AheadLemmas
+mod PartsLemmas
 pub mod AcceptedLemmas
 mod CommandEndings
 mod CupboardLemmas

@@ -1,4 +1,5 @@
 pub mod Ahead
+pub mod Parts
 pub mod Words
 pub mod Commands
 pub mod Calls

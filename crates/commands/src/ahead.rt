@@ -2,20 +2,23 @@
 
 ghost use Rattle.std.specs.Prelude.{◌≡◌, ◌≤◌, ◌<◌, List, ℕ, Some, IfSome, IsErrOf};
 ghost use Rattle.std.specs.Option.{ForSome};
-ghost use Rattle.std.specs.Thread.{IsSync};
 ghost use Rattle.group_plan.specs.Plans.{PlanView};
 ghost use Rattle.desk_outside.specs.Desk.{Rose, PutEnds};
 ghost use Rattle.transcript_log.specs.Transcripts.{no_entries};
 ghost use Rattle.transcript_text.specs.Spelling.{transcript_text};
 ghost use Rattle.transcript_text.specs.Writing.{lines_text, begun_text};
 ghost use Rattle.tick_run.specs.Recorded.{IsRecorded, Records};
+ghost use Rattle.rtrb.specs.Ring.{received};
+ghost use Rattle.rtrb.specs.Ends.{SameRing};
 ghost use Rattle.commands.specs.Ahead.{IsAhead};
+ghost use Rattle.commands.specs.Parts.{IsOfParts};
 
+use crate::parts::PartsIn;
 use crate::source::TranscriptPieces;
 use desk_outside::{BegunFile, Desk, DeskError};
 use std::alloc::Global;
+use std::sync::Wait;
 use std::thread::Threads;
-use tick_run::Recorder;
 use transcript_log::Transcript;
 use transcript_text::TextPieces;
 
@@ -96,19 +99,17 @@ impl<'n, 'r, R: Threads + Sync, B: BegunFile + Send + Drop> Ahead<'n, 'r, R, B> 
     }
 }
 
-impl<R: Threads + Sync, B: BegunFile + Send + Drop> Recorder for Ahead<'_, '_, R, B> {
-    ghost name = { λ ahead. ahead.name.now };
-
-    // Threads may share the handle.
-    ghost ready = { λ ahead. IsSync R.row };
-
-    ghost keeps = { λ ahead. IsAhead B.contents ahead.entries ahead.file };
-
-    fn is_recording(&self) -> bool {
+impl<R: Threads + Sync, B: BegunFile + Drop> Ahead<'_, '_, R, B> {
+    /// Whether there is a file, and it isn't given up.
+    pub(crate) fn is_writing(&self) -> bool {
         self.file.is_some() && self.entries.is_some()
     }
 
-    fn record(&mut self, part: &Transcript) {
+    /// Appends the text of a part, or gives the file up.
+    fn append(&mut self, part: &Transcript)
+        ensures name { self.new.name.now ≡ self.old.name.now }
+        ensures records { Records (IsAhead B.contents self.old.entries self.old.file) (IsAhead B.contents self.new.entries self.new.file) part.now }
+    {
         match (self.file.take(), self.entries) {
             (Some(mut file), Some(entries)) => {
                 self.entries = append_part(self.rt, self.alloc, &mut file, entries, part);
@@ -116,6 +117,41 @@ impl<R: Threads + Sync, B: BegunFile + Send + Drop> Recorder for Ahead<'_, '_, R
             }
             (file, _) => self.file = file,
         }
+    }
+}
+
+/// A file, and the end of the way by which its parts came.
+#[derive(Drop)]
+pub(crate) struct Appended<'n, 'r, R, B: BegunFile + Drop> {
+    pub ahead: Ahead<'n, 'r, R, B>,
+    pub parts: PartsIn,
+}
+
+impl<'n, 'r, R: Threads + Wait + Sync, B: BegunFile + Drop> Ahead<'n, 'r, R, B> {
+    /// Appends the parts as they come, until no part comes any more or the file is given up.
+    pub(crate) fn append_all(self, parts: PartsIn) -> Appended<'n, 'r, R, B>
+        requires { IsOfParts (IsAhead B.contents self.entries self.file) (received parts.ring) }
+        ensures name { result.ahead.name.now ≡ self.entry.name.now }
+        ensures same { SameRing parts.ring.end result.parts.ring.end }
+        ensures written { IsOfParts (IsAhead B.contents result.ahead.entries result.ahead.file) (received result.parts.ring) }
+    {
+        let rt = self.rt;
+        let mut ahead = self;
+        let mut parts = parts;
+        'parts: for _ in rt.forever() {
+            if !ahead.is_writing() {
+                break 'parts;
+            }
+            match parts.ring.pop() {
+                Ok(part) => ahead.append(&part),
+                Err(_) => {
+                    if parts.bell.recv(rt).is_err() {
+                        break 'parts;
+                    }
+                }
+            }
+        }
+        Appended { ahead, parts }
     }
 }
 

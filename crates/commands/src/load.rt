@@ -10,7 +10,8 @@ ghost use Rattle.commands.specs.Outcomes.{IsFault};
 use crate::ahead::Ahead;
 use crate::desk_calls::{put_ahead, say};
 use crate::outcome::Outcome;
-use crate::texts::{Refusal, run_texts};
+use crate::run_ahead::{RunAhead, RunInput, run_ahead};
+use crate::texts::Refusal;
 use crate::words::LoadWords;
 use collector_workers::Gate;
 use desk_outside::Desk;
@@ -48,17 +49,15 @@ pub fn load<'a, R: Threads + Wait + Sync, D: Desk, G: Gate>(
         Err(MakeError::Memory) => return Outcome::NoMemory,
         Err(MakeError::Range) => unreachable!(),
     };
-    let mut ahead = Ahead::begin_where(rt, alloc, words.transcript, desk);
-    let texts = match run_texts(
-        rt,
-        alloc,
+    let begun = Ahead::begin_where(rt, alloc, words.transcript, desk);
+    let input = RunInput {
         plan,
         readings,
         cupboard,
-        words.workers,
-        gate,
-        &mut ahead,
-    ) {
+        workers: words.workers,
+    };
+    let RunAhead { ahead, texts } = run_ahead(rt, alloc, input, gate, begun);
+    let texts = match texts {
         Ok(texts) => texts,
         Err(refusal) => {
             ahead.discard(desk);

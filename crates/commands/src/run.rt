@@ -9,8 +9,9 @@ ghost use Rattle.commands.specs.Outcomes.{IsFault};
 use crate::ahead::Ahead;
 use crate::desk_calls::{NewFile, fetch_two, put_run};
 use crate::outcome::Outcome;
+use crate::run_ahead::{RunAhead, RunInput, run_ahead};
 use crate::source::Source;
-use crate::texts::{Refusal, run_texts};
+use crate::texts::Refusal;
 use crate::words::RunWords;
 use collector_workers::Gate;
 use desk_outside::Desk;
@@ -40,17 +41,15 @@ pub fn run<'a, R: Threads + Wait + Sync, D: Desk, G: Gate>(
         Ok(bytes) => bytes,
         Err(outcome) => return outcome,
     };
-    let mut ahead = Ahead::begin(rt, alloc, files.transcript, desk);
-    let texts = match run_texts(
-        rt,
-        alloc,
+    let begun = Ahead::begin(rt, alloc, files.transcript, desk);
+    let input = RunInput {
         plan,
         readings,
         cupboard,
-        words.workers,
-        gate,
-        &mut ahead,
-    ) {
+        workers: words.workers,
+    };
+    let RunAhead { ahead, texts } = run_ahead(rt, alloc, input, gate, begun);
+    let texts = match texts {
         Ok(texts) => texts,
         Err(refusal) => {
             ahead.discard(desk);

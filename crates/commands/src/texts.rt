@@ -57,9 +57,9 @@ fn finished_texts(alloc: Global, finished: Finished) -> Result<RunTexts, AllocEr
     })
 }
 
-/// The texts of a run of the values of the two files. Their bytes are let go once they are read. The recorder is told entries while
-/// the run goes on.
-pub fn run_texts<R: Threads + Wait + Sync, G: Gate, W: Recorder + Send>(
+/// The texts of a run of the values of the two files. Their bytes are let go once they are read. The recorder is told entries between
+/// the ticks of the run.
+pub fn run_texts<R: Threads + Wait + Sync, G: Gate, W: Recorder>(
     rt: &R,
     alloc: Global,
     plan_bytes: Vec<u8>,
@@ -73,9 +73,8 @@ pub fn run_texts<R: Threads + Wait + Sync, G: Gate, W: Recorder + Send>(
     requires readings { length readings_bytes.items ≤ 2 ^ 28 }
     requires least { 1 ≤ workers }
     requires most { workers ≤ 16 }
-    requires ready { W.ready recorder.old }
     requires keeps { (plan : PlanView) → W.keeps recorder.old (no_entries plan) }
-    ensures name { W.name recorder.new ≡ W.name recorder.old }
+    ensures same { (first : W) → W.same first recorder.old → W.same first recorder.new }
     ensures recorded { IfOk result (λ kept. IsRecorded (W.keeps recorder.new) kept.transcript) }
     ensures texts { TextsEnd (map (λ b. meaning b) cupboard.items) plan_bytes.items readings_bytes.items result }
 {

@@ -55,3 +55,7 @@ part-recorded keeps after n m t part is all recorded more =
           subst (λ (es : List Entry). after (record t { entries = es })) (whole ∙ sym (take_all m t.entries (omega (arith, all))))
           (more.by (up_to n t) (sym plan) recorded.kept);
     }
+
+-- what is recorded stays so where what is kept of each transcript is kept of it afterwards
+pub recorded-still : (keeps after : TranscriptView → Type 0) (n : ℕ) (t : TranscriptView) → ((u : TranscriptView) → keeps u → after u) → IsRecordedUpTo keeps n t → IsRecordedUpTo after n t
+recorded-still keeps after n t still is = record { within = is.within; kept = still (up_to n t) is.kept }

@@ -12,4 +12,3 @@ pub mod Hearers
 pub mod Hidden
 pub mod Sides
 pub mod Recorded
-pub mod Strides

@@ -2,6 +2,7 @@
 #![tactic(auto)]
 
 mod all_groups;
+mod all_ticks;
 mod announcements;
 mod batches;
 mod by_group;
@@ -18,7 +19,6 @@ mod run;
 mod running;
 mod sends;
 mod sides;
-mod strides;
 mod tick;
 
 pub use recorder::{Nobody, Recorder};

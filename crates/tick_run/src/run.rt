@@ -20,6 +20,7 @@ ghost use Rattle.tick_run.specs.Recorded.{IsRecorded};
 ghost use Rattle.tick_run.specs.Meters.{AreMeters};
 
 use crate::RunError;
+use crate::all_ticks::run_ticks;
 use crate::context::{Context, Crew};
 use crate::hidden::HiddenReadings;
 use crate::known::Known;
@@ -27,7 +28,6 @@ use crate::meters::Meters;
 use crate::recorder::Recorder;
 use crate::running::Running;
 use crate::sides::beside;
-use crate::strides::run_ticks;
 use crate::tick::Going;
 use collector_workers::Gate;
 use group_book::Book;
@@ -197,7 +197,7 @@ fn make_finished(run: Running) -> Finished
 }
 
 /// Makes all ticks of a run that begins.
-fn run_whole<R: Threads + Wait + Sync, G: Gate, W: Recorder + Send>(
+fn run_whole<R: Threads + Wait + Sync, G: Gate, W: Recorder>(
     context: &Context<R, G>,
     going: Going,
     rack: &mut Rack,
@@ -210,13 +210,12 @@ fn run_whole<R: Threads + Wait + Sync, G: Gate, W: Recorder + Send>(
     requires workers { (1 ≤ context.now.crew.workers) × (context.now.crew.workers ≤ 16) }
     requires posts { posts_of rack.old ≡ [] }
     requires room { HasRoom (λ b. meaning (b.vtable, b.value)) rack.old }
-    requires ready { W.ready recorder.old }
     requires keeps { W.keeps recorder.old (no_entries context.now.known.readings.now.plan) }
     ensures finished { (keys : Keys) → words_of context.now.known.masks.now ≡ streams keys →
         IfOk result (λ f. IsFinished context.now.known.readings.now keys (slots (λ b. meaning (b.vtable, b.value)) rack.old) f.book f.transcript) }
     ensures posts { IfOk result (λ f. posts_of rack.new ≡ posts_of_entries f.transcript.entries) }
     ensures members { IfOk result (λ f. IsPresenceTable f.book.presence.plan f.book.presence.table) }
-    ensures name { W.name recorder.new ≡ W.name recorder.old }
+    ensures same { (first : W) → W.same first recorder.old → W.same first recorder.new }
     ensures recorded { IfOk result (λ f. IsRecorded (W.keeps recorder.new) f.transcript) }
 {
     readings_are_limited(context.known.readings);
@@ -226,8 +225,8 @@ fn run_whole<R: Threads + Wait + Sync, G: Gate, W: Recorder + Send>(
 
 /// Runs a plan by ticks, from the first to the last: its readings are sent and taken, its rounds are closed, answered and
 /// ended. Frames are hidden under the stream words of the keys, and go through the lanes of the rack. The recorder is told entries
-/// while the run goes on, from the first on; how many of them, is not said.
-pub fn run_plan<R: Threads + Wait + Sync, G: Gate, W: Recorder + Send>(
+/// between ticks, from the first on; how many of them, is not said.
+pub fn run_plan<R: Threads + Wait + Sync, G: Gate, W: Recorder>(
     rt: &R,
     alloc: Global,
     plan: &Plan,
@@ -244,12 +243,11 @@ pub fn run_plan<R: Threads + Wait + Sync, G: Gate, W: Recorder + Send>(
     requires room { HasRoom (λ b. meaning (b.vtable, b.value)) rack.old }
     requires least { 1 ≤ workers }
     requires most { workers ≤ 16 }
-    requires ready { W.ready recorder.old }
     requires keeps { W.keeps recorder.old (no_entries plan.now) }
     ensures finished { IfOk result (λ f. IsFinished readings.now (table_of keys.now) (slots (λ b. meaning (b.vtable, b.value)) rack.old) f.book f.transcript) }
     ensures posts { IfOk result (λ f. posts_of rack.new ≡ posts_of_entries f.transcript.entries) }
     ensures report { IfOk result (λ f. HasRowsOf f.transcript.entries f.book) }
-    ensures name { W.name recorder.new ≡ W.name recorder.old }
+    ensures same { (first : W) → W.same first recorder.old → W.same first recorder.new }
     ensures recorded { IfOk result (λ f. IsRecorded (W.keeps recorder.new) f.transcript) }
 {
     let masks = ChaMasks::new(keys);
