@@ -12,13 +12,14 @@ use Rattle.group_book.specs.Books.{BookView, shape_of, past}
 use Rattle.tick_run.specs.declared.group.GroupFrames.{GroupFrames}
 use Rattle.tick_run.specs.declared.known.Known.{Known}
 use Rattle.tick_run.specs.ByGroup.{row_of}
-use Rattle.tick_run.specs.Hidden.{IsOfOnePlan}
+use Rattle.tick_run.specs.Hidden.{IsOfOnePlan, HasWordsAt}
 use Rattle.tick_run.specs.Running.{run_shape}
 use Rattle.tick_run.specs.TickFrames.{reading_frame, announcements_at, answers_to, AreAnswerable}
 
--- what the meters have is of one plan, the group is one of the plan's and has its list, and what came to it can be answered
+-- what the meters have is of one plan, with the words of the tick's round, the group is one of the plan's and has its list, and what came to it can be answered
 pub record CanSend (known : Known) (rows : List (Vec Frame Global)) (t g : ℕ) : Type 0 where
   pub are : IsOfOnePlan known
+  pub words : HasWordsAt known t
   pub group : g < length known.readings.now.plan.groups
   pub few : g < 256
   pub row : g < length rows

@@ -12,3 +12,4 @@ pub mod Hearers
 pub mod Hidden
 pub mod Sides
 pub mod Recorded
+pub mod Stages

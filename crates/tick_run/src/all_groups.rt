@@ -3,7 +3,7 @@
 ghost use Rattle.std.specs.Prelude.{◌≡◌, ◌<◌, length, IfOk};
 ghost use Rattle.std.specs.List.{AllZip, range_with_len};
 ghost use Rattle.mask_stream.specs.ChaMaskTables.{words_of};
-ghost use Rattle.tick_run.specs.Hidden.{IsOfOnePlan};
+ghost use Rattle.tick_run.specs.Hidden.{IsOfOnePlan, HasWordsAt};
 ghost use Rattle.tick_run.specs.ByGroup.{row_of};
 ghost use Rattle.tick_run.specs.Jobs.{CanSend, AreGroupFrames};
 ghost use Rattle.tick_run.specs.TickFrames.{AreAnswerable};
@@ -35,6 +35,7 @@ pub(crate) fn all_groups(
     tick: u32,
 ) -> Result<Vec<Result<GroupFrames, AllocError>>, AllocError>
     requires known { IsOfOnePlan known.now }
+    requires words { HasWordsAt known.now tick }
     requires came { AreAnswerable known.now.readings.now.plan tick came.now }
     ensures { IfOk result (λ groups. AllZip (λ g sent. IfOk sent (AreGroupFrames known.now.readings.now (words_of known.now.masks.now) came.now tick g))
         (range_with_len 0 (length known.now.readings.now.plan.groups)) groups.items) }

@@ -1,17 +1,16 @@
 //! The ticks of a run, one after another, and what the recorder is told between them.
 
-ghost use Rattle.std.specs.Prelude.{◌≡◌, ◌+◌, ◌≤◌, List, IfOk};
+ghost use Rattle.std.specs.Prelude.{◌≡◌, ℕ, ◌+◌, ◌<◌, ◌≤◌, ◌^◌, List, IfOk};
 ghost use Rattle.group_plan.specs.Plans.{last_tick};
 ghost use Rattle.link_lanes.specs.Lanes.{Slot};
 ghost use Rattle.link_lanes.specs.Racks.{slots, posts_of, HasRoom};
 ghost use Rattle.mask_stream.specs.ChaMaskTables.{words_of};
 ghost use Rattle.transcript_log.specs.Events.{lines_of};
-ghost use Rattle.transcript_log.specs.Transcripts.{no_entries};
 ghost use Rattle.tick_run.specs.Running.{IsRunning, starting};
 ghost use Rattle.tick_run.specs.Sending.{KeptFates};
-ghost use Rattle.tick_run.specs.Hidden.{IsOfOnePlan};
+ghost use Rattle.tick_run.specs.Hidden.{IsOfOnePlan, HasWordsAt};
 ghost use Rattle.tick_run.specs.Recorded.{IsRecorded, IsRecordedUpTo};
-ghost use Rattle.tick_run.specs.Meters.{AreMeters};
+ghost use Rattle.tick_run.specs.Stages.{StandsAt, ComesTo};
 
 use crate::RunError;
 use crate::context::Context;
@@ -49,35 +48,69 @@ fn tell_new<W: Recorder>(
     Ok(made)
 }
 
-/// Makes all ticks, from 0 to the last. What the recorder has not been told in the end are the entries that came while it could
-/// be told no part.
+/// A run that goes on, and how many of its entries the recorder has been told.
+#[derive(Drop)]
+pub(crate) struct Stage {
+    pub going: Going,
+    pub told: usize,
+}
+
+/// Makes the ticks from one up to another, and tells the recorder entries between them.
 pub(crate) fn run_ticks<R: Threads + Wait + Sync, G: Gate, W: Recorder>(
     context: &Context<R, G>,
-    going: Going,
+    stage: Stage,
     rack: &mut Rack,
     recorder: &mut W,
-) -> Result<Running, RunError>
-    requires running { IsRunning context.now.known.readings.now (words_of context.now.known.masks.now) (starting 0) going.run.book going.run.transcript going.run.link }
-    requires meters { AreMeters going.run.book 0 going.meters }
-    requires transcript { going.run.transcript ≡ no_entries context.now.known.readings.now.plan }
+    from: u32,
+    to: u32,
+) -> Result<Stage, RunError>
+    requires stands { StandsAt context.now.known.readings.now (words_of context.now.known.masks.now) (W.keeps recorder.old) from stage }
+    requires from { from ≤ to }
+    requires to { to ≤ 2 ^ 31 }
     requires known { IsOfOnePlan context.now.known }
+    requires words { (tick : ℕ) → tick < to → HasWordsAt context.now.known tick }
     requires workers { (1 ≤ context.now.crew.workers) × (context.now.crew.workers ≤ 16) }
     requires room { HasRoom (λ b. meaning (b.vtable, b.value)) rack.old }
-    requires keeps { W.keeps recorder.old going.run.transcript }
+    ensures comes { IfOk result (λ after. ComesTo context.now.known.readings.now (words_of context.now.known.masks.now) (W.keeps recorder.new) from to stage
+        (slots (λ b. meaning (b.vtable, b.value)) rack.old) (posts_of rack.old) after (slots (λ b. meaning (b.vtable, b.value)) rack.new) (posts_of rack.new)) }
+    ensures room { HasRoom (λ b. meaning (b.vtable, b.value)) rack.new }
+    ensures same { (first : W) → W.same first recorder.old → W.same first recorder.new }
+{
+    let enough = context.crew.gate.part().max(1);
+    let Stage { going, told } = stage;
+    let mut going = going;
+    let mut told = told;
+    for tick in from..to {
+        going = run_tick(context, going, rack, tick)?;
+        told = tell_new(&going.run, recorder, told, enough)?;
+    }
+    Ok(Stage { going, told })
+}
+
+/// Makes the ticks that are left, from one to the last. What the recorder has not been told in the end are the entries that came
+/// while it could be told no part.
+pub(crate) fn run_to_end<R: Threads + Wait + Sync, G: Gate, W: Recorder>(
+    context: &Context<R, G>,
+    stage: Stage,
+    rack: &mut Rack,
+    recorder: &mut W,
+    from: u32,
+) -> Result<Running, RunError>
+    requires stands { StandsAt context.now.known.readings.now (words_of context.now.known.masks.now) (W.keeps recorder.old) from stage }
+    requires from { from ≤ context.now.known.readings.now.plan.rounds }
+    requires known { IsOfOnePlan context.now.known }
+    requires words { context.now.known.hidden.now.rounds ≡ context.now.known.readings.now.plan.rounds }
+    requires workers { (1 ≤ context.now.crew.workers) × (context.now.crew.workers ≤ 16) }
+    requires room { HasRoom (λ b. meaning (b.vtable, b.value)) rack.old }
     ensures running { IfOk result (λ after. IsRunning context.now.known.readings.now (words_of context.now.known.masks.now) (starting (last_tick context.now.known.readings.now.plan + 1)) after.book after.transcript after.link) }
-    ensures fates { (hung : List Slot) → KeptFates hung 0 going.run.transcript.entries (slots (λ b. meaning (b.vtable, b.value)) rack.old) (posts_of rack.old) →
+    ensures fates { (hung : List Slot) → KeptFates hung from stage.going.run.transcript.entries (slots (λ b. meaning (b.vtable, b.value)) rack.old) (posts_of rack.old) →
         IfOk result (λ after. KeptFates hung (last_tick context.now.known.readings.now.plan + 1) after.transcript.entries (slots (λ b. meaning (b.vtable, b.value)) rack.new) (posts_of rack.new)) }
     ensures same { (first : W) → W.same first recorder.old → W.same first recorder.new }
     ensures recorded { IfOk result (λ after. IsRecorded (W.keeps recorder.new) after.transcript) }
 {
-    let enough = context.crew.gate.part().max(1);
-    let mut going = going;
-    let mut told = 0;
-    for tick in 0..context.known.readings.plan().last_tick() + 1 {
-        going = run_tick(context, going, rack, tick)?;
-        told = tell_new(&going.run, recorder, told, enough)?;
-    }
-    let _all = tell_new(&going.run, recorder, told, 1)?;
+    let to = context.known.readings.plan().last_tick() + 1;
+    let Stage { going, told } = run_ticks(context, stage, rack, recorder, from, to)?;
     let Going { run, meters: _ } = going;
+    let _all = tell_new(&run, recorder, told, 1)?;
     Ok(run)
 }

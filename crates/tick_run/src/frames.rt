@@ -13,7 +13,7 @@ ghost use Rattle.tick_run.specs.OnTheWay.{same_tag};
 ghost use Rattle.blind_core.specs.Blind.{are_places};
 ghost use Rattle.mask_stream.specs.ChaMaskTables.{plan_of, words_of};
 ghost use Rattle.tick_run.specs.TickFrames.{reading_frame, answer_to, announced_set, CanAnswer, word_frame};
-ghost use Rattle.tick_run.specs.Hidden.{IsOfOnePlan};
+ghost use Rattle.tick_run.specs.Hidden.{IsOfOnePlan, HasWordsAt};
 
 use crate::group::Hearers;
 use crate::known::Known;
@@ -150,7 +150,7 @@ fn add_words(
     Ok(())
 }
 
-/// Adds the frame of each reading of a group in a round. Its word was made before the first tick.
+/// Adds the frame of each reading of a group in a round. Its word was made before.
 pub(crate) fn add_readings(
     known: &Known,
     group: u16,
@@ -159,6 +159,7 @@ pub(crate) fn add_readings(
     frames: &mut Vec<Frame>,
 ) -> Result<(), AllocError>
     requires known { IsOfOnePlan known.now }
+    requires words { HasWordsAt known.now round }
     requires group { group < length known.now.readings.now.plan.groups }
     requires round { round < known.now.readings.now.plan.rounds }
     requires members { members.now ≡ members_of known.now.readings.now.plan.groups group round }

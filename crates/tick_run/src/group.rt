@@ -8,7 +8,7 @@ ghost use Rattle.tick_run.specs.OnTheWay.{tags_of};
 ghost use Rattle.tick_run.specs.TickFrames.{was_taken, announced_set, answers_to, CanAnswer, AreAnswerable, is_announcement_in};
 ghost use Rattle.tick_run.specs.Jobs.{readings_at, answers_at, AreGroupFrames};
 ghost use Rattle.tick_run.specs.Hearers.{HearsToo, AreHearers};
-ghost use Rattle.tick_run.specs.Hidden.{IsOfOnePlan};
+ghost use Rattle.tick_run.specs.Hidden.{IsOfOnePlan, HasWordsAt};
 ghost use Rattle.meter_frames.specs.declared.Frame.{Frame};
 
 use crate::frames::{add_answers, add_readings};
@@ -105,6 +105,7 @@ fn add_reading_frames(
     frames: &mut Vec<Frame>,
 ) -> Result<(), AllocError>
     requires known { IsOfOnePlan known.now }
+    requires words { HasWordsAt known.now tick }
     requires group { group < length known.now.readings.now.plan.groups }
     ensures { OnOk result (frames.new.items ≡ frames.old.items ++ readings_at known.now.readings.now (words_of known.now.masks.now) tick group) }
 {
@@ -167,6 +168,7 @@ pub(crate) fn group_frames(
     group: u16,
 ) -> Result<GroupFrames, AllocError>
     requires known { IsOfOnePlan known.now }
+    requires words { HasWordsAt known.now tick }
     requires group { group < length known.now.readings.now.plan.groups }
     requires came { AreAnswerable known.now.readings.now.plan tick came.now }
     ensures { IfOk result (λ sent. AreGroupFrames known.now.readings.now (words_of known.now.masks.now) came.now tick group sent) }

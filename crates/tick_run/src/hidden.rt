@@ -1,4 +1,4 @@
-//! The words of all readings of a plan, made before the first tick.
+//! The words of all readings of a plan: those of the first rounds are made before the first tick, the others beside it and later ones.
 
 ghost use Rattle.std.specs.Prelude.{◌≡◌, ℕ, ◌+◌, ◌*◌, ◌/◌, ◌<◌, ◌≤◌, ◌^◌, IsTrue, None, length, slice_index_or, IfOk};
 ghost use Rattle.group_plan.specs.Plans.{is_place, members};
@@ -6,7 +6,9 @@ ghost use Rattle.group_plan.specs.Tables.{reading};
 ghost use Rattle.blind_core.specs.Columns.{column};
 ghost use Rattle.mask_stream.specs.ChaMaskTables.{plan_of, words_of};
 ghost use Rattle.tick_run.specs.TickFrames.{IsRow};
-ghost use Rattle.tick_run.specs.Hidden.{Hide, HideRounds, HideBlock, CanHide, AreColumns, AreHidden, HasRow, words_in, blocks_in};
+ghost use Rattle.group_plan.specs.Tables.{ReadingsView};
+ghost use Rattle.missing_round.specs.Masks.{Masks};
+ghost use Rattle.tick_run.specs.Hidden.{Hide, HideRounds, HideBlock, CanHide, AreColumns, AreBlocks, AreRest, AreHidden, HasRow, words_in, blocks_in};
 
 use crate::pieces::items_a_piece;
 use blind_core::{masked_group, masked_rounds};
@@ -20,10 +22,11 @@ use transcript_log::members;
 
 /// The word of each reading of a plan, hidden under the words of its keys, and 0 where there is no reading. Each block
 /// has the rows of a group in eight rounds, or in those that are left at the end of the plan. The groups of the first
-/// eight rounds come first, then those of the next eight.
+/// eight rounds come first, then those of the next eight. So many rounds have words, from the first on.
 #[derive(Drop)]
 pub(crate) struct HiddenReadings {
     groups: usize,
+    rounds: u32,
     blocks: Vec<Vec<Vec<Word>>>,
 }
 
@@ -226,9 +229,57 @@ fn words_a_block(groups: &[GroupPlan]) -> usize {
     words.saturating_mul(8)
 }
 
+// One in so many rounds, the first ones, has its words before the first tick: the words of the others are made while the ticks of
+// these rounds go on.
+const ROUNDS_FOR_ONE_FIRST: u32 = 4;
+
+/// How many rounds have their words before the first tick: whole blocks of eight, or all rounds.
+fn first_rounds(plan: &Plan) -> u32
+    ensures { result ≤ plan.now.rounds }
+{
+    let rounds = plan.rounds();
+    let blocks = (rounds + ROUNDS_FOR_ONE_FIRST * 8 - 1) / (ROUNDS_FOR_ONE_FIRST * 8);
+    (blocks * 8).min(rounds)
+}
+
+/// How many places the blocks of so many rounds take, where there are so many groups.
+fn places_of(rounds: u32, groups: usize) -> usize
+    requires rounds { rounds ≤ 4096 }
+    requires groups { groups ≤ 256 }
+    ensures { result ≡ blocks_in rounds * groups }
+{
+    (rounds as usize + 7) / 8 * groups
+}
+
+/// Hides the readings of the blocks from one place up to another, side by side.
+fn blocks_between(
+    rt: &(impl Threads + Sync),
+    alloc: Global,
+    readings: &Readings,
+    masks: &ChaMasks,
+    from: usize,
+    to: usize,
+) -> Result<Vec<Vec<Vec<Word>>>, AllocError>
+    requires masks { plan_of masks.now ≡ readings.now.plan }
+    requires places { to ≤ blocks_in readings.now.plan.rounds * length readings.now.plan.groups }
+    ensures { IfOk result (λ blocks. AreBlocks readings.now (words_of masks.now) from to blocks.items) }
+{
+    let groups = readings.plan().groups();
+    (from..to)
+        .into_par_iter()
+        .with_min_len(items_a_piece(words_a_block(groups), groups.len()))
+        .map(
+            |place: usize| -> Result<Vec<Vec<Word>>, AllocError>
+                requires { CanHide readings.now (plan_of masks.now) place }
+                ensures { IfOk result (λ rows. HideBlock readings.entry.now (words_of masks.entry.now) place rows.items) }
+            { words_at(alloc, readings, masks, place) },
+        )
+        .collect::<Result<Vec<Vec<Vec<Word>>>, AllocError>>(rt, alloc)?
+}
+
 impl HiddenReadings {
-    /// Hides all readings of a plan, its groups and blocks of rounds side by side.
-    pub(crate) fn new(
+    /// Hides the readings of the first rounds of a plan.
+    pub(crate) fn first(
         rt: &(impl Threads + Sync),
         alloc: Global,
         readings: &Readings,
@@ -237,21 +288,62 @@ impl HiddenReadings {
         requires masks { plan_of masks.now ≡ readings.now.plan }
         ensures { IfOk result (AreHidden readings.now (words_of masks.now)) }
     {
-        let groups = readings.plan().groups();
-        let places = (readings.plan().rounds() as usize + 7) / 8 * groups.len();
-        let words = (0..places)
-            .into_par_iter()
-            .with_min_len(items_a_piece(words_a_block(groups), groups.len()))
-            .map(
-                |place: usize| -> Result<Vec<Vec<Word>>, AllocError>
-                    requires { CanHide readings.now (plan_of masks.now) place }
-                    ensures { IfOk result (λ rows. HideBlock readings.entry.now (words_of masks.entry.now) place rows.items) }
-                { words_at(alloc, readings, masks, place) },
-            )
-            .collect::<Result<Vec<Vec<Vec<Word>>>, AllocError>>(rt, alloc)??;
+        let groups = readings.plan().groups().len();
+        let rounds = first_rounds(readings.plan());
+        let places = places_of(rounds, groups);
         Ok(HiddenReadings {
-            groups: groups.len(),
-            blocks: words,
+            groups,
+            rounds,
+            blocks: blocks_between(rt, alloc, readings, masks, 0, places)?,
+        })
+    }
+
+    /// How many rounds have words, from the first on.
+    pub(crate) fn rounds(&self) -> u32
+        ensures { result ≡ self.now.rounds }
+    {
+        self.rounds
+    }
+
+    /// Hides the readings of the rounds that have no words yet.
+    pub(crate) fn rest(
+        &self,
+        rt: &(impl Threads + Sync),
+        alloc: Global,
+        readings: &Readings,
+        masks: &ChaMasks,
+    ) -> Result<Vec<Vec<Vec<Word>>>, AllocError>
+        requires masks { plan_of masks.now ≡ readings.now.plan }
+        requires hidden { AreHidden readings.now (words_of masks.now) self.now }
+        ensures { IfOk result (λ rest. AreRest readings.now (words_of masks.now) self.now rest.items) }
+    {
+        let groups = readings.plan().groups().len();
+        let from = places_of(self.rounds, groups);
+        let to = places_of(readings.plan().rounds(), groups);
+        blocks_between(rt, alloc, readings, masks, from, to)
+    }
+
+    /// The words of all rounds of a plan, once those of the rest are made.
+    pub(crate) fn with_rest(
+        self,
+        plan: &Plan,
+        rest: Vec<Vec<Vec<Word>>>,
+    ) -> Result<HiddenReadings, AllocError>
+        ensures hidden { (readings : ReadingsView) (m : Masks) → readings.plan ≡ plan.now → AreHidden readings m self → AreRest readings m self rest.items → IfOk result (AreHidden readings m) }
+        ensures rounds { IfOk result (λ all. all.rounds ≡ plan.now.rounds) }
+    {
+        let HiddenReadings {
+            groups,
+            rounds: _,
+            blocks,
+        } = self;
+        let mut blocks = blocks;
+        let mut rest = rest;
+        blocks.append(&mut rest)?;
+        Ok(HiddenReadings {
+            groups,
+            rounds: plan.rounds(),
+            blocks,
         })
     }
 

@@ -7,6 +7,7 @@ mod announcements;
 mod batches;
 mod by_group;
 mod context;
+mod first_ticks;
 mod frames;
 mod group;
 mod hidden;

@@ -6,7 +6,7 @@ ghost use Rattle.group_book.specs.Books.{BookView};
 ghost use Rattle.mask_stream.specs.ChaMaskTables.{words_of};
 ghost use Rattle.tick_run.specs.OnTheWay.{frames_in, IsSpelling};
 ghost use Rattle.tick_run.specs.Jobs.{AreGroupFrames};
-ghost use Rattle.tick_run.specs.Hidden.{IsOfOnePlan};
+ghost use Rattle.tick_run.specs.Hidden.{IsOfOnePlan, HasWordsAt};
 ghost use Rattle.tick_run.specs.Sides.{MetersEnd};
 ghost use Rattle.tick_run.specs.Meters.{AreMeters, book_of, announcements, AreTold, CanHearNow, HaveHeard};
 
@@ -28,6 +28,7 @@ pub(crate) fn meters_send(
     tick: u32,
 ) -> Result<Vec<Result<GroupFrames, AllocError>>, AllocError>
     requires known { IsOfOnePlan known.now }
+    requires words { HasWordsAt known.now tick }
     requires spelled { All IsSpelling copies.now }
     requires can { CanHearNow known.now.readings.now tick meters.old (frames_in copies.now) }
     ensures meters { (b : BookView) → AreMeters (book_of known.now.readings.now b) tick meters.old → AreTold (book_of known.now.readings.now b) (tick + 1) (frames_in copies.now) →
@@ -59,6 +60,7 @@ pub(crate) fn meters_side(
     tick: u32,
 ) -> MetersSent
     requires known { IsOfOnePlan known.now }
+    requires words { HasWordsAt known.now tick }
     requires spelled { All IsSpelling copies.now }
     requires can { CanHearNow known.now.readings.now tick meters (frames_in copies.now) }
     ensures { MetersEnd known.now.readings.now (words_of known.now.masks.now) tick meters (frames_in copies.now) result }

@@ -17,11 +17,14 @@ ghost use Rattle.tick_run.specs.Running.{IsRunning, starting};
 ghost use Rattle.tick_run.specs.Finished.{IsFinished, HasRowsOf};
 ghost use Rattle.tick_run.specs.Hidden.{AreHidden, IsOfOnePlan};
 ghost use Rattle.tick_run.specs.Recorded.{IsRecorded};
+ghost use Rattle.tick_run.specs.Sending.{KeptFates};
+ghost use Rattle.tick_run.specs.Stages.{StandsAt};
 ghost use Rattle.tick_run.specs.Meters.{AreMeters};
 
 use crate::RunError;
-use crate::all_ticks::run_ticks;
+use crate::all_ticks::{Stage, run_to_end};
 use crate::context::{Context, Crew};
+use crate::first_ticks::{FirstTicks, first_ticks};
 use crate::hidden::HiddenReadings;
 use crate::known::Known;
 use crate::meters::Meters;
@@ -140,14 +143,14 @@ fn begin(alloc: Global, plan: &Plan, readings: &Readings) -> Result<Going, Alloc
     Ok(Going { run, meters })
 }
 
-/// What there is before the first tick: the run with its meters, and their readings hidden.
+/// What there is before the first tick: the run with its meters, and their readings of the first rounds hidden.
 #[derive(Drop)]
 struct Begun {
     going: Going,
     hidden: HiddenReadings,
 }
 
-/// Begins a run, and hides its readings beside that.
+/// Begins a run, and hides the readings of its first rounds beside that.
 fn begin_and_hide<R: Threads + Sync>(
     rt: &R,
     alloc: Global,
@@ -165,7 +168,7 @@ fn begin_and_hide<R: Threads + Sync>(
     let hide = |masks: &ChaMasks| -> Result<HiddenReadings, AllocError>
         requires { plan_of masks.now ≡ readings.now.plan }
         ensures { IfOk result (AreHidden readings.entry.now (words_of masks.now)) }
-    { HiddenReadings::new(rt, alloc, readings, masks) };
+    { HiddenReadings::first(rt, alloc, readings, masks) };
     let start = |plan: &Plan| -> Result<Going, AllocError>
         requires { readings.now.plan ≡ plan.now }
         ensures running { IfOk result (λ going. (m : Masks) → IsRunning readings.entry.now m (starting 0) going.run.book going.run.transcript going.run.link) }
@@ -196,31 +199,90 @@ fn make_finished(run: Running) -> Finished
     Finished { book, transcript }
 }
 
-/// Makes all ticks of a run that begins.
-fn run_whole<R: Threads + Wait + Sync, G: Gate, W: Recorder>(
+/// Makes the ticks that are left of a run, from one to the last.
+fn finish<R: Threads + Wait + Sync, G: Gate, W: Recorder>(
     context: &Context<R, G>,
-    going: Going,
+    stage: Stage,
     rack: &mut Rack,
     recorder: &mut W,
+    from: u32,
 ) -> Result<Finished, RunError>
-    requires running { IsRunning context.now.known.readings.now (words_of context.now.known.masks.now) (starting 0) going.run.book going.run.transcript going.run.link }
-    requires meters { AreMeters going.run.book 0 going.meters }
-    requires transcript { going.run.transcript ≡ no_entries context.now.known.readings.now.plan }
+    requires stands { StandsAt context.now.known.readings.now (words_of context.now.known.masks.now) (W.keeps recorder.old) from stage }
+    requires from { from ≤ context.now.known.readings.now.plan.rounds }
     requires known { IsOfOnePlan context.now.known }
+    requires words { context.now.known.hidden.now.rounds ≡ context.now.known.readings.now.plan.rounds }
     requires workers { (1 ≤ context.now.crew.workers) × (context.now.crew.workers ≤ 16) }
-    requires posts { posts_of rack.old ≡ [] }
     requires room { HasRoom (λ b. meaning (b.vtable, b.value)) rack.old }
-    requires keeps { W.keeps recorder.old (no_entries context.now.known.readings.now.plan) }
-    ensures finished { (keys : Keys) → words_of context.now.known.masks.now ≡ streams keys →
-        IfOk result (λ f. IsFinished context.now.known.readings.now keys (slots (λ b. meaning (b.vtable, b.value)) rack.old) f.book f.transcript) }
-    ensures posts { IfOk result (λ f. posts_of rack.new ≡ posts_of_entries f.transcript.entries) }
+    ensures finished { (keys : Keys) (hung : List Slot) → words_of context.now.known.masks.now ≡ streams keys → KeptFates hung from stage.going.run.transcript.entries (slots (λ b. meaning (b.vtable, b.value)) rack.old) (posts_of rack.old) →
+        IfOk result (λ f. IsFinished context.now.known.readings.now keys hung f.book f.transcript) }
+    ensures posts { (hung : List Slot) → KeptFates hung from stage.going.run.transcript.entries (slots (λ b. meaning (b.vtable, b.value)) rack.old) (posts_of rack.old) →
+        IfOk result (λ f. posts_of rack.new ≡ posts_of_entries f.transcript.entries) }
     ensures members { IfOk result (λ f. IsPresenceTable f.book.presence.plan f.book.presence.table) }
     ensures same { (first : W) → W.same first recorder.old → W.same first recorder.new }
     ensures recorded { IfOk result (λ f. IsRecorded (W.keeps recorder.new) f.transcript) }
 {
     readings_are_limited(context.known.readings);
-    let run = run_ticks(context, going, rack, recorder)?;
+    let run = run_to_end(context, stage, rack, recorder, from)?;
     Ok(make_finished(run))
+}
+
+/// A run after the ticks of its first rounds, with the words of all rounds and the tick that comes next.
+#[derive(Drop)]
+struct Opened {
+    stage: Stage,
+    hidden: HiddenReadings,
+    next: u32,
+}
+
+/// Begins a run, and makes the ticks of its first rounds, and the words of the others beside that.
+fn run_first<R: Threads + Wait + Sync, G: Gate, W: Recorder>(
+    rt: &R,
+    alloc: Global,
+    plan: &Plan,
+    readings: &Readings,
+    keys: &KeyTable,
+    rack: &mut Rack,
+    workers: u32,
+    gate: &G,
+    recorder: &mut W,
+) -> Result<Opened, RunError>
+    requires readings { readings.now.plan ≡ plan.now }
+    requires keys { (table_of keys.now).plan ≡ plan.now }
+    requires posts { posts_of rack.old ≡ [] }
+    requires room { HasRoom (λ b. meaning (b.vtable, b.value)) rack.old }
+    requires workers { (1 ≤ workers) × (workers ≤ 16) }
+    requires keeps { W.keeps recorder.old (no_entries plan.now) }
+    ensures stands { IfOk result (λ o. StandsAt readings.now (streams (table_of keys.now)) (W.keeps recorder.new) o.next o.stage) }
+    ensures next { IfOk result (λ o. o.next ≤ readings.now.plan.rounds) }
+    ensures hidden { IfOk result (λ o. AreHidden readings.now (streams (table_of keys.now)) o.hidden) }
+    ensures words { IfOk result (λ o. o.hidden.rounds ≡ readings.now.plan.rounds) }
+    ensures fates { IfOk result (λ o. KeptFates (slots (λ b. meaning (b.vtable, b.value)) rack.old) o.next o.stage.going.run.transcript.entries (slots (λ b. meaning (b.vtable, b.value)) rack.new) (posts_of rack.new)) }
+    ensures room { HasRoom (λ b. meaning (b.vtable, b.value)) rack.new }
+    ensures same { (first : W) → W.same first recorder.old → W.same first recorder.new }
+{
+    let masks = ChaMasks::new(keys);
+    let Begun { going, hidden } = begin_and_hide(rt, alloc, plan, readings, &masks)?;
+    let next = hidden.rounds();
+    let context = Context {
+        crew: Crew {
+            rt,
+            alloc,
+            workers,
+            gate,
+        },
+        known: Known {
+            readings,
+            masks: &masks,
+            hidden: &hidden,
+        },
+    };
+    let begun = Stage { going, told: 0 };
+    let FirstTicks { stage, rest } = first_ticks(&context, begun, rack, recorder)?;
+    Ok(Opened {
+        stage,
+        hidden: hidden.with_rest(plan, rest)?,
+        next,
+    })
 }
 
 /// Runs a plan by ticks, from the first to the last: its readings are sent and taken, its rounds are closed, answered and
@@ -250,8 +312,14 @@ pub fn run_plan<R: Threads + Wait + Sync, G: Gate, W: Recorder>(
     ensures same { (first : W) → W.same first recorder.old → W.same first recorder.new }
     ensures recorded { IfOk result (λ f. IsRecorded (W.keeps recorder.new) f.transcript) }
 {
+    let Opened {
+        stage,
+        hidden,
+        next,
+    } = run_first(
+        rt, alloc, plan, readings, keys, rack, workers, gate, recorder,
+    )?;
     let masks = ChaMasks::new(keys);
-    let Begun { going, hidden } = begin_and_hide(rt, alloc, plan, readings, &masks)?;
     let context = Context {
         crew: Crew {
             rt,
@@ -265,5 +333,5 @@ pub fn run_plan<R: Threads + Wait + Sync, G: Gate, W: Recorder>(
             hidden: &hidden,
         },
     };
-    run_whole(&context, going, rack, recorder)
+    finish(&context, stage, rack, recorder, next)
 }

@@ -6,7 +6,7 @@ ghost use Rattle.transcript_log.specs.Events.{lines_of};
 ghost use Rattle.transcript_log.specs.Transcripts.{last_tick_from};
 ghost use Rattle.tick_run.specs.Batches.{CanTake, TakenAndClosed};
 ghost use Rattle.tick_run.specs.OnTheWay.{frames_in, tags_of, IsSpelling};
-ghost use Rattle.tick_run.specs.Hidden.{IsOfOnePlan};
+ghost use Rattle.tick_run.specs.Hidden.{IsOfOnePlan, HasWordsAt};
 ghost use Rattle.tick_run.specs.Meters.{CanHearNow};
 ghost use Rattle.tick_run.specs.Sides.{MetersEnd};
 
@@ -75,6 +75,7 @@ pub(crate) fn both_sides<R: Threads + Wait + Sync, G: Gate>(
     requires lines { run.book.journal ≡ lines_of run.transcript.entries }
     requires copies { All (CanTake run.book) copies.now }
     requires known { IsOfOnePlan context.now.known }
+    requires words { HasWordsAt context.now.known tick }
     requires spelled { All IsSpelling copies.now }
     requires can { CanHearNow context.now.known.readings.now tick meters (frames_in copies.now) }
     ensures head_end { IfOk result.head_end (λ after. TakenAndClosed tick (tags_of (frames_in copies.now)) run.book after.book run.transcript after.transcript run.link after.link) }
@@ -89,6 +90,7 @@ pub(crate) fn both_sides<R: Threads + Wait + Sync, G: Gate>(
     }
     let hear = |meters: Meters| -> MetersSent
         requires known { IsOfOnePlan known.now }
+        requires words { HasWordsAt known.now tick }
         requires spelled { All IsSpelling copies.now }
         requires can { CanHearNow known.now.readings.now tick meters (frames_in copies.now) }
         ensures { MetersEnd known.entry.now.readings.now (words_of known.entry.now.masks.now) tick meters (frames_in copies.entry.now) result }

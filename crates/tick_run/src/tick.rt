@@ -13,7 +13,7 @@ ghost use Rattle.tick_run.specs.OnTheWay.{tags_of};
 ghost use Rattle.tick_run.specs.Running.{run_shape, IsRunning, starting, closed};
 ghost use Rattle.tick_run.specs.Sending.{KeepsFates, KeptFates};
 ghost use Rattle.tick_run.specs.TickFrames.{frames_due};
-ghost use Rattle.tick_run.specs.Hidden.{IsOfOnePlan};
+ghost use Rattle.tick_run.specs.Hidden.{IsOfOnePlan, HasWordsAt};
 ghost use Rattle.tick_run.specs.Recorded.{Extends};
 ghost use Rattle.tick_run.specs.Meters.{AreMeters, HasSet};
 ghost use Rattle.tick_run.specs.Sides.{AllSend, AnswerCopies};
@@ -93,6 +93,7 @@ pub(crate) fn run_tick<R: Threads + Wait + Sync, G: Gate>(
     requires running { IsRunning context.now.known.readings.now (words_of context.now.known.masks.now) (starting tick) going.run.book going.run.transcript going.run.link }
     requires meters { AreMeters going.run.book tick going.meters }
     requires known { IsOfOnePlan context.now.known }
+    requires words { HasWordsAt context.now.known tick }
     requires tick { tick < 2 ^ 31 }
     requires workers { (1 ≤ context.now.crew.workers) × (context.now.crew.workers ≤ 16) }
     requires room { HasRoom (λ b. meaning (b.vtable, b.value)) rack.old }

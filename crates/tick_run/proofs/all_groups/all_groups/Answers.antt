@@ -32,6 +32,7 @@ collect-requires-clause-ready g c κs within =
     let lt : i < m = omega arith in
     record {
       are = c.requires.known;
+      words = c.requires.words;
       group = omega arith;
       few = omega arith;
       row = row-within came m rows i sorted lt;
