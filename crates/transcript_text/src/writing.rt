@@ -25,14 +25,14 @@ fn put_fate(out: &mut Vec<u8>, fate: Fate) -> Result<(), AllocError>
         [first] => put_number(out, u64::from(first)),
         [first, second] => {
             put_number(out, u64::from(first))?;
-            out.extend_from_slice(b"+")?;
+            out.push(b'+')?;
             put_number(out, u64::from(second))
         }
         [first, second, third] => {
             put_number(out, u64::from(first))?;
-            out.extend_from_slice(b"+")?;
+            out.push(b'+')?;
             put_number(out, u64::from(second))?;
-            out.extend_from_slice(b"+")?;
+            out.push(b'+')?;
             put_number(out, u64::from(third))
         }
         _ => out.extend_from_slice(b"-"),
@@ -44,8 +44,18 @@ pub(crate) fn put_two(out: &mut Vec<u8>, first: u64, second: u64) -> Result<(), 
     ensures { OnOk result (out.new.items ≡ out.old.items ++ decimal first ++ codes "," ++ decimal second) }
 {
     put_number(out, first)?;
-    out.extend_from_slice(b",")?;
+    out.push(b',')?;
     put_number(out, second)
+}
+
+/// A letter between two commas.
+fn put_letter(out: &mut Vec<u8>, letter: u8) -> Result<(), AllocError>
+    ensures { OnOk result (out.new.items ≡ out.old.items ++ codes "," ++ letter ∷ codes ",") }
+{
+    out.push(b',')?;
+    out.push(letter)?;
+    out.push(b',')?;
+    Ok(())
 }
 
 /// The group, round, kind and meter, parted by commas.
@@ -54,9 +64,9 @@ fn put_tag(out: &mut Vec<u8>, tag: Tag) -> Result<(), AllocError>
 {
     put_two(out, u64::from(tag.group), u64::from(tag.round))?;
     match tag.kind {
-        Kind::Reading => out.extend_from_slice(b",r,")?,
-        Kind::Announcement => out.extend_from_slice(b",m,")?,
-        Kind::Answer => out.extend_from_slice(b",a,")?,
+        Kind::Reading => put_letter(out, b'r')?,
+        Kind::Announcement => put_letter(out, b'm')?,
+        Kind::Answer => put_letter(out, b'a')?,
     }
     put_number(out, u64::from(tag.meter))
 }
@@ -76,9 +86,9 @@ fn put_sent(out: &mut Vec<u8>, fate: Fate, sent: &Option<Frame>) -> Result<(), A
 {
     match sent {
         Some(frame) => {
-            out.extend_from_slice(b",")?;
+            out.push(b',')?;
             put_fate(out, fate)?;
-            out.extend_from_slice(b",")?;
+            out.push(b',')?;
             put_frame(out, frame)
         }
         None => out.extend_from_slice(b",-,void"),
@@ -141,12 +151,12 @@ fn put_entry(out: &mut Vec<u8>, entry: &Entry) -> Result<(), AllocError>
     put_number(out, u64::from(entry.tick))?;
     match &entry.line {
         Line::Send { tag, frame } => {
-            out.extend_from_slice(b",s,")?;
+            put_letter(out, b's')?;
             put_tag(out, *tag)?;
             put_sent(out, entry.fate, frame)
         }
         Line::Take { tag, verdict } => {
-            out.extend_from_slice(b",t,")?;
+            put_letter(out, b't')?;
             put_tag(out, *tag)?;
             put_verdict(out, *verdict)
         }
@@ -155,7 +165,7 @@ fn put_entry(out: &mut Vec<u8>, entry: &Entry) -> Result<(), AllocError>
             round,
             closing,
         } => {
-            out.extend_from_slice(b",c,")?;
+            put_letter(out, b'c')?;
             put_two(out, u64::from(*group), u64::from(*round))?;
             put_closing(out, *closing)
         }
@@ -164,7 +174,7 @@ fn put_entry(out: &mut Vec<u8>, entry: &Entry) -> Result<(), AllocError>
             round,
             ending,
         } => {
-            out.extend_from_slice(b",e,")?;
+            put_letter(out, b'e')?;
             put_two(out, u64::from(*group), u64::from(*round))?;
             put_ending(out, *ending)
         }
