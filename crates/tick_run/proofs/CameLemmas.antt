@@ -171,3 +171,17 @@ answers-window plan m came t g first until can ends starts =
     let early : r + plan.w1 < t = can.early g r i told in
     let late : t ≤ r + plan.w1 + 16 = can.late g r i told in
     ⊎_elim (λ above. omega arith) (λ below. omega arith) outside))
+
+-- no announcement of a round before all that came is among them
+pub none-older : (k g r i : ℕ) (came : List Frame) → All (λ f. k ≤ f.tag.round) came → r < k → was_taken (tags_of came) (tag_of Announcement g r i) ≡ true → ⊥
+none-older k g r i [] all older taken = false≢true taken
+none-older k g r i (f ∷ came) all older taken =
+    step (same_tag (tag_of Announcement g r i) f.tag) refl taken (none-older k g r i came (All-tail (λ f. k ≤ f.tag.round) f came all) older)
+  where
+    step : (b : Bool) → same_tag (tag_of Announcement g r i) f.tag ≡ b → (b || was_taken (tags_of came) (tag_of Announcement g r i)) ≡ true
+        → (was_taken (tags_of came) (tag_of Announcement g r i) ≡ true → ⊥) → ⊥
+    step true is here later =
+        let at : f.tag.round ≡ r = ap (λ (t : Tag). t.round) (same-tag (tag_of Announcement g r i) f.tag is) in
+        let le : k ≤ f.tag.round = All-head (λ f. k ≤ f.tag.round) f came all in
+        absurd (omega arith)
+    step false is here later = later here

@@ -10,6 +10,7 @@ pub mod SpellingLemmas
 pub mod LaneLemmas
 pub mod FrameSteps
 pub mod RowLemmas
+pub mod CopyLemmas
 pub mod DueLemmas
 pub mod CallLemmas
 pub mod StateLemmas

@@ -99,6 +99,19 @@ fn add_frames_if_sent(
     }
 }
 
+/// About how many frames all groups send, with as many announcements as readings.
+fn frames_about(sent: &[Result<GroupFrames, AllocError>]) -> usize {
+    let mut about = 0usize;
+    for sent in sent {
+        if let Ok(sent) = sent {
+            about = about
+                .saturating_add(sent.readings.len().saturating_mul(2))
+                .saturating_add(sent.answers.len());
+        }
+    }
+    about
+}
+
 /// The frames of all groups, one after another, with the announcements to them.
 pub(crate) fn with_announcements(
     alloc: Global,
@@ -109,7 +122,7 @@ pub(crate) fn with_announcements(
     requires groups { length sent.now ≡ length book.now.presence.plan.groups }
     ensures { (F H : _) → AllZip (HasFrames F H) (range_with_len 0 (length sent.now)) sent.now → IfOk result (λ frames. frames.items ≡ flat_map (merged book.now tick F H) (range_with_len 0 (length sent.now))) }
 {
-    let mut frames = Vec::new(alloc);
+    let mut frames = Vec::with_capacity(alloc, frames_about(sent))?;
     for group in 0..book.plan().groups().len() {
         add_frames_if_sent(book, &sent[group], tick, group as u16, &mut frames)?;
     }

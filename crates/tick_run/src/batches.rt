@@ -25,7 +25,7 @@ use std::thread::Threads;
 fn parcels_in(alloc: Global, copies: &[[u8; 52]]) -> Result<Vec<Parcel>, AllocError>
     ensures { IfOk result (λ batch. batch.items ≡ map Bytes copies.now) }
 {
-    let mut batch = Vec::new(alloc);
+    let mut batch = Vec::with_capacity(alloc, copies.len())?;
     for bytes in copies {
         batch.push(Parcel::Bytes(*bytes))?;
     }

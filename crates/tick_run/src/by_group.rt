@@ -8,13 +8,14 @@ use crate::meters::is_announcement;
 use meter_frames::Frame;
 use std::alloc::{AllocError, Global};
 
-/// An empty list for each of so many groups.
-fn empty_rows(alloc: Global, groups: usize) -> Result<Vec<Vec<Frame>>, AllocError>
+/// An empty list for each of so many groups, with room for so many frames.
+fn empty_rows(alloc: Global, groups: usize, frames: usize) -> Result<Vec<Vec<Frame>>, AllocError>
     ensures { IfOk result (λ rows. AreByGroup [] groups rows.items) }
 {
     let mut rows = Vec::with_capacity(alloc, groups)?;
     for _group in 0..groups {
-        rows.push(Vec::new(alloc))?;
+        let row = Vec::with_capacity(alloc, frames)?;
+        rows.push(row)?;
     }
     Ok(rows)
 }
@@ -38,7 +39,9 @@ pub(crate) fn by_group(
 ) -> Result<Vec<Vec<Frame>>, AllocError>
     ensures { IfOk result (λ rows. AreByGroup came.now groups rows.items) }
 {
-    let mut rows = empty_rows(alloc, groups)?;
+    // Groups are often alike, so each list has room for a few more than the mean.
+    let mean = came.len().checked_div(groups).unwrap_or(0);
+    let mut rows = empty_rows(alloc, groups, mean + mean / 2)?;
     for frame in came {
         add_to_group(&mut rows, frame)?;
     }

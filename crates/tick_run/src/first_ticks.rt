@@ -2,8 +2,8 @@
 
 ghost use Rattle.std.specs.Prelude.{◌≡◌, ℕ, ◌<◌, ◌≤◌, ◌^◌, IfOk};
 ghost use Rattle.link_lanes.specs.Racks.{slots, posts_of, HasRoom};
-ghost use Rattle.mask_stream.specs.ChaMaskTables.{plan_of, words_of};
-ghost use Rattle.tick_run.specs.Hidden.{AreHidden, AreRest, IsOfOnePlan, HasWordsAt};
+ghost use Rattle.mask_stream.specs.ChaMaskTables.{words_of};
+ghost use Rattle.tick_run.specs.Hidden.{AreRest, IsOfOnePlan, HasWordsAt};
 ghost use Rattle.tick_run.specs.Stages.{StandsAt, ComesTo, IsHeldAt, HeldComesTo, StaysSame};
 
 use crate::RunError;

@@ -1,6 +1,6 @@
 //! All frames that the meters of a group send at a tick: their readings, and their answers to what came.
 
-ghost use Rattle.std.specs.Prelude.{◌≡◌, ◌++◌, ◌<◌, List, [], ◌∷◌, true, filter, length, IfOk, OnOk, map};
+ghost use Rattle.std.specs.Prelude.{◌≡◌, ◌++◌, ◌<◌, ◌≤◌, List, [], ◌∷◌, true, filter, length, All, IfOk, OnOk, map};
 ghost use Rattle.mask_stream.specs.ChaMaskTables.{words_of};
 ghost use Rattle.group_plan.specs.declared.Kind.TheVariants.{Announcement};
 ghost use Rattle.run_rows.specs.Ticks.{tag_of};
@@ -116,10 +116,22 @@ fn add_reading_frames(
     add_readings(known, group, tick, &members, frames)
 }
 
-/// Adds the answers of a round to the announcements that came.
+/// No frame that came is of an earlier round.
+fn oldest_round(came: &[Frame]) -> u32
+    ensures { All (λ f. result ≤ f.tag.round) came.now }
+{
+    let mut oldest = u32::MAX;
+    for frame in came {
+        oldest = oldest.min(frame.tag.round);
+    }
+    oldest
+}
+
+/// Adds the answers of a round to the announcements that came, none of which is of a round before the oldest.
 fn add_answers_of(
     known: &Known,
     came: &[Frame],
+    oldest: u32,
     group: u16,
     round: u32,
     frames: &mut Vec<Frame>,
@@ -127,9 +139,13 @@ fn add_answers_of(
     requires known { IsOfOnePlan known.now }
     requires group { group < length known.now.readings.now.plan.groups }
     requires round { round < known.now.readings.now.plan.rounds }
+    requires oldest { All (λ f. oldest ≤ f.tag.round) came.now }
     requires can { (i : _) → was_taken (tags_of came.now) (tag_of Announcement group round i) ≡ true → CanAnswer known.now.readings.now.plan group round i (announced_set came.now (tag_of Announcement group round i)) }
     ensures { OnOk result (frames.new.items ≡ frames.old.items ++ answers_to known.now.readings.now.plan.groups (words_of known.now.masks.now) came.now group round) }
 {
+    if round < oldest {
+        return Ok(());
+    }
     let hearers = hearers_in(came, group, round);
     if hearers.meters.len() == 0 {
         return Ok(());
@@ -153,8 +169,9 @@ fn add_answer_frames(
     let closed = tick.saturating_sub(known.readings.plan().w1());
     let until = closed.min(known.readings.plan().rounds());
     let first = closed.saturating_sub(16).min(until);
+    let oldest = oldest_round(came);
     for round in first..until {
-        add_answers_of(known, came, group, round, frames)?;
+        add_answers_of(known, came, oldest, group, round, frames)?;
     }
     Ok(())
 }
@@ -173,9 +190,9 @@ pub(crate) fn group_frames(
     requires came { AreAnswerable known.now.readings.now.plan tick came.now }
     ensures { IfOk result (λ sent. AreGroupFrames known.now.readings.now (words_of known.now.masks.now) came.now tick group sent) }
 {
-    let mut first = Vec::new(alloc);
+    let mut first = Vec::with_capacity(alloc, known.readings.plan().meters(group) as usize)?;
     add_reading_frames(known, group, tick, &mut first)?;
-    let mut answers = Vec::new(alloc);
+    let mut answers = Vec::with_capacity(alloc, came.len())?;
     add_answer_frames(known, came, group, tick, &mut answers)?;
     Ok(GroupFrames {
         readings: first,

@@ -13,7 +13,7 @@ ghost use Rattle.tick_run.specs.Meters.{AreMeters, book_of, announcements, AreTo
 use crate::all_groups::all_groups;
 use crate::group::GroupFrames;
 use crate::known::Known;
-use crate::meters::{Meters, came_in};
+use crate::meters::Meters;
 use std::alloc::{AllocError, Global};
 use std::thread::Threads;
 
@@ -38,8 +38,7 @@ pub(crate) fn meters_send(
         (range_with_len 0 (length known.now.readings.now.plan.groups)) groups.items) }
 {
     meters.read(known.readings, tick);
-    let came = came_in(alloc, copies)?;
-    let answered = meters.answered(alloc, &came)?;
+    let answered = meters.answered(alloc, copies)?;
     all_groups(rt, alloc, known, &answered, tick)
 }
 

@@ -1,11 +1,11 @@
 //! The meters of a run: each reads its rounds, and answers at most one missing set in each.
 
-ghost use Rattle.std.specs.Prelude.{◌≡◌, ◌+◌, ◌<◌, ◌≤◌, ◌++◌, ◌∷◌, [], ℕ, true, All, IfOk, OnOk, IsTrue, is_some, length};
+ghost use Rattle.std.specs.Prelude.{◌≡◌, ◌+◌, ◌<◌, ◌≤◌, ℕ, true, All, Some, None, IfOk, OnOk, IsTrue, is_some, length, if◌then◌else◌};
 ghost use Rattle.group_plan.specs.Plans.{is_place, is_member};
 ghost use Rattle.group_plan.specs.Tables.{reading};
 ghost use Rattle.group_book.specs.Books.{BookView};
 ghost use Rattle.meter_frames.specs.declared.Frame.{Frame};
-ghost use Rattle.tick_run.specs.OnTheWay.{frame_in, frames_in, IsSpelling};
+ghost use Rattle.tick_run.specs.OnTheWay.{frame_in, tag_in, frames_in, IsSpelling};
 ghost use Rattle.tick_run.specs.Meters.{AreOfGroup, AreMeters, book_of, CanRead, CanReadGroup, is_answer, is_announcement, announcements, IsTold, AreTold, CanHear, CanHearAll, HasKept, HaveHeard};
 
 use group_plan::{Kind, Readings, Tag};
@@ -116,46 +116,48 @@ impl Meters {
         is_answer(meter.hear(frame.tag.round, &frame.missing))
     }
 
-    /// The announcements among the frames that came which their meters answer.
+    /// The announcement that came, where the copy is one: its meter hears of the set that it carries, and answers.
+    fn hear_copy(&mut self, bytes: &[u8]) -> Option<Frame>
+        requires spelled { IsSpelling bytes.now }
+        requires can { CanHear self.old (frame_in bytes.now) }
+        ensures meters { (b : BookView) (t : ℕ) → AreMeters b t self.old → (is_announcement (tag_in bytes.now) ≡ true → IsTold b t (frame_in bytes.now)) → AreMeters b t self.new }
+        ensures answered { result ≡ (if is_announcement (tag_in bytes.now) then Some (frame_in bytes.now) else None) }
+        ensures heard { is_announcement (tag_in bytes.now) ≡ true → HasKept self.new (frame_in bytes.now) }
+        ensures kept { (other : Frame) → HasKept self.old other → HasKept self.new other }
+    {
+        let frame = came(bytes);
+        if self.hear(&frame) { Some(frame) } else { None }
+    }
+
+    /// The announcements among the copies that came which their meters answer.
     pub(crate) fn answered(
         &mut self,
         alloc: Global,
-        came: &[Frame],
+        copies: &[[u8; 52]],
     ) -> Result<Vec<Frame>, AllocError>
-        requires { CanHearAll self.old came.now }
-        ensures meters { (b : BookView) (t : ℕ) → AreMeters b t self.old → AreTold b t came.now → OnOk result (AreMeters b t self.new) }
-        ensures answered { IfOk result (λ answered. answered.items ≡ announcements came.now) }
-        ensures heard { OnOk result (HaveHeard self.new came.now) }
+        requires spelled { All IsSpelling copies.now }
+        requires can { CanHearAll self.old (frames_in copies.now) }
+        ensures meters { (b : BookView) (t : ℕ) → AreMeters b t self.old → AreTold b t (frames_in copies.now) → OnOk result (AreMeters b t self.new) }
+        ensures answered { IfOk result (λ answered. answered.items ≡ announcements (frames_in copies.now)) }
+        ensures heard { OnOk result (HaveHeard self.new (frames_in copies.now)) }
     {
-        let mut answered = Vec::new(alloc);
-        for frame in came {
-            if self.hear(frame) {
-                answered.push(*frame)?;
+        let mut answered = Vec::with_capacity(alloc, copies.len())?;
+        for bytes in copies {
+            if let Some(frame) = self.hear_copy(bytes) {
+                answered.push(frame)?;
             }
         }
         Ok(answered)
     }
 }
 
-/// Adds the frame of bytes that came. What is no frame is passed over.
-fn add_came(bytes: &[u8], came: &mut Vec<Frame>) -> Result<(), AllocError>
+/// The frame of bytes that came.
+fn came(bytes: &[u8]) -> Frame
     requires { IsSpelling bytes.now }
-    ensures { OnOk result (came.new.items ≡ came.old.items ++ frame_in bytes.now ∷ []) }
+    ensures { result ≡ frame_in bytes.now }
 {
-    if let Ok(frame) = decode(bytes) {
-        came.push(frame)?;
+    match decode(bytes) {
+        Ok(frame) => frame,
+        Err(_) => unreachable!(),
     }
-    Ok(())
-}
-
-/// The frames of the copies that came, in order.
-pub(crate) fn came_in(alloc: Global, copies: &[[u8; 52]]) -> Result<Vec<Frame>, AllocError>
-    requires { All IsSpelling copies.now }
-    ensures { IfOk result (λ came. came.items ≡ frames_in copies.now) }
-{
-    let mut came = Vec::new(alloc);
-    for bytes in copies {
-        add_came(bytes, &mut came)?;
-    }
-    Ok(came)
 }

@@ -15,7 +15,7 @@ loop-group-preserved c =
       to = omega arith;
       are = record {
         each = subst (λ (l : List (Vec Frame Global)). AllZip none (range_with_len 0 (k + 1)) l) (sym {A = List (Vec Frame Global)} c.in_ok-push.ensures.items)
-            (range_push none 0 k c.loop-group.rows.items c.new.result c.loop-group.invariant.are.each c.new.ensures.items);
+            (range_push none 0 k c.loop-group.rows.items c.in_ok-row.row c.loop-group.invariant.are.each c.in_ok-row.ensures.items);
       };
     }
 

@@ -6,13 +6,22 @@ use Rattle.group_plan.specs.declared.Kind.TheVariants.{Announcement}
 use Rattle.mask_stream.specs.ChaMaskTables.{words_of}
 use Rattle.run_rows.specs.Ticks.{tag_of}
 use Rattle.tick_run.specs.TickFrames.{announced_set, CanAnswer}
-use Rattle.tick_run.proofs.CameLemmas.{answers-heard, answers-silent}
+use Rattle.tick_run.proofs.CameLemmas.{answers-heard, answers-silent, none-older}
 use Rattle.tick_run.proofs.group.add_answers_of.Goals as goal
 
 pub add_answers-requires-clause-can : goal.add_answers-requires-clause-can
 add_answers-requires-clause-can c = λ i is.
     subst (λ (p : PlanView). CanAnswer p c.args.group c.args.round i (announced_set c.args.came.now (tag_of Announcement c.args.group c.args.round i))) (sym c.requires.known.masks)
     (c.requires.can i (sym (c.hearers_in-hearers.ensures.meters i) ∙ is))
+
+pub returns-then-round-oldest : goal.returns-then-round-oldest
+returns-then-round-oldest c =
+    let g = c.args.group in
+    let r = c.args.round in
+    let came = c.args.came.now in
+    sym (append-nil c.args.frames.now.items)
+    ∙ ap (λ l. c.args.frames.now.items ++ l) (sym (answers-silent c.args.known.now.readings.now.plan.groups (words_of c.args.known.now.masks.now) came g r
+    (λ i told. none-older c.args.oldest g r i came c.requires.oldest c.if-round-oldest.true told)))
 
 nobody : (i : ℕ) (heard : List ℕ) → length heard ≡ 0 → is_member i heard ≡ true → ⊥
 nobody i [] none is = false≢true is

@@ -8,6 +8,6 @@ returns c =
     let readings = c.args.known.now.readings.now in
     let m = words_of c.args.known.now.masks.now in
     record {
-      readings_are = c.in_ok-add_reading_frames.ensures ∙ ap (λ l. l ++ readings_at readings m c.args.tick c.args.group) c.new-first.ensures.items;
-      answers_are = c.in_ok-add_answer_frames.ensures ∙ ap (λ l. l ++ answers_at readings.plan m c.args.came.now c.args.group) c.new-answers.ensures.items;
+      readings_are = c.in_ok-add_reading_frames.ensures ∙ ap (λ l. l ++ readings_at readings m c.args.tick c.args.group) c.in_ok-first.ensures.items;
+      answers_are = c.in_ok-add_answer_frames.ensures ∙ ap (λ l. l ++ answers_at readings.plan m c.args.came.now c.args.group) c.in_ok-answers.ensures.items;
     }

@@ -1,11 +1,12 @@
 use Rattle.std.proofs.Common.{◌≡◌, ℕ, take}
 use Rattle.group_book.specs.Books.{BookView}
+use Rattle.tick_run.specs.OnTheWay.{frames_in}
 use Rattle.tick_run.specs.Meters.{AreMeters, AreTold, announcements, HaveHeard}
 use Rattle.tick_run.proofs.meters.Meters.answered.Given as goal
 
-abbrev pub invariant-loop-frame : goal.invariant-loop-frame
-invariant-loop-frame l = record {
-  meters : (b : BookView) (t : ℕ) → AreMeters b t l.fn.self → AreTold b t l.came → AreMeters b t l.self;
-  heard : HaveHeard l.self (take l.frame-index l.came);
-  answered : l.answered.items ≡ announcements (take l.frame-index l.came);
+abbrev pub invariant-loop-bytes : goal.invariant-loop-bytes
+invariant-loop-bytes l = record {
+  meters : (b : BookView) (t : ℕ) → AreMeters b t l.fn.self → AreTold b t (frames_in l.copies) → AreMeters b t l.self;
+  heard : HaveHeard l.self (take l.bytes-index (frames_in l.copies));
+  answered : l.answered.items ≡ announcements (take l.bytes-index (frames_in l.copies));
 }
