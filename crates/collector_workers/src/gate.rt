@@ -23,15 +23,16 @@ pub trait Gate: Sync {
         4
     }
 
-    /// So many entries of a transcript are enough to be recorded by a thread beside the run; 0 counts as one. Eight where a gate
-    /// says nothing else, so that a test has several parts.
+    /// So many entries of a transcript are enough for a part that a recorder is told; 0 counts as one. Eight where a gate says
+    /// nothing else, so that a test has several parts.
     fn part(&self) -> usize {
         8
     }
 }
 
 /// A gate that lets each worker through. It has a thread for each 16,384 parcels, since fewer are committed sooner by one
-/// thread alone, a turn for each 1,024, and a thread beside for 1,024 frames or 16,384 entries.
+/// thread alone, a turn for each 1,024, a thread beside for 1,024 frames, and a part for 4,096 entries, whose text takes about a
+/// millisecond.
 pub struct Free;
 
 impl Gate for Free {
@@ -50,6 +51,6 @@ impl Gate for Free {
     }
 
     fn part(&self) -> usize {
-        16_384
+        4096
     }
 }

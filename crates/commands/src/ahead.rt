@@ -15,9 +15,11 @@ ghost use Rattle.commands.specs.Parts.{IsOfParts};
 
 use crate::parts::PartsIn;
 use crate::source::TranscriptPieces;
-use desk_outside::{BegunFile, Desk, DeskError};
+use crossbeam_channel::{Receiver, Sender, bounded};
+use desk_outside::{BegunFile, Desk, DeskError, FileFlusher};
 use std::alloc::Global;
 use std::sync::Wait;
+use std::thread;
 use std::thread::Threads;
 use transcript_log::Transcript;
 use transcript_text::TextPieces;
@@ -127,9 +129,10 @@ pub(crate) struct Appended<'n, 'r, R, B: BegunFile + Drop> {
     pub parts: PartsIn,
 }
 
-impl<'n, 'r, R: Threads + Wait + Sync, B: BegunFile + Drop> Ahead<'n, 'r, R, B> {
-    /// Appends the parts as they come, until no part comes any more or the file is given up.
-    pub(crate) fn append_all(self, parts: PartsIn) -> Appended<'n, 'r, R, B>
+impl<'n, 'r, R: Threads + Wait + Sync, B: BegunFile + Send + Drop> Ahead<'n, 'r, R, B> {
+    /// Appends the parts as they come, until no part comes any more or the file is given up. The other end of the bell is told where
+    /// there is much to have on the disk.
+    fn append_all(self, parts: PartsIn, bell: Option<Sender<()>>) -> Appended<'n, 'r, R, B>
         requires { IsOfParts (IsAhead B.contents self.entries self.file) (received parts.ring) }
         ensures name { result.ahead.name.now ≡ self.entry.name.now }
         ensures same { SameRing parts.ring.end result.parts.ring.end }
@@ -138,12 +141,16 @@ impl<'n, 'r, R: Threads + Wait + Sync, B: BegunFile + Drop> Ahead<'n, 'r, R, B> 
         let rt = self.rt;
         let mut ahead = self;
         let mut parts = parts;
+        let mut flushes = Flushes { bell, entries: 0 };
         'parts: for _ in rt.forever() {
             if !ahead.is_writing() {
                 break 'parts;
             }
             match parts.ring.pop() {
-                Ok(part) => ahead.append(&part),
+                Ok(part) => {
+                    ahead.append(&part);
+                    flushes.tell(rt, ahead.entries);
+                }
                 Err(_) => {
                     if parts.bell.recv(rt).is_err() {
                         break 'parts;
@@ -153,6 +160,86 @@ impl<'n, 'r, R: Threads + Wait + Sync, B: BegunFile + Drop> Ahead<'n, 'r, R, B> 
         }
         Appended { ahead, parts }
     }
+
+    /// Appends the parts as they come, until no part comes any more or the file is given up. A thread has them on the disk meanwhile.
+    pub(crate) fn append_and_flush(self, parts: PartsIn) -> Appended<'n, 'r, R, B>
+        requires { IsOfParts (IsAhead B.contents self.entries self.file) (received parts.ring) }
+        ensures name { result.ahead.name.now ≡ self.entry.name.now }
+        ensures same { SameRing parts.ring.end result.parts.ring.end }
+        ensures written { IsOfParts (IsAhead B.contents result.ahead.entries result.ahead.file) (received result.parts.ring) }
+    {
+        let (rt, alloc) = (self.rt, self.alloc);
+        let ahead = self;
+        let (Some(flusher), Ok((bell, wakes))) = (ahead.flusher(), bounded(alloc, 1)) else {
+            return ahead.append_all(parts, None);
+        };
+        let (flushed, appended) = thread::join(
+            rt,
+            move || flush_all(rt, flusher, wakes),
+            move || -> Appended<'_, '_, R, B>
+                requires { IsOfParts (IsAhead B.contents ahead.entries ahead.file) (received parts.ring) }
+                ensures name { result.ahead.name.now ≡ ahead.entry.name.now }
+                ensures same { SameRing parts.ring.end result.parts.ring.end }
+                ensures written { IsOfParts (IsAhead B.contents result.ahead.entries result.ahead.file) (received result.parts.ring) }
+            { ahead.append_all(parts, Some(bell)) },
+        );
+        let Appended { mut ahead, parts } = appended;
+        if flushed.is_err() {
+            ahead.entries = None;
+        }
+        Appended { ahead, parts }
+    }
+
+    /// What has the bytes of the file on the disk, where there is a file.
+    fn flusher(&self) -> Option<B::Flusher> {
+        match &self.file {
+            Some(file) => file.flusher(),
+            None => None,
+        }
+    }
+}
+
+/// So many entries are to go to the disk at a time.
+const ENTRIES_A_FLUSH: usize = 16_384;
+
+/// The bell of the thread that has entries on the disk, where there is one, and how many were appended when it was told.
+#[derive(Drop)]
+struct Flushes {
+    bell: Option<Sender<()>>,
+    entries: usize,
+}
+
+impl Flushes {
+    /// Tells the thread where there are enough entries more.
+    fn tell<R: Wait>(&mut self, rt: &R, appended: Option<usize>) {
+        let Some(entries) = appended else {
+            return;
+        };
+        if entries.saturating_sub(self.entries) < ENTRIES_A_FLUSH {
+            return;
+        }
+        self.entries = entries;
+        if let Some(bell) = &self.bell {
+            // Where the bell is full, it wakes the thread for these entries too.
+            let _ = bell.try_send(rt, ());
+        }
+    }
+}
+
+/// Has on the disk what is appended, each time that it is told, until nobody is there to tell.
+fn flush_all<R: Wait, F: FileFlusher + Drop>(
+    rt: &R,
+    flusher: F,
+    bell: Receiver<()>,
+) -> Result<(), DeskError> {
+    let mut flusher = flusher;
+    'flushes: for _ in rt.forever() {
+        if bell.recv(rt).is_err() {
+            break 'flushes;
+        }
+        flusher.flush()?;
+    }
+    Ok(())
 }
 
 /// The text of a part behind so many entries: the first one's has the head.

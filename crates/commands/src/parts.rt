@@ -13,7 +13,7 @@ use tick_run::Recorder;
 use transcript_log::Transcript;
 
 /// So many parts may wait for the thread that writes them.
-const PARTS_WAITING: usize = 1;
+const PARTS_WAITING: usize = 8;
 
 /// The end of a run, which is told parts and passes them on. Dropping the bell says that no part comes any more.
 #[derive(Drop)]

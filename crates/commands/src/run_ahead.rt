@@ -12,10 +12,9 @@ ghost use Rattle.commands.specs.RunTexts.{TextsEnd};
 
 use crate::ahead::{Ahead, Appended};
 use crate::parts::{PartsIn, PartsOut, parts_way};
-use crate::texts::{Refusal, RunTexts, run_texts};
+use crate::texts::{Refusal, RunInput, RunTexts, run_texts};
 use collector_workers::Gate;
 use desk_outside::BegunFile;
-use link_lanes::Lane;
 use rtrb::Producer;
 use std::alloc::Global;
 use std::sync::Wait;
@@ -23,15 +22,6 @@ use std::thread;
 use std::thread::Threads;
 use tick_run::Nobody;
 use transcript_log::Transcript;
-
-/// The bytes of the two files, and the lanes and workers of the run.
-#[derive(Drop)]
-pub struct RunInput {
-    pub plan: Vec<u8>,
-    pub readings: Vec<u8>,
-    pub cupboard: Vec<Box<dyn Lane>>,
-    pub workers: u32,
-}
 
 /// What a run came to, and the parts that were passed on.
 #[derive(Drop)]
@@ -56,16 +46,8 @@ fn run_and_tell<R: Threads + Wait + Sync, G: Gate>(
     ensures told { IfOk result.texts (λ kept. IsRecorded (AreParts (sent result.ring)) kept.transcript) }
     ensures texts { TextsEnd (map (λ b. meaning b) input.cupboard.items) input.plan.items input.readings.items result.texts }
 {
-    let RunInput {
-        plan,
-        readings,
-        cupboard,
-        workers,
-    } = input;
     let mut parts = parts;
-    let texts = run_texts(
-        rt, alloc, plan, readings, cupboard, workers, gate, &mut parts,
-    );
+    let texts = run_texts(rt, alloc, input, gate, &mut parts);
     let PartsOut {
         rt: _,
         ring,
@@ -97,22 +79,7 @@ fn run_alone<'n, 'r, R: Threads + Wait + Sync, G: Gate, B: BegunFile + Send + Dr
     ensures recorded { IfOk result.texts (λ kept. IsRecorded (IsAhead B.contents result.ahead.entries result.ahead.file) kept.transcript) }
     ensures texts { TextsEnd (map (λ b. meaning b) input.cupboard.items) input.plan.items input.readings.items result.texts }
 {
-    let RunInput {
-        plan,
-        readings,
-        cupboard,
-        workers,
-    } = input;
-    let texts = run_texts(
-        rt,
-        alloc,
-        plan,
-        readings,
-        cupboard,
-        workers,
-        gate,
-        &mut Nobody,
-    );
+    let texts = run_texts(rt, alloc, input, gate, &mut Nobody);
     RunAhead { ahead, texts }
 }
 
@@ -143,7 +110,7 @@ fn run_beside<'n, 'r, R: Threads + Wait + Sync, G: Gate, B: BegunFile + Send + D
             ensures name { result.ahead.name.now ≡ ahead.entry.name.now }
             ensures same { SameRing into.ring.end result.parts.ring.end }
             ensures written { IsOfParts (IsAhead B.contents result.ahead.entries result.ahead.file) (received result.parts.ring) }
-        { ahead.append_all(into) },
+        { ahead.append_and_flush(into) },
         move || -> Told
             requires plan { length input.plan.items ≤ 2 ^ 28 }
             requires readings { length input.readings.items ≤ 2 ^ 28 }

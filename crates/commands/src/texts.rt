@@ -17,6 +17,15 @@ use tick_run::{Finished, Recorder, RunError, run_plan};
 use totals_report::{report, summary};
 use transcript_log::Transcript;
 
+/// The bytes of the two files, and the lanes and workers of the run.
+#[derive(Drop)]
+pub struct RunInput {
+    pub plan: Vec<u8>,
+    pub readings: Vec<u8>,
+    pub cupboard: Vec<Box<dyn Lane>>,
+    pub workers: u32,
+}
+
 /// The texts of a run. That of the transcript is long, and made only as it is put.
 #[derive(Debug, Drop)]
 pub struct RunTexts {
@@ -57,35 +66,37 @@ fn finished_texts(alloc: Global, finished: Finished) -> Result<RunTexts, AllocEr
     })
 }
 
-/// The texts of a run of the values of the two files. Their bytes are let go once they are read. The recorder is told entries between
-/// the ticks of the run.
+/// The texts of a run of the values of the two files. Their bytes are let go once they are read, and the rack and the readings once
+/// the run is over. The recorder is told entries between the ticks of the run.
 pub fn run_texts<R: Threads + Wait + Sync, G: Gate, W: Recorder>(
     rt: &R,
     alloc: Global,
-    plan_bytes: Vec<u8>,
-    readings_bytes: Vec<u8>,
-    cupboard: Vec<Box<dyn Lane>>,
-    workers: u32,
+    input: RunInput,
     gate: &G,
     recorder: &mut W,
 ) -> Result<RunTexts, Refusal>
-    requires plan { length plan_bytes.items ≤ 2 ^ 28 }
-    requires readings { length readings_bytes.items ≤ 2 ^ 28 }
-    requires least { 1 ≤ workers }
-    requires most { workers ≤ 16 }
+    requires plan { length input.plan.items ≤ 2 ^ 28 }
+    requires readings { length input.readings.items ≤ 2 ^ 28 }
+    requires workers { (1 ≤ input.workers) × (input.workers ≤ 16) }
     requires keeps { (plan : PlanView) → W.keeps recorder.old (no_entries plan) }
     ensures same { (first : W) → W.same first recorder.old → W.same first recorder.new }
     ensures recorded { IfOk result (λ kept. IsRecorded (W.keeps recorder.new) kept.transcript) }
-    ensures texts { TextsEnd (map (λ b. meaning b) cupboard.items) plan_bytes.items readings_bytes.items result }
+    ensures texts { TextsEnd (map (λ b. meaning b) input.cupboard.items) input.plan.items input.readings.items result }
 {
-    let file = match read_plan(alloc, &plan_bytes) {
+    let RunInput {
+        plan,
+        readings: table,
+        cupboard,
+        workers,
+    } = input;
+    let file = match read_plan(alloc, &plan) {
         Ok(file) => file,
         Err(fault) => match fault.cause {
             FileCause::Memory => return Err(Refusal::Memory),
             _ => return Err(Refusal::Plan(fault)),
         },
     };
-    drop(plan_bytes);
+    drop(plan);
     let mut rack = match Rack::fit(alloc, cupboard, file.lanes.as_slice()) {
         Ok(rack) => rack,
         Err(fault) => match fault.cause {
@@ -93,20 +104,22 @@ pub fn run_texts<R: Threads + Wait + Sync, G: Gate, W: Recorder>(
             _ => return Err(Refusal::Lane(fault)),
         },
     };
-    let readings = match read_readings(alloc, &file.plan, &readings_bytes) {
+    let readings = match read_readings(alloc, &file.plan, &table) {
         Ok(readings) => readings,
         Err(fault) => match fault.cause {
             FileCause::Memory => return Err(Refusal::Memory),
             _ => return Err(Refusal::Readings(fault)),
         },
     };
-    drop(readings_bytes);
+    drop(table);
     let finished = match run_plan(
         rt, alloc, &file.plan, &readings, &file.keys, &mut rack, workers, gate, recorder,
     ) {
         Ok(finished) => finished,
         Err(RunError::Memory) => return Err(Refusal::Memory),
     };
+    drop(rack);
+    drop(readings);
     match finished_texts(alloc, finished) {
         Ok(texts) => Ok(texts),
         Err(AllocError) => Err(Refusal::Memory),

@@ -5,8 +5,16 @@ ghost use Rattle.desk_outside.specs.Begun.{grown};
 
 use crate::{DeskError, Pieces};
 
+/// Has the bytes of a begun file on the disk, from another thread than that which appends them.
+pub trait FileFlusher {
+    /// Has on the disk what was appended so far.
+    fn flush(&mut self) -> Result<(), DeskError>;
+}
+
 /// A new file that a desk has begun for a name. No name holds it until the desk puts it.
 pub trait BegunFile {
+    type Flusher: FileFlusher + Send + Drop;
+
     /// The name for which it was begun.
     ghost name: { Self → List ℕ };
 
@@ -18,4 +26,8 @@ pub trait BegunFile {
         requires { P.ready pieces.old }
         ensures name { name self.new ≡ name self.old }
         ensures contents { OnOk result (contents self.new ≡ grown (contents self.old) (P.rest pieces.old)) };
+
+    /// What has its bytes on the disk while more are appended. None where that can't be had. Where a flush fails, the file is not
+    /// to be put: the desk may not come to know of it.
+    fn flusher(&self) -> Option<Self::Flusher>;
 }

@@ -4,10 +4,10 @@ ghost use Rattle.std.specs.Prelude.{◌≡◌, ◌≤◌, ◌<◌, ◌^◌, stri
 ghost use Rattle.desk_outside.specs.Begun.{BegunPutEnds};
 ghost use Rattle.desk_outside.specs.Desk.{FetchEnds, PutEnds, SayEnds, ComplainEnds, Rose, one_more, untold};
 
-use crate::flow::{Flusher, append_groups, append_pieces};
+use crate::flow::write_groups;
 use crate::pieces::{Slice, write_pieces};
 use crate::whole::{FileId, NewFile, replace, without_link};
-use crate::{BegunFile, Desk, DeskError, FetchError, Pieces};
+use crate::{BegunFile, Desk, DeskError, FetchError, FileFlusher, Pieces};
 use std::alloc::Global;
 use std::fs::{File, OpenFile, OpenOptions, Permissions};
 use std::io::{ErrorKind, Read, Write};
@@ -160,13 +160,11 @@ impl<'r, R: Files<File = File> + Print + Eprint + AllocGlobal + Threads> FileDes
     {
         let name = String::from_str(self.alloc, name)?;
         let file = NewFile::begin(self.rt, self.alloc, path, permissions)?;
-        let flusher = Flusher::new(file.handle.try_clone().ok());
         Ok(BegunOnDisk {
             rt: self.rt,
             alloc: self.alloc,
             name,
             file,
-            flusher,
         })
     }
 }
@@ -182,15 +180,13 @@ enum Way {
     Output,
 }
 
-/// A file that a desk over files has begun. It lies beside the path that it will take. What it has goes to the disk while more
-/// is appended.
+/// A file that a desk over files has begun. It lies beside the path that it will take.
 #[derive(Drop)]
 pub struct BegunOnDisk<'r, R> {
     rt: &'r R,
     alloc: Global,
     name: String,
     file: NewFile<File>,
-    flusher: Flusher<File>,
 }
 
 impl<'r, R: Files<File = File> + Threads> BegunOnDisk<'r, R> {
@@ -199,21 +195,34 @@ impl<'r, R: Files<File = File> + Threads> BegunOnDisk<'r, R> {
         requires { P.ready pieces.old }
         ensures { self.new.name ≡ self.old.name }
     {
-        let (handle, flusher) = (&mut self.file.handle, &mut self.flusher);
-        append_pieces(self.alloc, handle, flusher, pieces)
+        write_pieces(self.alloc, &mut self.file.handle, pieces)
     }
 
-    // Writes the bytes that are still to come, which are the last ones, and makes pieces beside that.
+    // Writes the bytes that are still to come, which are the last ones, and makes pieces beside that where there are many.
     fn write_last<P: Pieces>(&mut self, pieces: &mut P) -> io::Result<()>
         requires { P.ready pieces.old }
         ensures { self.new.name ≡ self.old.name }
     {
-        let (handle, flusher) = (&mut self.file.handle, &mut self.flusher);
-        append_groups(self.rt, self.alloc, handle, flusher, pieces)
+        write_groups(self.rt, self.alloc, &mut self.file.handle, pieces)
+    }
+}
+
+/// Has the bytes of a file that a desk over files has begun on the disk.
+#[derive(Drop)]
+pub struct DiskFlusher {
+    // A second handle of the file.
+    handle: File,
+}
+
+impl FileFlusher for DiskFlusher {
+    fn flush(&mut self) -> Result<(), DeskError> {
+        self.handle.sync_data().map_err(put_error)
     }
 }
 
 impl<'r, R: Files<File = File> + Threads> BegunFile for BegunOnDisk<'r, R> {
+    type Flusher = DiskFlusher;
+
     ghost use Rattle.desk_outside.specs.Files.{begun_name};
 
     ghost name = { begun_name };
@@ -222,6 +231,13 @@ impl<'r, R: Files<File = File> + Threads> BegunFile for BegunOnDisk<'r, R> {
 
     fn append<P: Pieces>(&mut self, pieces: &mut P) -> Result<(), DeskError> {
         self.write_on(pieces).map_err(put_error)
+    }
+
+    fn flusher(&self) -> Option<DiskFlusher> {
+        match self.file.handle.try_clone() {
+            Ok(handle) => Some(DiskFlusher { handle }),
+            Err(_) => None,
+        }
     }
 }
 

@@ -5,7 +5,6 @@ ghost use Rattle.std.specs.Io.KnownBytes.{Appends};
 ghost use Rattle.desk_outside.specs.Groups.{bytes_of};
 
 use crate::Pieces;
-use crate::pieces::write_pieces;
 use std::alloc::{AllocError, Global};
 use std::fs::OpenFile;
 use std::io;
@@ -65,7 +64,7 @@ fn write_group<W: Write>(out: &mut W, group: &[Vec<u8>]) -> io::Result<()>
 
 // What has the bytes of a file on the disk while more of them are made.
 #[derive(Drop)]
-pub(crate) struct Flusher<F> {
+struct Flusher<F> {
     // A second handle of the file, where there is one.
     handle: Option<F>,
     // Whether something was written after the last flush.
@@ -74,7 +73,7 @@ pub(crate) struct Flusher<F> {
 
 impl<F: OpenFile> Flusher<F> {
     // That of a file in which nothing was written yet. Without a second handle nothing goes to the disk ahead.
-    pub(crate) fn new(handle: Option<F>) -> Flusher<F> {
+    fn new(handle: Option<F>) -> Flusher<F> {
         Flusher {
             handle,
             is_behind: false,
@@ -176,8 +175,8 @@ fn write_from<R: Threads, F: Write + OpenFile + Send + Drop, P: Pieces>(
     write_group(file, &group.pieces)
 }
 
-// Writes all the pieces that are still to come into a new file. Where they are more than one group, those that are written go to
-// the disk by a second handle of the file; where there is none, they go there at the end.
+// Writes all the pieces that are still to come at the end of a file. Where they are more than one group, those that are written go
+// to the disk by a second handle of the file; where there is none, they go there at the end.
 pub(crate) fn write_groups<R: Threads, F: Write + OpenFile + Send + Drop, P: Pieces>(
     rt: &R,
     alloc: Global,
@@ -194,35 +193,4 @@ pub(crate) fn write_groups<R: Threads, F: Write + OpenFile + Send + Drop, P: Pie
         file.try_clone().ok()
     };
     write_from(rt, alloc, file, &mut Flusher::new(handle), group, pieces)
-}
-
-// Writes all the pieces that are still to come at the end of a file. What was written before goes to the disk while the first of
-// them are made.
-pub(crate) fn append_groups<R: Threads, F: Write + OpenFile + Send + Drop, P: Pieces>(
-    rt: &R,
-    alloc: Global,
-    file: &mut F,
-    flusher: &mut Flusher<F>,
-    pieces: &mut P,
-) -> io::Result<()>
-    requires { P.ready pieces.old }
-    ensures { OnOk result (Appends (F.contents file.old) (F.contents file.new) (P.rest pieces.old)) }
-{
-    let group = flush_and_make(rt, alloc, flusher, pieces)?;
-    write_from(rt, alloc, file, flusher, group, pieces)
-}
-
-// Writes all the pieces that are still to come at the end of a file, one after another, once what was written before is on the disk.
-pub(crate) fn append_pieces<F: Write + OpenFile, P: Pieces>(
-    alloc: Global,
-    file: &mut F,
-    flusher: &mut Flusher<F>,
-    pieces: &mut P,
-) -> io::Result<()>
-    requires { P.ready pieces.old }
-    ensures { OnOk result (Appends (F.contents file.old) (F.contents file.new) (P.rest pieces.old)) }
-{
-    flusher.flush()?;
-    flusher.is_behind = true;
-    write_pieces(alloc, file, pieces)
 }

@@ -8,7 +8,9 @@ ghost use Rattle.desk_outside.specs.Begun.{BegunPutEnds};
 ghost use Rattle.desk_outside.specs.Desk.{FetchEnds, PutEnds, SayEnds, ComplainEnds, Rose, Unstored, Said, Complained, call_of, one_more};
 
 use crate::pieces::{Slice, collected, write_pieces};
-use crate::{BegunFile, CallName, Desk, DeskCall, DeskError, DeskKind, FetchError, Pieces};
+use crate::{
+    BegunFile, CallName, Desk, DeskCall, DeskError, DeskKind, FetchError, FileFlusher, Pieces,
+};
 use std::alloc::{AllocError, Global};
 use std::collections::BTreeMap;
 
@@ -172,7 +174,19 @@ pub struct BegunInMemory {
     bytes: Vec<u8>,
 }
 
+/// Has nothing to do: what lies in memory goes to no disk.
+#[derive(Drop)]
+pub struct NoFlusher;
+
+impl FileFlusher for NoFlusher {
+    fn flush(&mut self) -> Result<(), DeskError> {
+        Ok(())
+    }
+}
+
 impl BegunFile for BegunInMemory {
+    type Flusher = NoFlusher;
+
     ghost use Rattle.desk_outside.specs.Memory.{begun_name, begun_bytes};
 
     ghost name = { begun_name };
@@ -184,6 +198,10 @@ impl BegunFile for BegunInMemory {
             Ok(()) => Ok(()),
             Err(_) => Err(DeskError::Memory),
         }
+    }
+
+    fn flusher(&self) -> Option<NoFlusher> {
+        None
     }
 }
 

@@ -2,7 +2,8 @@
 
 use crate::fixtures::{check, check_bytes, check_same};
 use desk_outside::{
-    BegunFile, Desk, DeskCall, DeskError, DeskKind, FetchError, FileDesk, MemoryDesk, Pieces,
+    BegunFile, Desk, DeskCall, DeskError, DeskKind, FetchError, FileDesk, FileFlusher, MemoryDesk,
+    Pieces,
 };
 use std::alloc::{AllocError, Global};
 use std::fs::Permissions;
@@ -356,6 +357,19 @@ fn file_desk_keeps_a_file_where_pieces_fail_after_a_group(rt: HostRuntime) -> Re
     Ok(())
 }
 
+// Appends a part to a file, and has it on the disk where the file gives what does that.
+fn append_and_flush<B: BegunFile>(
+    file: &mut B,
+    flusher: &mut Option<B::Flusher>,
+    part: &[u8],
+) -> Result<(), DeskError> {
+    file.append(&mut whole(part))?;
+    match flusher {
+        Some(flusher) => flusher.flush(),
+        None => Ok(()),
+    }
+}
+
 // Begins a file, appends each part to it, and puts it with the last pieces. None where it isn't begun.
 fn put_in_parts<D: Desk>(
     desk: &mut D,
@@ -364,8 +378,9 @@ fn put_in_parts<D: Desk>(
     last: &mut Made<'_>,
 ) -> Option<Result<(), DeskError>> {
     let mut file = desk.begin(name)?;
+    let mut flusher = file.flusher();
     for part in parts {
-        if let Err(error) = file.append(&mut whole(part)) {
+        if let Err(error) = append_and_flush(&mut file, &mut flusher, part) {
             desk.discard(file);
             return Some(Err(error));
         }

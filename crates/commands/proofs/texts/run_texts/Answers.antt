@@ -6,7 +6,7 @@ use Rattle.commands.proofs.texts.run_texts.Goals as goal
 
 pub returns-in_default-cause-clause-texts : goal.returns-in_default-cause-clause-texts
 returns-in_default-cause-clause-texts g c =
-    let is : plan_of c.args.plan_bytes.items ≡ Ok (view_of c.in-Ok.file) = ap plan_of (sym c.deref.ensures.value) ∙ c.in-Ok.ensures.file in
+    let is : plan_of c.args.input.plan.items ≡ Ok (view_of c.in-Ok.file) = ap plan_of (sym c.deref.ensures.value) ∙ c.in-Ok.ensures.file in
     search rules
 
 pub returns-in_default-cause-2-clause-texts : goal.returns-in_default-cause-2-clause-texts
