@@ -41,7 +41,8 @@ COMMANDS = [
     ("load 1 4 8 2 1 >transcript", 0),
 ]
 
-# A command whose transcript of 6 MB is written in two groups: only calls on files are refused, since it asks for memory too often.
+# A command whose transcript of 6 MB is written ahead in many parts: only calls on files are refused, since it asks for memory too
+# often.
 LARGE_COMMAND = ("load 1 8 20 96 1 >transcript", 0)
 LARGE_KINDS = ("open", "write", "fsync", "fdatasync", "handle", "rename")
 
