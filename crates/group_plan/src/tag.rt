@@ -12,10 +12,12 @@ pub enum Kind {
 }
 
 /// Whose frame it is, of which round, and its kind. Group, round and meter are counted from 0.
+///
+/// In this order the fields take 8 bytes: each frame, post and line on its way has a tag, so its size counts.
 #[derive(Clone, Copy, Debug, PartialEq, Eq)]
 pub struct Tag {
-    pub group: u16,
     pub round: u32,
+    pub group: u16,
     pub meter: u8,
     pub kind: Kind,
 }

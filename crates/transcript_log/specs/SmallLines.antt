@@ -11,15 +11,10 @@ use Rattle.transcript_log.specs.declared.Line.TheVariants.{Send, Take, Close, En
 use Rattle.transcript_log.specs.Transcripts.{IsLine}
 use Rattle.transcript_log.specs.Extras.{extra_at}
 use Rattle.transcript_log.specs.declared.extras.Extra.{Extra}
-use Rattle.transcript_log.specs.declared.small.SmallTag.{SmallTag}
 use Rattle.transcript_log.specs.declared.small.SmallLine.{SmallLine}
 use Rattle.transcript_log.specs.declared.small.SmallLine.TheVariants as small
 
 -- ---- what a small line stands for
-
--- the tag that a small one stands for
-abbrev pub tag_in : SmallTag → Tag
-tag_in t = record { group = t.group; round = t.round; meter = t.meter; kind = t.kind }
 
 -- a Send of a frame under its tag, with the set and the word of an extra
 abbrev pub sent : Tag → Extra → Line
@@ -30,8 +25,8 @@ abbrev pub line_in : List Extra → SmallLine → Line
 line_in extras (small.SentReading m g r at) = sent (record { group = g; round = r; meter = m; kind = Reading }) (extra_at extras at)
 line_in extras (small.SentAnnouncement m g r at) = sent (record { group = g; round = r; meter = m; kind = Announcement }) (extra_at extras at)
 line_in extras (small.SentAnswer m g r at) = sent (record { group = g; round = r; meter = m; kind = Answer }) (extra_at extras at)
-line_in extras (small.NotSent tag) = Send (tag_in tag) None
-line_in extras (small.Took verdict tag) = Take (tag_in tag) verdict
+line_in extras (small.NotSent tag) = Send tag None
+line_in extras (small.Took verdict tag) = Take tag verdict
 line_in extras (small.Announced g r at) = Close g r (closing.Announced (extra_at extras at).set)
 line_in extras (small.ClosedThin g r at) = Close g r (closing.Thin (extra_at extras at).set)
 line_in extras (small.ClosedAlready g r) = Close g r closing.Already

@@ -7,7 +7,7 @@ ghost use Rattle.transcript_log.specs.declared.extras.Extra.{Extra};
 ghost use Rattle.transcript_log.specs.Extras.{extra_at};
 ghost use Rattle.transcript_log.specs.Kinds.{is_sending, is_taking};
 ghost use Rattle.transcript_log.specs.Lines.{HasOwnTag};
-ghost use Rattle.transcript_log.specs.SmallLines.{tag_in, sent, line_in, named_in, IsPlaced, extra_of_closing, extra_of_ending, extra_of, StandsAt, IsKept};
+ghost use Rattle.transcript_log.specs.SmallLines.{sent, line_in, named_in, IsPlaced, extra_of_closing, extra_of_ending, extra_of, StandsAt, IsKept};
 
 use crate::Line;
 use crate::extras::{Extra, Extras};
@@ -17,15 +17,6 @@ use missing_round::MeterSet;
 use mod_word::Word;
 use round_machine::{Closing, Ending, Verdict};
 use std::mem::size_of;
-
-/// A tag in 8 bytes.
-#[derive(Clone, Copy, Debug, PartialEq, Eq)]
-pub(crate) struct SmallTag {
-    meter: u8,
-    kind: Kind,
-    group: u16,
-    round: u32,
-}
 
 /// A line. Where it has a set of meters or a word, `at` is their place in a list of extras. A line that was sent has the
 /// frame's kind in its variant: a field more would not fit.
@@ -50,11 +41,11 @@ pub(crate) enum SmallLine {
         at: u32,
     },
     NotSent {
-        tag: SmallTag,
+        tag: Tag,
     },
     Took {
         verdict: Verdict,
-        tag: SmallTag,
+        tag: Tag,
     },
     Announced {
         group: u16,
@@ -96,28 +87,6 @@ pub(crate) enum SmallLine {
 
 // A run keeps every line, so its size counts.
 const _: () = prove!(size_of::<SmallLine>() <= 12);
-
-fn small_tag(tag: Tag) -> SmallTag
-    ensures { tag_in result ≡ tag }
-{
-    SmallTag {
-        meter: tag.meter,
-        kind: tag.kind,
-        group: tag.group,
-        round: tag.round,
-    }
-}
-
-fn tag_in(tag: SmallTag) -> Tag
-    ensures { result ≡ tag_in tag }
-{
-    Tag {
-        group: tag.group,
-        round: tag.round,
-        meter: tag.meter,
-        kind: tag.kind,
-    }
-}
 
 fn tag_of(meter: u8, kind: Kind, group: u16, round: u32) -> Tag
     ensures { result ≡ record { group = group; round = round; meter = meter; kind = kind } }
@@ -170,14 +139,8 @@ pub(crate) fn line_in(extras: &Extras, line: &SmallLine) -> Line
             round,
             at,
         } => sent_in(extras, tag_of(meter, Kind::Answer, group, round), at),
-        SmallLine::NotSent { tag } => Line::Send {
-            tag: tag_in(tag),
-            frame: None,
-        },
-        SmallLine::Took { verdict, tag } => Line::Take {
-            tag: tag_in(tag),
-            verdict,
-        },
+        SmallLine::NotSent { tag } => Line::Send { tag, frame: None },
+        SmallLine::Took { verdict, tag } => Line::Take { tag, verdict },
         SmallLine::Announced { group, round, at } => Line::Close {
             group,
             round,
@@ -329,9 +292,7 @@ fn small_send(tag: Tag, frame: Option<Frame>, at: u32) -> SmallLine
     ensures { (extras : List Extra) → StandsAt extras at (extra_of (Send tag frame)) → IsKept extras (Send tag frame) result }
 {
     match frame {
-        None => SmallLine::NotSent {
-            tag: small_tag(tag),
-        },
+        None => SmallLine::NotSent { tag },
         Some(_) => small_sent(tag, at),
     }
 }
@@ -365,10 +326,7 @@ pub(crate) fn small_line(line: &Line, at: u32) -> SmallLine
 {
     match *line {
         Line::Send { tag, frame } => small_send(tag, frame, at),
-        Line::Take { tag, verdict } => SmallLine::Took {
-            verdict,
-            tag: small_tag(tag),
-        },
+        Line::Take { tag, verdict } => SmallLine::Took { verdict, tag },
         Line::Close {
             group,
             round,
