@@ -1,10 +1,12 @@
 //! The head end's two batches of a tick: its Takes, and its Closes and Ends.
 
-ghost use Rattle.std.specs.Prelude.{◌≡◌, ◌++◌, ◌-◌, ◌≤◌, ◌<◌, List, length, map, All, Some, None, IfOk, OnOk, if◌then◌else◌};
+ghost use Rattle.std.specs.Prelude.{◌≡◌, ◌++◌, ◌-◌, ◌≤◌, ◌<◌, [], List, length, drop, map, All, Some, None, IfOk, OnOk, if◌then◌else◌};
 ghost use Rattle.transcript_log.specs.declared.Event.{Event};
 ghost use Rattle.transcript_log.specs.declared.Event.TheVariants.{Take};
 ghost use Rattle.transcript_log.specs.Events.{lines_of};
-ghost use Rattle.transcript_log.specs.Transcripts.{last_tick_from};
+ghost use Rattle.transcript_log.specs.Drafts.{Begins, quiet};
+ghost use Rattle.transcript_log.specs.Transcripts.{FitsLine, last_tick_from};
+ghost use Rattle.collector_workers.specs.Batch.{Collects};
 ghost use Rattle.tick_run.specs.Batches.{CanTake, Batched, TakenAndClosed};
 ghost use Rattle.tick_run.specs.OnTheWay.{frames_in, tags_of};
 ghost use Rattle.tick_run.specs.Running.{Ask, is_due, calls_due, parcels_of, parcels_due};
@@ -15,11 +17,14 @@ use crate::RunError;
 use crate::context::Crew;
 use crate::running::Running;
 use collector_workers::{Collected, Gate, collect};
+use group_book::Book;
 use group_plan::Plan;
+use lossy_link::Link;
 use shared_book::Parcel;
 use std::alloc::{AllocError, Global};
 use std::sync::Wait;
 use std::thread::Threads;
+use transcript_log::Draft;
 
 /// The copies as parcels, in order.
 fn parcels_in(alloc: Global, copies: &[[u8; 52]]) -> Result<Vec<Parcel>, AllocError>
@@ -30,6 +35,48 @@ fn parcels_in(alloc: Global, copies: &[[u8; 52]]) -> Result<Vec<Parcel>, AllocEr
         batch.push(Parcel::Bytes(*bytes))?;
     }
     Ok(batch)
+}
+
+/// Commits a batch by workers.
+fn committed<R: Threads + Wait + Sync, G: Gate>(
+    crew: &Crew<R, G>,
+    book: Book,
+    batch: Vec<Parcel>,
+) -> Result<Collected, RunError>
+    requires { (1 ≤ crew.now.workers) × (crew.now.workers ≤ 16) }
+    ensures { IfOk result (λ done. Collects book batch.items done.replies.items done.book) }
+{
+    if batch.len() > u32::MAX as usize {
+        return Err(RunError::Memory);
+    }
+    match collect(crew.rt, crew.alloc, book, batch, crew.workers, crew.gate) {
+        Ok(collected) => Ok(collected),
+        Err(_) => Err(RunError::Memory),
+    }
+}
+
+/// The run with what a batch has made of its book: the lines that the book gained are added to the transcript at the tick.
+fn with_lines(
+    collected: Collected,
+    transcript: Draft,
+    link: Link,
+    tick: u32,
+) -> Result<Running, RunError>
+    requires tick { last_tick_from 0 transcript.entries ≤ tick }
+    requires before { Begins collected.book.journal (lines_of transcript.entries) }
+    requires fits { All (FitsLine transcript.plan []) (drop (length transcript.entries) collected.book.journal) }
+    ensures book { IfOk result (λ after. after.book ≡ collected.book) }
+    ensures transcript { IfOk result (λ after. after.transcript ≡ record transcript { entries = transcript.entries ++ map (quiet tick) (drop (length transcript.entries) collected.book.journal) }) }
+    ensures link { IfOk result (λ after. after.link ≡ link) }
+{
+    let Collected { book, replies: _ } = collected;
+    let mut transcript = transcript;
+    transcript.push_all(tick, book.journal())?;
+    Ok(Running {
+        book,
+        transcript,
+        link,
+    })
 }
 
 /// Commits a batch by workers, and adds the lines that the book gained to the transcript at the tick.
@@ -45,26 +92,14 @@ fn commit_batch<R: Threads + Wait + Sync, G: Gate>(
     requires lines { run.book.journal ≡ lines_of run.transcript.entries }
     ensures { (events : List Event) → Ask run.book events batch.items → IfOk result (λ after. Batched tick events run.book after.book run.transcript after.transcript run.link after.link) }
 {
-    if batch.len() > u32::MAX as usize {
-        return Err(RunError::Memory);
-    }
     let Running {
         book,
-        mut transcript,
+        transcript,
         link,
     } = run;
-    match collect(crew.rt, crew.alloc, book, batch, crew.workers, crew.gate) {
-        Err(_) => Err(RunError::Memory),
-        Ok(collected) => {
-            let Collected { book, replies: _ } = collected;
-            transcript.push_all(tick, book.journal())?;
-            Ok(Running {
-                book,
-                transcript,
-                link,
-            })
-        }
-    }
+    let collected = committed(crew, book, batch)?;
+    let after = with_lines(collected, transcript, link, tick)?;
+    Ok(after)
 }
 
 /// Takes the copies that came in at the tick, by workers, in any order.

@@ -66,6 +66,11 @@ fn lines_about(plan: &Plan) -> usize {
     a_round.saturating_mul(plan.rounds() as usize)
 }
 
+/// About how many Sends a run has: half of its lines.
+fn sends_about(plan: &Plan) -> u64 {
+    lines_about(plan) as u64 / 2
+}
+
 /// A book with no line, and with room for so many.
 fn new_book(
     alloc: Global,
@@ -260,6 +265,7 @@ fn run_first<R: Threads + Wait + Sync, G: Gate, W: Recorder>(
     ensures room { HasRoom (λ b. meaning (b.vtable, b.value)) rack.new }
     ensures same { (first : W) → W.same first recorder.old → W.same first recorder.new }
 {
+    rack.reserve(sends_about(plan))?;
     let masks = ChaMasks::new(keys);
     let Begun { going, hidden } = begin_and_hide(rt, alloc, plan, readings, &masks)?;
     let next = hidden.rounds();

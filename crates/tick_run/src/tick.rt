@@ -1,6 +1,6 @@
 //! One tick of a run.
 
-ghost use Rattle.std.specs.Prelude.{◌≡◌, ◌+◌, ◌<◌, ◌≤◌, ◌^◌, List, All, length, IfOk, OnOk};
+ghost use Rattle.std.specs.Prelude.{◌≡◌, ◌+◌, ◌<◌, ◌≤◌, ◌^◌, List, All, Ok, length, IfOk, OnOk};
 ghost use Rattle.std.specs.List.{flat_map, range_with_len};
 ghost use Rattle.group_plan.specs.Tables.{reading, presence_of};
 ghost use Rattle.group_book.specs.Books.{past};
@@ -82,6 +82,29 @@ fn send_tick<R: Threads, G: Gate>(
     send_all(&context.crew, tick, &frames, run, rack)
 }
 
+/// What the two sides of a tick have made, where both found memory.
+#[derive(Drop)]
+struct Made {
+    going: Going,
+    sent: Vec<Result<GroupFrames, AllocError>>,
+}
+
+/// The run, the meters and what they send, where both sides found memory.
+fn both_made(sides: Sides) -> Result<Made, RunError>
+    ensures run { IfOk result (λ made. sides.head_end ≡ Ok made.going.run) }
+    ensures meters { IfOk result (λ made. made.going.meters ≡ sides.meters.meters) }
+    ensures sent { IfOk result (λ made. sides.meters.sent ≡ Ok made.sent) }
+{
+    let Sides { head_end, meters } = sides;
+    let MetersSent { meters, sent } = meters;
+    let run = head_end?;
+    let sent = sent?;
+    Ok(Made {
+        going: Going { run, meters },
+        sent,
+    })
+}
+
 /// Makes one tick: lanes are let go whose span ended, the copies that came in are taken and heard, rounds are closed and ended,
 /// and all that is due is sent.
 pub(crate) fn run_tick<R: Threads + Wait + Sync, G: Gate>(
@@ -108,10 +131,9 @@ pub(crate) fn run_tick<R: Threads + Wait + Sync, G: Gate>(
     let Going { run, meters } = going;
     let mut run = run;
     let copies = run.link.due(tick)?;
-    let Sides { head_end, meters } = both_sides(context, run, meters, &copies, tick);
-    let mut run = head_end?;
-    let MetersSent { meters, sent } = meters;
-    let sent = sent?;
-    send_tick(context, &mut run, rack, &sent, tick)?;
-    Ok(Going { run, meters })
+    let sides = both_sides(context, run, meters, &copies, tick);
+    let Made { going, sent } = both_made(sides)?;
+    let mut going = going;
+    send_tick(context, &mut going.run, rack, &sent, tick)?;
+    Ok(going)
 }

@@ -1,4 +1,4 @@
-use Rattle.std.proofs.Common.{ℕ, refl, subst, sym, arith}
+use Rattle.std.proofs.Common.{ℕ, subst, sym, ◌∙◌, arith}
 use Rattle.link_lanes.specs.Racks.{slots}
 use Rattle.mask_stream.specs.ChaMaskTables.{words_of}
 use Rattle.mask_stream.specs.KeyStreams.{streams}
@@ -34,5 +34,5 @@ returns-clause-hidden g c =
 pub returns-clause-fates : goal.returns-clause-fates
 returns-clause-fates g c =
     let hung = slots (λ b. (goal.Lane-dyn g (b.vtable, b.value)).meaning b.value) c.args.rack.now in
-    let start = kept-fresh hung _ _ c.args.plan.now c.in_ok-going.field-0.going.run.transcript c.requires.posts refl c.in_ok-going.ensures.transcript in
+    let start = kept-fresh hung _ _ c.args.plan.now c.in_ok-going.field-0.going.run.transcript (c.reserve.ensures.posts ∙ c.requires.posts) c.reserve.ensures.lanes c.in_ok-going.ensures.transcript in
     kept-at hung c.in_ok-going.field-0.hidden.rounds c.rounds-next.result c.in_ok-stage.field-0.stage.going.run.transcript.entries _ _ (sym c.rounds-next.ensures) (c.in_ok-stage.ensures.comes.fates hung start)

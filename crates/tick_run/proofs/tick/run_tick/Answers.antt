@@ -1,8 +1,10 @@
-use Rattle.std.proofs.Common.{sym, subst, ◌∙◌, arith}
+use Rattle.std.proofs.Common.{◌+◌, sym, subst, ◌∙◌, arith}
 use Rattle.mask_stream.specs.ChaMaskTables.{words_of}
 use Rattle.tick_run.specs.Batches.{TakenAndClosed}
 use Rattle.tick_run.specs.OnTheWay.{frames_in, tags_of}
 use Rattle.tick_run.specs.Running.{emptied}
+use Rattle.tick_run.specs.Meters.{AreMeters}
+use Rattle.tick_run.specs.declared.meters.Meters.{Meters}
 use Rattle.tick_run.specs.Sides.{AllSend}
 use Rattle.tick_run.proofs.StateLemmas.{emptied-of}
 use Rattle.tick_run.proofs.TakeLemmas.{all-taken, all-spelled}
@@ -12,8 +14,8 @@ use Rattle.tick_run.proofs.SidesLemmas.{can-hear, ok_of, sides-closed, sides-met
 use Rattle.tick_run.proofs.RecordedLemmas.{extends-on, sides-extend}
 use Rattle.tick_run.proofs.tick.run_tick.Goals as goal
 
-pub both_sides-head_end-requires-clause-later : goal.both_sides-head_end-requires-clause-later
-both_sides-head_end-requires-clause-later g c κs within =
+pub both_sides-sides-requires-clause-later : goal.both_sides-sides-requires-clause-later
+both_sides-sides-requires-clause-later g c κs within =
     let readings = c.args.context.now.known.readings.now in
     let m = words_of c.args.context.now.known.masks.now in
     let t = c.args.tick in
@@ -22,8 +24,8 @@ both_sides-head_end-requires-clause-later g c κs within =
     let out = emptied-of readings m t run.book run.transcript run.link c.due.new.self c.deref.result.now c.requires.running found.1 (c.deref.ensures.value ∙ found.0) in
     last-running readings m (emptied t) t run.book run.transcript c.due.new.self out.0 (omega arith)
 
-pub both_sides-head_end-requires-clause-copies : goal.both_sides-head_end-requires-clause-copies
-both_sides-head_end-requires-clause-copies g c κs within =
+pub both_sides-sides-requires-clause-copies : goal.both_sides-sides-requires-clause-copies
+both_sides-sides-requires-clause-copies g c κs within =
     let readings = c.args.context.now.known.readings.now in
     let m = words_of c.args.context.now.known.masks.now in
     let t = c.args.tick in
@@ -32,8 +34,8 @@ both_sides-head_end-requires-clause-copies g c κs within =
     let out = emptied-of readings m t run.book run.transcript run.link c.due.new.self c.deref.result.now c.requires.running found.1 (c.deref.ensures.value ∙ found.0) in
     all-taken readings m (emptied t) t run.book run.transcript c.due.new.self c.deref.result.now out.0 out.1
 
-pub both_sides-head_end-requires-clause-spelled : goal.both_sides-head_end-requires-clause-spelled
-both_sides-head_end-requires-clause-spelled g c κs within =
+pub both_sides-sides-requires-clause-spelled : goal.both_sides-sides-requires-clause-spelled
+both_sides-sides-requires-clause-spelled g c κs within =
     let readings = c.args.context.now.known.readings.now in
     let m = words_of c.args.context.now.known.masks.now in
     let t = c.args.tick in
@@ -42,8 +44,8 @@ both_sides-head_end-requires-clause-spelled g c κs within =
     let out = emptied-of readings m t run.book run.transcript run.link c.due.new.self c.deref.result.now c.requires.running found.1 (c.deref.ensures.value ∙ found.0) in
     all-spelled run.transcript.entries c.deref.result.now out.1.spelled
 
-pub both_sides-head_end-requires-clause-can : goal.both_sides-head_end-requires-clause-can
-both_sides-head_end-requires-clause-can g c κs within =
+pub both_sides-sides-requires-clause-can : goal.both_sides-sides-requires-clause-can
+both_sides-sides-requires-clause-can g c κs within =
     let readings = c.args.context.now.known.readings.now in
     let m = words_of c.args.context.now.known.masks.now in
     let t = c.args.tick in
@@ -61,8 +63,8 @@ send_tick-requires-clause-running g c κs within =
     let found = c.in_ok-copies.ensures in
     let out = emptied-of readings m t run.book run.transcript run.link c.due.new.self c.deref.result.now c.requires.running found.1 (c.deref.ensures.value ∙ found.0) in
     let copies = c.deref.result.now in
-    let now = c.in_ok-run.run' in
-    let both = ok_of (λ after. TakenAndClosed t (tags_of (frames_in copies)) run.book after.book run.transcript after.transcript c.due.new.self after.link) c.both_sides-head_end.result.head_end now c.in_ok-run.was c.both_sides-head_end.ensures.head_end in
+    let now = c.in_ok-going.field-0.going.run in
+    let both = ok_of (λ after. TakenAndClosed t (tags_of (frames_in copies)) run.book after.book run.transcript after.transcript c.due.new.self after.link) c.both_sides-sides.result.head_end now c.in_ok-going.ensures.run c.both_sides-sides.ensures.head_end in
     let closed = sides-closed readings m t run.book now.book run.transcript now.transcript c.due.new.self now.link copies out.0 out.1 both in
     closed.0
 
@@ -75,14 +77,14 @@ send_tick-requires-clause-sent g c κs within =
     let found = c.in_ok-copies.ensures in
     let out = emptied-of readings m t run.book run.transcript run.link c.due.new.self c.deref.result.now c.requires.running found.1 (c.deref.ensures.value ∙ found.0) in
     let copies = c.deref.result.now in
-    let now = c.in_ok-run.run' in
-    let both = ok_of (λ after. TakenAndClosed t (tags_of (frames_in copies)) run.book after.book run.transcript after.transcript c.due.new.self after.link) c.both_sides-head_end.result.head_end now c.in_ok-run.was c.both_sides-head_end.ensures.head_end in
+    let now = c.in_ok-going.field-0.going.run in
+    let both = ok_of (λ after. TakenAndClosed t (tags_of (frames_in copies)) run.book after.book run.transcript after.transcript c.due.new.self after.link) c.both_sides-sides.result.head_end now c.in_ok-going.ensures.run c.both_sides-sides.ensures.head_end in
     let closed = sides-closed readings m t run.book now.book run.transcript now.transcript c.due.new.self now.link copies out.0 out.1 both in
     record {
       copies = copies;
       come = closed.1;
       send = subst (AllSend readings m (frames_in copies) t) (sym c.deref-2.ensures.value)
-          (ok_of (λ groups. AllSend readings m (frames_in copies) t groups.items) c.both_sides-head_end.result.meters.sent c.in_ok-sent.sent c.in_ok-sent.was c.both_sides-head_end.ensures.meters.sent);
+          (ok_of (λ groups. AllSend readings m (frames_in copies) t groups.items) c.both_sides-sides.result.meters.sent c.in_ok-going.field-0.sent c.in_ok-going.ensures.sent c.both_sides-sides.ensures.meters.sent);
     }
 
 pub returns-clause-meters : goal.returns-clause-meters
@@ -94,20 +96,21 @@ returns-clause-meters g c =
     let found = c.in_ok-copies.ensures in
     let out = emptied-of readings m t run.book run.transcript run.link c.due.new.self c.deref.result.now c.requires.running found.1 (c.deref.ensures.value ∙ found.0) in
     let copies = c.deref.result.now in
-    let now = c.in_ok-run.run' in
-    let both = ok_of (λ after. TakenAndClosed t (tags_of (frames_in copies)) run.book after.book run.transcript after.transcript c.due.new.self after.link) c.both_sides-head_end.result.head_end now c.in_ok-run.was c.both_sides-head_end.ensures.head_end in
+    let now = c.in_ok-going.field-0.going.run in
+    let both = ok_of (λ after. TakenAndClosed t (tags_of (frames_in copies)) run.book after.book run.transcript after.transcript c.due.new.self after.link) c.both_sides-sides.result.head_end now c.in_ok-going.ensures.run c.both_sides-sides.ensures.head_end in
     let closed = sides-closed readings m t run.book now.book run.transcript now.transcript c.due.new.self now.link copies out.0 out.1 both in
     let before = sides-meters t t (tags_of (frames_in copies)) run.book now.book run.transcript now.transcript c.due.new.self now.link c.args.going.meters both c.requires.meters in
-    c.in_ok-send_tick.ensures.meters c.both_sides-head_end.result.meters.meters
-    (meters-go_on readings m t now.book now.transcript now.link copies c.args.going.meters c.both_sides-head_end.result.meters c.in_ok-sent.sent closed.0 closed.1 before c.both_sides-head_end.ensures.meters c.in_ok-sent.was)
+    subst (λ (meters : Meters). AreMeters c.send_tick.new.run.book (t + 1) meters) (sym c.in_ok-going.ensures.meters)
+    (c.in_ok-send_tick.ensures.meters c.both_sides-sides.result.meters.meters
+    (meters-go_on readings m t now.book now.transcript now.link copies c.args.going.meters c.both_sides-sides.result.meters c.in_ok-going.field-0.sent closed.0 closed.1 before c.both_sides-sides.ensures.meters c.in_ok-going.ensures.sent))
 
 pub returns-clause-fates : goal.returns-clause-fates
 returns-clause-fates g c = λ hung kept.
     let t = c.args.tick in
     let run = c.args.going.run in
     let copies = c.deref.result.now in
-    let now = c.in_ok-run.run' in
-    let both = ok_of (λ after. TakenAndClosed t (tags_of (frames_in copies)) run.book after.book run.transcript after.transcript c.due.new.self after.link) c.both_sides-head_end.result.head_end now c.in_ok-run.was c.both_sides-head_end.ensures.head_end in
+    let now = c.in_ok-going.field-0.going.run in
+    let both = ok_of (λ after. TakenAndClosed t (tags_of (frames_in copies)) run.book after.book run.transcript after.transcript c.due.new.self after.link) c.both_sides-sides.result.head_end now c.in_ok-going.ensures.run c.both_sides-sides.ensures.head_end in
     let retired = keeps-retired hung t run.transcript.entries _ _ _ _ kept c.retire.ensures.lanes c.retire.ensures.posts in
     let after = sides-fates hung t (tags_of (frames_in copies)) run.book now.book run.transcript now.transcript c.due.new.self now.link _ _ both retired in
     kept-next hung t c.send_tick.new.run.transcript.entries _ _ (c.in_ok-send_tick.ensures.fates hung after)
@@ -117,7 +120,7 @@ returns-clause-grows g c =
     let t = c.args.tick in
     let run = c.args.going.run in
     let copies = c.deref.result.now in
-    let now = c.in_ok-run.run' in
-    let both = ok_of (λ after. TakenAndClosed t (tags_of (frames_in copies)) run.book after.book run.transcript after.transcript c.due.new.self after.link) c.both_sides-head_end.result.head_end now c.in_ok-run.was c.both_sides-head_end.ensures.head_end in
+    let now = c.in_ok-going.field-0.going.run in
+    let both = ok_of (λ after. TakenAndClosed t (tags_of (frames_in copies)) run.book after.book run.transcript after.transcript c.due.new.self after.link) c.both_sides-sides.result.head_end now c.in_ok-going.ensures.run c.both_sides-sides.ensures.head_end in
     extends-on run.transcript now.transcript c.send_tick.new.run.transcript
     (sides-extend t (tags_of (frames_in copies)) run.book now.book run.transcript now.transcript c.due.new.self now.link both) c.in_ok-send_tick.ensures.grows
