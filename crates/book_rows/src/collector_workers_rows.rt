@@ -2,15 +2,15 @@
 //! reading; the words are those of the readings 10, 20 and 30 under keys of zeros.
 
 ghost use Rattle.std.specs.Prelude.{◌≡◌, ◌≤◌, IfOk, [], length};
-ghost use Rattle.shared_book.specs.Passes.{new_pass};
+ghost use Rattle.shared_book.specs.Passes.{new_pass, SamePass};
 ghost use Rattle.shared_book.specs.Ends.{view, opening, IsPassOf};
 
 use crate::fixtures::{
-    book_of_north, check, check_all, check_same, parcel, reading_frame, send_reading,
+    begin, book_of_north, check, check_all, check_same, parcel, reading_frame, send_reading,
 };
 use collector_workers::{Collected, Free, Gate, Mark, collect, gather};
 use group_book::{Book, TakeError};
-use meter_frames::{FrameError, encode};
+use meter_frames::FrameError;
 use missing_round::MeterSet;
 use round_machine::{Closing, Verdict};
 use shared_book::{CommitError, Parcel, Pass, Reply, SharedBook, Shut};
@@ -28,36 +28,41 @@ const WORDS: [u64; 3] = [
     0x6fc2_0e5f_521f_47a8,
 ];
 
+const FRESH: Mark = Mark::Made(Reply::Took(Verdict::Fresh));
+
 fn new_book(alloc: Global) -> Result<Book, Fail> {
     book_of_north(alloc, &[10, 20, 30], 0)
 }
 
-// The book after its three reading Sends.
-fn sent_book(alloc: Global) -> Result<Book, Fail> {
+// The book after its three reading Sends, with room for four lines.
+fn sent_book(alloc: Global) -> Result<Book, Fail>
+    ensures { IfOk result (λ book. 4 ≤ book.spare) }
+{
     let mut book = new_book(alloc)?;
-    send_reading(&mut book, 0, WORDS[0])?;
-    send_reading(&mut book, 1, WORDS[1])?;
-    send_reading(&mut book, 2, WORDS[2])?;
+    for meter in 0..3u8 {
+        send_reading(&mut book, meter, WORDS[usize::from(meter)])?;
+    }
+    book.reserve(4)?;
     Ok(book)
 }
 
-// The marks of a batch that so many workers collect into a book, and the number of lines that the book then has.
+// What so many workers make of a copy of the book by a batch.
 fn collected(
     rt: &(impl Threads + Wait + Sync),
     alloc: Global,
-    book: Book,
-    batch: Vec<Parcel>,
+    book: &Book,
+    batch: &[Parcel],
     workers: u32,
     gate: &impl Gate,
-) -> Result<(Vec<Mark>, usize), Fail> {
+) -> Result<Collected, Fail> {
     if batch.len() > 10_000 || workers < 1 || workers > 16 {
         return Err(Fail::new("too many"));
     }
-    let Ok(collected) = collect(rt, alloc, book, batch, workers, gate) else {
-        return Err(Fail::new("no memory"));
-    };
-    let Collected { book, replies } = collected;
-    Ok((replies, book.journal().len()))
+    let parcels = Vec::from_slice(alloc, batch)?;
+    match collect(rt, alloc, book.try_copy()?, parcels, workers, gate) {
+        Ok(collected) => Ok(collected),
+        Err(_) => Err(Fail::new("no memory")),
+    }
 }
 
 // A shared book of the three readings, with room for these parcels, and its first pass.
@@ -66,13 +71,8 @@ fn begun(alloc: Global, batch: &[Parcel]) -> Result<(SharedBook, Pass), Fail>
     ensures pass { IfOk result (λ r. IsPassOf r.0 r.1 × (view r.1 ≡ new_pass 0 [])) }
     ensures parcels { IfOk result (λ r. (opening r.0).parcels ≡ batch.now) }
 {
-    let mut book = sent_book(alloc)?;
-    book.reserve(batch.len() as u64)?;
     let parcels = Vec::from_slice(alloc, batch)?;
-    match SharedBook::begin(alloc, book, parcels) {
-        Ok(begun) => Ok(begun),
-        Err(_) => Err(Fail::new("no memory")),
-    }
+    begin(alloc, sent_book(alloc)?, parcels)
 }
 
 // What a batch comes to, where so many workers commit it.
@@ -98,89 +98,91 @@ impl Gate for Each {
     fn at(&self, _worker: u32) {}
 }
 
-// Collects a batch into a book, and looks for the marks, and for the number of lines that the book then has.
-fn check_collected(
-    rt: &(impl Threads + Wait + Abort + Sync),
-    alloc: Global,
-    row: &str,
-    book: Book,
-    batch: Vec<Parcel>,
-    workers: u32,
-    marks: &[Mark],
-    lines: usize,
-) -> Result<(), Fail> {
-    let (replies, count) = collected(rt, alloc, book, batch, workers, &Each)?;
-    check_all(rt, &replies, marks, row);
-    check_same(rt, &count, &lines, row);
-    Ok(())
+// Looks for the marks of a batch that was collected, and for the number of lines that the book then has.
+fn check_marks(rt: &impl Abort, row: &str, collected: &Collected, marks: &[Mark], lines: usize) {
+    check_all(rt, &collected.replies, marks, row);
+    check_same(rt, &collected.book.journal().len(), &lines, row);
 }
 
-// The same with 16 workers and with the caller alone.
+// Collects a batch into a copy of a book with 16 workers and with the caller alone, and looks for the marks, and for the number
+// of lines that the copy then has.
 fn check_batch(
     rt: &(impl Threads + Wait + Abort + Sync),
     alloc: Global,
     row: &str,
-    book: Book,
-    batch: Vec<Parcel>,
+    book: &Book,
+    batch: &[Parcel],
     marks: &[Mark],
     lines: usize,
 ) -> Result<(), Fail> {
-    let (other, same) = (book.try_copy()?, batch.clone()?);
-    check_collected(rt, alloc, row, other, same, 16, marks, lines)?;
-    check_collected(rt, alloc, row, book, batch, 1, marks, lines)
+    for workers in [16, 1] {
+        let collected = collected(rt, alloc, book, batch, workers, &Each)?;
+        check_marks(rt, row, &collected, marks, lines);
+    }
+    Ok(())
+}
+
+// The same of a book with no line, to which the batch adds none.
+fn check_no_lines(
+    rt: &(impl Threads + Wait + Abort + Sync),
+    alloc: Global,
+    row: &str,
+    batch: &[Parcel],
+    marks: &[Mark],
+) -> Result<(), Fail> {
+    check_batch(rt, alloc, row, &new_book(alloc)?, batch, marks, 0)
+}
+
+// The parcels of the three readings, and one of meter 1 with another word.
+fn forged_batch() -> [Parcel; 4] {
+    [
+        parcel(0, WORDS[0]),
+        parcel(1, WORDS[1]),
+        parcel(1, WORDS[1] + 1),
+        parcel(2, WORDS[2]),
+    ]
+}
+
+// The mark of that parcel.
+fn forged_mark() -> Mark {
+    Mark::Refused(TakeError::Forged {
+        posted: reading_frame(1, WORDS[1]),
+        came: reading_frame(1, WORDS[1] + 1),
+    })
+}
+
+fn check_forged(rt: &(impl Threads + Wait + Abort + Sync), alloc: Global) -> Result<(), Fail> {
+    let marks = [FRESH, FRESH, forged_mark(), FRESH];
+    let book = sent_book(alloc)?;
+    check_batch(
+        rt,
+        alloc,
+        "forged_parcel_refused",
+        &book,
+        &forged_batch(),
+        &marks,
+        6,
+    )
 }
 
 #[test]
 fn batches_by_rows(rt: HostRuntime) -> Result<(), Fail> {
     let alloc = rt.alloc();
-    let fresh = Mark::Made(Reply::Took(Verdict::Fresh));
-    let posted = reading_frame(1, WORDS[1]);
-    let came = reading_frame(1, WORDS[1] + 1);
-    check_batch(
-        &rt,
-        alloc,
-        "forged_parcel_refused",
-        sent_book(alloc)?,
-        vec![in alloc;
-            parcel(0, WORDS[0]),
-            Parcel::Bytes(encode(&posted)),
-            Parcel::Bytes(encode(&came)),
-            parcel(2, WORDS[2]),
-        ]?,
-        &[
-            fresh,
-            fresh,
-            Mark::Refused(TakeError::Forged { posted, came }),
-            fresh,
-        ],
-        6,
-    )?;
-    check_batch(
-        &rt,
-        alloc,
-        "empty_batch",
-        new_book(alloc)?,
-        Vec::new(alloc),
-        &[],
-        0,
-    )?;
-    check_batch(
+    check_forged(&rt, alloc)?;
+    check_no_lines(&rt, alloc, "empty_batch", &[], &[])?;
+    check_no_lines(
         &rt,
         alloc,
         "close_outside_plan",
-        new_book(alloc)?,
-        vec![in alloc; Parcel::Close { group: 1, round: 0 }]?,
+        &[Parcel::Close { group: 1, round: 0 }],
         &[Mark::OutOfPlan],
-        0,
     )?;
-    check_batch(
+    check_no_lines(
         &rt,
         alloc,
         "zero_bytes_no_frame",
-        new_book(alloc)?,
-        vec![in alloc; Parcel::Bytes([0; 52])]?,
+        &[Parcel::Bytes([0; 52])],
         &[Mark::Bad(FrameError::Magic)],
-        0,
     )
 }
 
@@ -190,22 +192,35 @@ fn times(marks: &[Mark], closing: Closing) -> usize {
     marks.iter().filter(|mark| **mark == closed).count()
 }
 
+// Looks for so many marks, of which one is of a Close that is thin, and for so many lines.
+fn check_closings(rt: &impl Abort, collected: &Collected, count: usize) {
+    let marks = collected.replies.as_slice();
+    check_same(rt, &marks.len(), &count, "the marks");
+    let thin = times(marks, Closing::Thin(MeterSet::full(3)));
+    check_same(rt, &thin, &1, "thin");
+    let already = times(marks, Closing::Already);
+    check_same(rt, &already, &count.saturating_sub(1), "already");
+    check_same(rt, &collected.book.journal().len(), &count, "the lines");
+}
+
+// Collects so many Closes of one round through a gate.
+fn check_closes<G: Gate>(
+    rt: &(impl Threads + Wait + Abort + Sync),
+    alloc: Global,
+    count: usize,
+    workers: u32,
+    gate: &G,
+) -> Result<(), Fail> {
+    let batch = vec![in alloc; Parcel::Close { group: 0, round: 0 }; count]?;
+    let book = new_book(alloc)?;
+    let collected = collected(rt, alloc, &book, &batch, workers, gate)?;
+    check_closings(rt, &collected, count);
+    Ok(())
+}
+
 #[test]
 fn two_closes_in_one_batch(rt: HostRuntime) -> Result<(), Fail> {
-    let alloc = rt.alloc();
-    let close = Parcel::Close { group: 0, round: 0 };
-    let batch = vec![in alloc; close, close]?;
-    let (marks, lines) = collected(&rt, alloc, new_book(alloc)?, batch, 2, &Each)?;
-    check_same(&rt, &marks.len(), &2, "the marks");
-    check_same(
-        &rt,
-        &times(&marks, Closing::Thin(MeterSet::full(3))),
-        &1,
-        "thin",
-    );
-    check_same(&rt, &times(&marks, Closing::Already), &1, "already");
-    check_same(&rt, &lines, &2, "the lines");
-    Ok(())
+    check_closes(&rt, rt.alloc(), 2, 2, &Each)
 }
 
 // Has a thread for each 256 parcels, and a turn for each 64.
@@ -223,37 +238,16 @@ impl Gate for Hundreds {
     }
 }
 
-// Collects 1,200 Closes of one round through a gate.
-fn check_closes<G: Gate>(
-    rt: &(impl Threads + Wait + Abort + Sync),
-    alloc: Global,
-    gate: &G,
-) -> Result<(), Fail> {
-    let batch = vec![in alloc; Parcel::Close { group: 0, round: 0 }; 1200]?;
-    let (marks, lines) = collected(rt, alloc, new_book(alloc)?, batch, 4, gate)?;
-    check_same(rt, &marks.len(), &1200, "the marks");
-    check_same(
-        rt,
-        &times(&marks, Closing::Thin(MeterSet::full(3))),
-        &1,
-        "thin",
-    );
-    check_same(rt, &times(&marks, Closing::Already), &1199, "already");
-    check_same(rt, &lines, &1200, "the lines");
-    Ok(())
-}
-
 // 1,200 parcels are enough for four workers of one gate, and with that of the program the caller commits them alone.
 #[test]
 fn many_closes_in_one_batch(rt: HostRuntime) -> Result<(), Fail> {
-    check_closes(&rt, rt.alloc(), &Hundreds)?;
-    check_closes(&rt, rt.alloc(), &Free)
+    check_closes(&rt, rt.alloc(), 1200, 4, &Hundreds)?;
+    check_closes(&rt, rt.alloc(), 1200, 4, &Free)
 }
 
 // Whether there are so many marks, all of frames that were taken fresh.
 fn are_fresh(marks: &[Mark], count: usize) -> bool {
-    let fresh = Mark::Made(Reply::Took(Verdict::Fresh));
-    marks.len() == count && marks.iter().all(|mark| *mark == fresh)
+    marks.len() == count && marks.iter().all(|mark| *mark == FRESH)
 }
 
 // Whether the place was committed before, by a fresh Take.
@@ -268,22 +262,60 @@ fn check_shut(rt: &impl Abort, shut: &Shut) {
     check(rt, are_all, "the replies");
 }
 
-#[test]
-fn gathered_then_done(rt: HostRuntime) -> Result<(), Fail> {
-    let alloc = rt.alloc();
-    let batch = [
+// The parcels of the three readings.
+fn three_parcels() -> [Parcel; 3] {
+    [
         parcel(0, WORDS[0]),
         parcel(1, WORDS[1]),
         parcel(2, WORDS[2]),
-    ];
-    let (shared, mut first) = begun(alloc, &batch)?;
-    let marks = gather(&rt, alloc, &shared, &mut first, &batch, 2, &Free)?;
-    check(&rt, are_fresh(&marks, 3), "the marks");
-    check_same(&rt, &first.out(), &0, "the passes that are out");
-    let again = shared.commit(&rt, &mut first, 0, &batch[0]);
-    check(&rt, is_done_fresh(&again), "again");
+    ]
+}
+
+// Commits a batch of three readings by two workers.
+fn check_gathered(
+    rt: &(impl Threads + Wait + Abort + Sync),
+    alloc: Global,
+    shared: &SharedBook,
+    first: &mut Pass,
+    batch: &[Parcel],
+) -> Result<(), Fail>
+    requires pass { IsPassOf shared.now first.old × (view first.old ≡ new_pass 0 []) }
+    requires batch { batch.now ≡ (opening shared.now).parcels }
+    ensures { IsPassOf shared.now first.new × ((view first.new).number ≡ 0) × ((view first.new).out ≡ 0) }
+{
+    let marks = gather(rt, alloc, shared, first, batch, 2, &Free)?;
+    check(rt, are_fresh(&marks, 3), "the marks");
+    check_same(rt, &first.out(), &0, "the passes that are out");
+    Ok(())
+}
+
+// Commits the first place once more.
+fn check_again(rt: &(impl Wait + Abort), shared: &SharedBook, first: &mut Pass)
+    requires { IsPassOf shared.now first.old }
+    ensures { IsPassOf shared.now first.new × SamePass (view first.old) (view first.new) }
+{
+    let again = shared.commit(rt, first, 0, &parcel(0, WORDS[0]));
+    check(rt, is_done_fresh(&again), "again");
+}
+
+#[test]
+fn gathered_then_done(rt: HostRuntime) -> Result<(), Fail> {
+    let batch = three_parcels();
+    let (shared, mut first) = begun(rt.alloc(), &batch)?;
+    check_gathered(&rt, rt.alloc(), &shared, &mut first, &batch)?;
+    check_again(&rt, &shared, &mut first);
     check_shut(&rt, &shared.shut(first));
     Ok(())
+}
+
+// Looks for the number of calls that were counted.
+fn check_count(rt: &impl Abort, calls: &AtomicU64, count: u64, row: &str) {
+    check_same(rt, &calls.load(Ordering::SeqCst), &count, row);
+}
+
+// Asks whether there was a call.
+fn check_came(rt: &impl Abort, calls: &AtomicU64, row: &str) {
+    check(rt, calls.load(Ordering::SeqCst) > 0, row);
 }
 
 // Holds workers 1 and 2 at their first calls until both have come, for at most so many turns.
@@ -313,6 +345,24 @@ impl Gate for Meeting {
     }
 }
 
+impl Meeting {
+    // Nobody has come.
+    fn new() -> Meeting {
+        Meeting {
+            first: AtomicU64::new(0),
+            second: AtomicU64::new(0),
+            late: AtomicU64::new(0),
+        }
+    }
+}
+
+// Both workers came, and neither waited in vain.
+fn check_met(rt: &impl Abort, gate: &Meeting) {
+    check_came(rt, &gate.first, "worker 1");
+    check_came(rt, &gate.second, "worker 2");
+    check_count(rt, &gate.late, 0, "late");
+}
+
 // Whether one place has the pass of worker 1, and the other that of worker 2.
 fn are_of_both(passes: &[Option<u32>]) -> bool {
     passes == [Some(1), Some(2)].as_slice() || passes == [Some(2), Some(1)].as_slice()
@@ -321,17 +371,10 @@ fn are_of_both(passes: &[Option<u32>]) -> bool {
 // A body that calls the gate and commits on the calling thread alone comes too late, or commits with one pass.
 #[test]
 fn two_commits_cross(rt: HostRuntime) -> Result<(), Fail> {
-    let alloc = rt.alloc();
-    let gate = Meeting {
-        first: AtomicU64::new(0),
-        second: AtomicU64::new(0),
-        late: AtomicU64::new(0),
-    };
+    let gate = Meeting::new();
     let batch = [parcel(0, WORDS[0]), parcel(1, WORDS[1])];
-    let shut = gathered(&rt, alloc, &batch, 2, &gate)?;
-    check(&rt, gate.first.load(Ordering::SeqCst) > 0, "worker 1");
-    check(&rt, gate.second.load(Ordering::SeqCst) > 0, "worker 2");
-    check_same(&rt, &gate.late.load(Ordering::SeqCst), &0, "late");
+    let shut = gathered(&rt, rt.alloc(), &batch, 2, &gate)?;
+    check_met(&rt, &gate);
     check(&rt, are_of_both(&shut.passes), "the passes");
     Ok(())
 }
@@ -346,6 +389,16 @@ struct Order {
 }
 
 impl Order {
+    // Nobody has called.
+    fn new() -> Order {
+        Order {
+            first: AtomicU64::new(0),
+            second: AtomicU64::new(0),
+            others: AtomicU64::new(0),
+            late: AtomicU64::new(0),
+        }
+    }
+
     // Waits until there were so many calls, for at most so many turns.
     fn wait(&self, calls: &AtomicU64, count: u64) {
         for _ in 0..1_000_000_000u32 {
@@ -403,26 +456,30 @@ fn check_order(rt: &impl Abort, lines: &Lines, place: usize) {
     }
 }
 
+// Looks for a call of worker 1 and three of worker 2, none of them late, and for no other.
+fn check_calls(rt: &impl Abort, gate: &Order) {
+    check_count(rt, &gate.late, 0, "late");
+    check_count(rt, &gate.others, 0, "others");
+    check_count(rt, &gate.first, 1, "worker 1");
+    check_count(rt, &gate.second, 3, "worker 2");
+}
+
+// The first place that worker 1 committed.
+fn place_of_first(passes: &[Option<u32>]) -> Result<usize, Fail> {
+    match passes.iter().position(|pass| *pass == Some(1)) {
+        Some(place) => Ok(place),
+        None => Err(Fail::new("worker 1 made no commit")),
+    }
+}
+
 // Worker 1 makes one of four commits, and worker 2 has made two before it: a body that calls the gate after the commit makes
 // that of worker 1 sooner. The workers are numbered 1 and 2, and call for each commit.
 #[test]
 fn gate_comes_before_each_commit(rt: HostRuntime) -> Result<(), Fail> {
-    let alloc = rt.alloc();
-    let gate = Order {
-        first: AtomicU64::new(0),
-        second: AtomicU64::new(0),
-        others: AtomicU64::new(0),
-        late: AtomicU64::new(0),
-    };
-    let shut = gathered(&rt, alloc, &whole_batch(), 2, &gate)?;
-    check_same(&rt, &gate.late.load(Ordering::SeqCst), &0, "late");
-    check_same(&rt, &gate.others.load(Ordering::SeqCst), &0, "others");
-    check_same(&rt, &gate.first.load(Ordering::SeqCst), &1, "worker 1");
-    check_same(&rt, &gate.second.load(Ordering::SeqCst), &3, "worker 2");
-    let Some(place) = shut.passes.iter().position(|pass| *pass == Some(1)) else {
-        return Err(Fail::new("worker 1 made no commit"));
-    };
-    check_order(&rt, shut.book.journal(), place);
+    let gate = Order::new();
+    let shut = gathered(&rt, rt.alloc(), &whole_batch(), 2, &gate)?;
+    check_calls(&rt, &gate);
+    check_order(&rt, shut.book.journal(), place_of_first(&shut.passes)?);
     Ok(())
 }
 
@@ -442,6 +499,25 @@ impl Gate for Pairs {
     }
 }
 
+// The parcels of the three readings, bytes of no frame, and a Close that is in no plan.
+fn five_parcels() -> [Parcel; 5] {
+    [
+        parcel(0, WORDS[0]),
+        parcel(1, WORDS[1]),
+        Parcel::Bytes([0; 52]),
+        parcel(2, WORDS[2]),
+        Parcel::Close { group: 1, round: 0 },
+    ]
+}
+
+// Looks for the marks of those parcels, and for the lines of the book.
+fn check_five(rt: &impl Abort, collected: &Collected) {
+    let bad = Mark::Bad(FrameError::Magic);
+    let wanted = [FRESH, FRESH, bad, FRESH, Mark::OutOfPlan];
+    check_all(rt, &collected.replies, &wanted, "the marks");
+    check_same(rt, &collected.book.journal().len(), &6, "the lines");
+}
+
 // Five parcels are two turns of two and one of one, whoever has them.
 #[test]
 fn five_parcels_have_three_turns(rt: HostRuntime) -> Result<(), Fail> {
@@ -449,20 +525,10 @@ fn five_parcels_have_three_turns(rt: HostRuntime) -> Result<(), Fail> {
     let gate = Pairs {
         calls: AtomicU64::new(0),
     };
-    let batch = vec![in alloc;
-        parcel(0, WORDS[0]),
-        parcel(1, WORDS[1]),
-        Parcel::Bytes([0; 52]),
-        parcel(2, WORDS[2]),
-        Parcel::Close { group: 1, round: 0 },
-    ]?;
-    let (marks, lines) = collected(&rt, alloc, sent_book(alloc)?, batch, 2, &gate)?;
-    let fresh = Mark::Made(Reply::Took(Verdict::Fresh));
-    let bad = Mark::Bad(FrameError::Magic);
-    let wanted = [fresh, fresh, bad, fresh, Mark::OutOfPlan];
-    check_all(&rt, &marks, &wanted, "the marks");
-    check_same(&rt, &lines, &6, "the lines");
-    check_same(&rt, &gate.calls.load(Ordering::SeqCst), &3, "the turns");
+    let book = sent_book(alloc)?;
+    let collected = collected(&rt, alloc, &book, &five_parcels(), 2, &gate)?;
+    check_five(&rt, &collected);
+    check_count(&rt, &gate.calls, 3, "the turns");
     Ok(())
 }
 
@@ -492,7 +558,7 @@ fn four_parcels_have_one_worker(rt: HostRuntime) -> Result<(), Fail> {
         others: AtomicU64::new(0),
     };
     let shut = gathered(&rt, alloc, &whole_batch(), 16, &gate)?;
-    check_same(&rt, &gate.others.load(Ordering::SeqCst), &0, "others");
+    check_count(&rt, &gate.others, 0, "others");
     check_all(&rt, &shut.passes, &[Some(1); 4], "the passes");
     Ok(())
 }

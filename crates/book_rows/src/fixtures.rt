@@ -1,8 +1,10 @@
 //! What several modules share: frames of readings, books of the group `north`, how lines are compared, and assertions, each of
 //! which is made in one place, since every assertion of a body is proved by itself.
 
-ghost use Rattle.std.specs.Prelude.{◌≡◌, []};
+ghost use Rattle.std.specs.Prelude.{◌≡◌, ◌≤◌, IfOk, [], vec_len};
 ghost use Rattle.group_plan.specs.declared.Kind.TheVariants.{Reading};
+ghost use Rattle.shared_book.specs.Passes.{new_pass};
+ghost use Rattle.shared_book.specs.Ends.{view, opening, IsPassOf};
 
 use group_book::{Book, SendAnswer};
 use group_plan::Presence;
@@ -10,7 +12,7 @@ use meter_frames::{Frame, encode};
 use missing_round::MeterSet;
 use mod_word::Word;
 use row_fixtures::{plan_of_north, reading_tag, table};
-use shared_book::Parcel;
+use shared_book::{Parcel, Pass, SharedBook};
 use std::alloc::Global;
 use std::fmt::Debug;
 use std::process::Abort;
@@ -53,13 +55,23 @@ pub(crate) fn parcel(meter: u8, word: u64) -> Parcel {
     Parcel::Bytes(encode(&reading_frame(meter, word)))
 }
 
-/// A book of `north` in one round with the readings of its first meters, and room for so many lines.
-pub(crate) fn book_of_north(alloc: Global, readings: &[u64], lines: u64) -> Result<Book, Fail> {
-    let readings = table(alloc, &plan_of_north(alloc, 1)?, readings)?;
-    let presence = Presence::of(alloc, &readings)?;
-    let mut book = Book::new(alloc, presence.plan(), &presence)?;
+// Who of `north` has a reading in one round: its first meters, whose readings these are.
+fn presence_of_north(alloc: Global, readings: &[u64]) -> Result<Presence, Fail> {
+    let plan = plan_of_north(alloc, 1)?;
+    let readings = table(alloc, &plan, readings)?;
+    Ok(Presence::of(alloc, &readings)?)
+}
+
+/// A book without lines, with room for so many.
+pub(crate) fn book_of(alloc: Global, presence: &Presence, lines: u64) -> Result<Book, Fail> {
+    let mut book = Book::new(alloc, presence.plan(), presence)?;
     book.reserve(lines)?;
     Ok(book)
+}
+
+/// A book of `north` in one round with the readings of its first meters, and room for so many lines.
+pub(crate) fn book_of_north(alloc: Global, readings: &[u64], lines: u64) -> Result<Book, Fail> {
+    book_of(alloc, &presence_of_north(alloc, readings)?, lines)
 }
 
 pub(crate) fn send_reading(book: &mut Book, meter: u8, word: u64) -> Result<(), Fail> {
@@ -67,6 +79,23 @@ pub(crate) fn send_reading(book: &mut Book, meter: u8, word: u64) -> Result<(), 
     match book.send(reading_frame(meter, word)) {
         SendAnswer::Sent => Ok(()),
         _ => Err("not sent".into()),
+    }
+}
+
+/// Shares a book for these parcels.
+pub(crate) fn begin(
+    alloc: Global,
+    book: Book,
+    parcels: Vec<Parcel>,
+) -> Result<(SharedBook, Pass), Fail>
+    requires few { vec_len parcels ≤ 4 }
+    requires room { 4 ≤ book.spare }
+    ensures pass { IfOk result (λ r. IsPassOf r.0 r.1 × (view r.1 ≡ new_pass 0 [])) }
+    ensures parcels { IfOk result (λ r. (opening r.0).parcels ≡ parcels.items) }
+{
+    match SharedBook::begin(alloc, book, parcels) {
+        Ok(begun) => Ok(begun),
+        Err(_) => Err(Fail::new("no memory")),
     }
 }
 

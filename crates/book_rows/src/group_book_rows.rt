@@ -7,27 +7,11 @@ use meter_frames::Frame;
 use missing_round::MeterSet;
 use mod_word::Word;
 use round_machine::{Closing, Ending, Verdict};
+use row_fixtures::reading_tag;
 use std::alloc::Global;
 use std::process::Abort;
 use std::test::Fail;
 use transcript_log::Lines;
-
-#[derive(Clone, Copy)]
-enum Call {
-    Send(Frame),
-    Take(Frame),
-    Close,
-    End,
-}
-
-#[derive(Clone, Copy, PartialEq, Eq)]
-enum Said {
-    Sent(SendAnswer),
-    Took(Verdict),
-    Refused(TakeError),
-    Closed(Closing),
-    Ended(Ending),
-}
 
 fn frame(kind: Kind, meter: u8, missing: MeterSet, word: u64) -> Frame {
     Frame {
@@ -42,45 +26,67 @@ fn frame(kind: Kind, meter: u8, missing: MeterSet, word: u64) -> Frame {
     }
 }
 
-fn send(book: &mut Book, frame: Frame) -> Result<Said, Fail> {
+fn send(book: &mut Book, frame: Frame) -> Result<SendAnswer, Fail> {
     if book.spare() < 1 {
         return Err(Fail::new("no room"));
     }
     match frame.tag.kind {
         Kind::Reading if frame.missing.len() > 0 => Err(Fail::new("a set in a reading")),
         Kind::Announcement if frame.word.value() > 0 => Err(Fail::new("a word")),
-        _ => Ok(Said::Sent(book.send(frame))),
+        _ => Ok(book.send(frame)),
     }
 }
 
-fn take(book: &mut Book, frame: &Frame) -> Result<Said, Fail> {
+// What a Take says, or why it is refused.
+fn take(book: &mut Book, frame: &Frame) -> Result<Result<Verdict, TakeError>, Fail> {
     if book.spare() < 1 {
         return Err(Fail::new("no room"));
     }
-    match book.take(frame) {
-        Ok(verdict) => Ok(Said::Took(verdict)),
-        Err(error) => Ok(Said::Refused(error)),
-    }
+    Ok(book.take(frame))
 }
 
-fn close_or_end(book: &mut Book, closes: bool) -> Result<Said, Fail> {
+fn close(book: &mut Book) -> Result<Closing, Fail> {
     if book.spare() < 1 || !book.has_round(0, 0) {
         return Err(Fail::new("no room"));
     }
-    if closes {
-        Ok(Said::Closed(book.close(0, 0)))
-    } else {
-        Ok(Said::Ended(book.end(0, 0)))
-    }
+    Ok(book.close(0, 0))
 }
 
-fn make(book: &mut Book, call: &Call) -> Result<Said, Fail> {
-    match *call {
-        Call::Send(frame) => send(book, frame),
-        Call::Take(frame) => take(book, &frame),
-        Call::Close => close_or_end(book, true),
-        Call::End => close_or_end(book, false),
+fn end(book: &mut Book) -> Result<Ending, Fail> {
+    if book.spare() < 1 || !book.has_round(0, 0) {
+        return Err(Fail::new("no room"));
     }
+    Ok(book.end(0, 0))
+}
+
+fn check_send(
+    rt: &impl Abort,
+    book: &mut Book,
+    frame: Frame,
+    answer: &SendAnswer,
+) -> Result<(), Fail> {
+    assert!(rt; send(book, frame)? == *answer);
+    Ok(())
+}
+
+fn check_take(
+    rt: &impl Abort,
+    book: &mut Book,
+    frame: &Frame,
+    answer: &Result<Verdict, TakeError>,
+) -> Result<(), Fail> {
+    assert!(rt; take(book, frame)? == *answer);
+    Ok(())
+}
+
+fn check_close(rt: &impl Abort, book: &mut Book, closing: &Closing) -> Result<(), Fail> {
+    assert!(rt; close(book)? == *closing);
+    Ok(())
+}
+
+fn check_end(rt: &impl Abort, book: &mut Book, ending: &Ending) -> Result<(), Fail> {
+    assert!(rt; end(book)? == *ending);
+    Ok(())
 }
 
 fn outcome(book: &Book) -> Result<Outcome, Fail> {
@@ -90,38 +96,48 @@ fn outcome(book: &Book) -> Result<Outcome, Fail> {
     Ok(book.outcome(0, 0))
 }
 
+// Calls before the first reading is taken, which add four lines.
+fn check_sends(rt: &impl Abort, book: &mut Book) -> Result<(), Fail> {
+    let (seven, eight) = (reading_frame(0, 7), reading_frame(0, 8));
+    check_end(rt, book, &Ending::NotClosed)?;
+    check_take(rt, book, &seven, &Ok(Verdict::Void))?;
+    check_send(rt, book, seven, &SendAnswer::Sent)?;
+    check_send(rt, book, eight, &SendAnswer::Differs { posted: seven })
+}
+
+// Why a Take of the reading 8 in the place of 7 is refused.
+fn forged_eight() -> TakeError {
+    TakeError::Forged {
+        posted: reading_frame(0, 7),
+        came: reading_frame(0, 8),
+    }
+}
+
+// Takes of the reading 7, and of another frame in its place.
+fn check_seven(rt: &impl Abort, book: &mut Book) -> Result<(), Fail> {
+    let seven = reading_frame(0, 7);
+    check_take(rt, book, &reading_frame(0, 8), &Err(forged_eight()))?;
+    check_take(rt, book, &seven, &Ok(Verdict::Fresh))?;
+    check_take(rt, book, &seven, &Ok(Verdict::Again))
+}
+
+// The Close and the End of a round with one survivor, each of them twice, and an announcement between them.
+fn check_thin(rt: &impl Abort, book: &mut Book) -> Result<(), Fail> {
+    let others = MeterSet::empty().with(1).with(2);
+    let announcement = frame(Kind::Announcement, 0, others, 0);
+    check_close(rt, book, &Closing::Thin(others))?;
+    check_close(rt, book, &Closing::Already)?;
+    check_send(rt, book, announcement, &SendAnswer::NotAllowed)?;
+    check_end(rt, book, &Ending::Thin)?;
+    check_end(rt, book, &Ending::Already)
+}
+
 #[test]
 fn book_call_by_call(rt: HostRuntime) -> Result<(), Fail> {
     let mut book = book_of_north(rt.alloc(), &[10, 10, 10], 12)?;
-    let (seven, eight) = (reading_frame(0, 7), reading_frame(0, 8));
-    let others = MeterSet::empty().with(1).with(2);
-    let announcement = frame(Kind::Announcement, 0, others, 0);
-    let rows = [
-        (Call::End, Said::Ended(Ending::NotClosed)),
-        (Call::Take(seven), Said::Took(Verdict::Void)),
-        (Call::Send(seven), Said::Sent(SendAnswer::Sent)),
-        (
-            Call::Send(eight),
-            Said::Sent(SendAnswer::Differs { posted: seven }),
-        ),
-        (
-            Call::Take(eight),
-            Said::Refused(TakeError::Forged {
-                posted: seven,
-                came: eight,
-            }),
-        ),
-        (Call::Take(seven), Said::Took(Verdict::Fresh)),
-        (Call::Take(seven), Said::Took(Verdict::Again)),
-        (Call::Close, Said::Closed(Closing::Thin(others))),
-        (Call::Close, Said::Closed(Closing::Already)),
-        (Call::Send(announcement), Said::Sent(SendAnswer::NotAllowed)),
-        (Call::End, Said::Ended(Ending::Thin)),
-        (Call::End, Said::Ended(Ending::Already)),
-    ];
-    for (row, said) in &rows {
-        assert!(rt; make(&mut book, row)? == *said);
-    }
+    check_sends(&rt, &mut book)?;
+    check_seven(&rt, &mut book)?;
+    check_thin(&rt, &mut book)?;
     check_same(&rt, &book.journal().len(), &10, "the lines");
     check(&rt, book.spare() >= 2, "the room");
     Ok(())
@@ -129,53 +145,35 @@ fn book_call_by_call(rt: HostRuntime) -> Result<(), Fail> {
 
 // Sends three readings; whether each was sent.
 fn send_readings(book: &mut Book) -> Result<bool, Fail> {
-    Ok(
-        is_sent(book, reading_frame(0, 122))?
-            && is_sent(book, reading_frame(1, 226))?
-            && is_sent(book, reading_frame(2, 312))?,
-    )
+    for (meter, word) in [(0, 122), (1, 226), (2, 312)] {
+        if !is_sent(book, reading_frame(meter, word))? {
+            return Ok(false);
+        }
+    }
+    Ok(true)
 }
 
-// Takes these frames, each with what is said of it.
-fn check_takes(rt: &impl Abort, book: &mut Book, rows: &[(Frame, Said)]) -> Result<(), Fail> {
-    for (came, said) in rows {
-        assert!(rt; take(book, came)? == *said);
+// The frame of a reading, under the tag of another group or of another round.
+fn frame_of(group: u16, round: u32) -> Frame {
+    Frame {
+        tag: reading_tag(group, round, 0),
+        ..reading_frame(0, 122)
     }
-    Ok(())
+}
+
+// Takes a frame of another group, one of another round, and an answer that was not sent.
+fn check_outside(rt: &impl Abort, book: &mut Book) -> Result<(), Fail> {
+    check_take(rt, book, &frame_of(1, 0), &Err(TakeError::Unknown))?;
+    check_take(rt, book, &frame_of(0, 1), &Err(TakeError::Unknown))?;
+    let answer = frame(Kind::Answer, 0, MeterSet::empty(), 100);
+    check_take(rt, book, &answer, &Ok(Verdict::Void))
 }
 
 #[test]
 fn frames_outside_plan(rt: HostRuntime) -> Result<(), Fail> {
     let mut book = book_of_north(rt.alloc(), &[10, 10, 10], 6)?;
-    let first = reading_frame(0, 122);
     check(&rt, send_readings(&mut book)?, "the readings");
-    let answer = frame(Kind::Answer, 0, MeterSet::empty(), 100);
-    let other_group = Tag {
-        group: 1,
-        ..first.tag
-    };
-    let other_round = Tag {
-        round: 1,
-        ..first.tag
-    };
-    let rows = [
-        (
-            Frame {
-                tag: other_group,
-                ..first
-            },
-            Said::Refused(TakeError::Unknown),
-        ),
-        (
-            Frame {
-                tag: other_round,
-                ..first
-            },
-            Said::Refused(TakeError::Unknown),
-        ),
-        (answer, Said::Took(Verdict::Void)),
-    ];
-    check_takes(&rt, &mut book, &rows)
+    check_outside(&rt, &mut book)
 }
 
 fn are_same(lines: &Lines, others: &Lines) -> bool {
@@ -191,20 +189,11 @@ fn are_same(lines: &Lines, others: &Lines) -> bool {
 }
 
 fn is_sent(book: &mut Book, frame: Frame) -> Result<bool, Fail> {
-    // A function that compares answers has to name all types in them.
-    let _refused: Option<TakeError> = None;
-    let _took: Option<Verdict> = None;
-    let _closed: Option<Closing> = None;
-    let _ended: Option<Ending> = None;
-    Ok(send(book, frame)? == Said::Sent(SendAnswer::Sent))
+    Ok(send(book, frame)? == SendAnswer::Sent)
 }
 
 fn is_taken(book: &mut Book, frame: &Frame) -> Result<bool, Fail> {
-    let _sent: Option<SendAnswer> = None;
-    let _refused: Option<TakeError> = None;
-    let _closed: Option<Closing> = None;
-    let _ended: Option<Ending> = None;
-    Ok(take(book, frame)? == Said::Took(Verdict::Fresh))
+    Ok(take(book, frame)? == Ok(Verdict::Fresh))
 }
 
 // Sends and takes the frames of these words, by meter; whether each was posted, and fresh.
@@ -223,11 +212,11 @@ fn pass(book: &mut Book, kind: Kind, words: &[u64]) -> Result<bool, Fail> {
 // Makes a round of three meters in a new book, which ends with the total 60.
 fn make_round(rt: &impl Abort, book: &mut Book) -> Result<(), Fail> {
     check(rt, pass(book, Kind::Reading, &[122, 226, 312])?, "readings");
-    close_or_end(book, true)?;
+    let _closing = close(book)?;
     let are_told = pass(book, Kind::Announcement, &[0, 0, 0])?;
     check(rt, are_told, "announcements");
     check(rt, pass(book, Kind::Answer, &[100, 200, 300])?, "answers");
-    close_or_end(book, false)?;
+    let _ending = end(book)?;
     Ok(())
 }
 

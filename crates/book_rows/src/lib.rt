@@ -1,11 +1,14 @@
-//! Worked rows of the book, of what feeds it and of what is made of it: mask words, the link, workers, whole runs, the report of
-//! a book, and the plain program that the book is compared with. They are tests alone, in modules that are named after the
-//! crates below; those of `twin_worlds` are in `twin_rows`, and those of plans, lanes, texts and files in `file_rows`.
+//! Worked rows of the book, of what feeds it and of what is made of it: sets, frames, rounds, meters, mask words, the link,
+//! workers, whole runs, the report of a book, and the plain program that the book is compared with. They are tests alone, in
+//! modules that are named after the crates below; those of `twin_worlds` are in `twin_rows`, and those of plans, lanes, texts
+//! and files in `file_rows`.
 //! They stand here because a crate that has tests is proved twice, so those crates have none of their own.
 #![tactic(auto)]
 
 #[cfg(test)]
 mod blind_core_rows;
+#[cfg(test)]
+mod chacha_lanes_rows;
 #[cfg(test)]
 mod collector_workers_rows;
 #[cfg(test)]
@@ -15,9 +18,17 @@ mod group_book_rows;
 #[cfg(test)]
 mod lossy_link_rows;
 #[cfg(test)]
+mod meter_core_rows;
+#[cfg(test)]
+mod meter_frames_rows;
+#[cfg(test)]
+mod missing_round_rows;
+#[cfg(test)]
 mod plain_transcript_book_rows;
 #[cfg(test)]
 mod plain_transcript_rows;
+#[cfg(test)]
+mod round_machine_rows;
 #[cfg(test)]
 mod shared_book_rows;
 #[cfg(test)]

@@ -32,21 +32,31 @@ fn check_due(rt: &impl Abort, link: &mut Link, tick: u32, meters: &[u8]) -> Resu
     Ok(())
 }
 
+// Posts readings, with six copies in all.
+fn send_all(link: &mut Link) -> Result<(), Fail> {
+    send(link, 3, 9, &[1, 3])?;
+    send(link, 0, 7, &[])?;
+    send(link, 2, 8, &[2, 2, 4])?;
+    send(link, 5, 6, &[1])
+}
+
+// Looks for the copies that are due at some ticks, in no order of time.
+fn check_all_due(rt: &impl Abort, link: &mut Link) -> Result<(), Fail> {
+    check_due(rt, link, 3, &[])?;
+    check_due(rt, link, 6, &[9, 8, 6])?;
+    check_same(rt, &link.left(), &3, "tick 6");
+    check_due(rt, link, 6, &[])?;
+    check_due(rt, link, 5, &[])?;
+    check_due(rt, link, 4, &[9, 8, 8])
+}
+
 #[test]
 fn copies_by_tick_in_the_order_of_posts(rt: HostRuntime) -> Result<(), Fail> {
     let mut link = Link::new(rt.alloc());
     check_same(&rt, &link.left(), &0, "the beginning");
-    send(&mut link, 3, 9, &[1, 3])?;
-    send(&mut link, 0, 7, &[])?;
-    send(&mut link, 2, 8, &[2, 2, 4])?;
-    send(&mut link, 5, 6, &[1])?;
+    send_all(&mut link)?;
     check_same(&rt, &link.left(), &6, "the posts");
-    check_due(&rt, &mut link, 3, &[])?;
-    check_due(&rt, &mut link, 6, &[9, 8, 6])?;
-    check_same(&rt, &link.left(), &3, "tick 6");
-    check_due(&rt, &mut link, 6, &[])?;
-    check_due(&rt, &mut link, 5, &[])?;
-    check_due(&rt, &mut link, 4, &[9, 8, 8])?;
+    check_all_due(&rt, &mut link)?;
     check_same(&rt, &link.left(), &0, "the end");
     Ok(())
 }

@@ -6,7 +6,7 @@ ghost use Rattle.meter_frames.specs.Frames.{FitsKind};
 ghost use Rattle.group_plan.specs.Plans.{members};
 ghost use Rattle.book_rows.specs.Streets.{streets, street_shape, street_contents, has_reading, own_word, reading_of};
 
-use crate::fixtures::is_same;
+use crate::fixtures::{book_of, is_same};
 use group_book::Book;
 use group_plan::{Kind, Plan, Presence, Readings, Span, Tag};
 use meter_frames::Frame;
@@ -110,19 +110,21 @@ fn put(readings: &mut Readings, group: u16, round: u32, meter: u8) {
     }
 }
 
-fn book(alloc: Global, events: u64) -> Result<Book, Fail> {
-    let mut readings = Readings::new(alloc, &plan(alloc)?)?;
+fn put_all(readings: &mut Readings) {
     for group in 0..2 {
         for round in 0..3 {
             for meter in 0..3 {
-                put(&mut readings, group, round, meter);
+                put(readings, group, round, meter);
             }
         }
     }
-    let presence = Presence::of(alloc, &readings)?;
-    let mut book = Book::new(alloc, presence.plan(), &presence)?;
-    book.reserve(events)?;
-    Ok(book)
+}
+
+fn presence(alloc: Global) -> Result<Presence, Fail> {
+    let plan = plan(alloc)?;
+    let mut readings = Readings::new(alloc, &plan)?;
+    put_all(&mut readings);
+    Ok(Presence::of(alloc, &readings)?)
 }
 
 // The frame that is sent under a tag.
@@ -269,15 +271,21 @@ fn advance(track: &mut Track, state: &mut u64) {
     };
 }
 
+// The next event of either round, mostly of the first.
+fn next_event(tracks: &mut [Track; 2], state: &mut u64) -> Event {
+    let which = if roll(state, 4) < 3 { 0 } else { 1 };
+    let next = event(&tracks[which]);
+    advance(&mut tracks[which], state);
+    next
+}
+
 // The events of two rounds, or of one that is met from both.
 fn schedule(alloc: Global, seed: u64) -> Result<Vec<Event>, AllocError> {
     let mut state = seed;
     let mut tracks = [some_round(&mut state), some_round(&mut state)];
     let mut events = Vec::new(alloc);
     for _ in 0..30 {
-        let which = if roll(&mut state, 4) < 3 { 0 } else { 1 };
-        events.push(event(&tracks[which]))?;
-        advance(&mut tracks[which], &mut state);
+        events.push(next_event(&mut tracks, &mut state))?;
     }
     Ok(events)
 }
@@ -294,16 +302,27 @@ fn are_same(journal: &Lines, lines: &[Line]) -> bool {
     true
 }
 
+// The book after these events.
+fn book_after(alloc: Global, events: &[Event]) -> Result<Book, Fail> {
+    let mut book = book_of(alloc, &presence(alloc)?, 30)?;
+    for event in events {
+        make(&mut book, event)?;
+    }
+    Ok(book)
+}
+
+// Whether the book has the lines of the plain program after the events of a schedule.
+fn is_as_plain(alloc: Global, seed: u64) -> Result<bool, Fail> {
+    let events = schedule(alloc, seed)?;
+    let lines = transcript(alloc, &Streets, &events)?;
+    let book = book_after(alloc, &events)?;
+    Ok(are_same(book.journal(), &lines))
+}
+
 #[test]
 fn book_as_the_plain_program(rt: HostRuntime) -> Result<(), Fail> {
     for seed in 0..40u64 {
-        let events = schedule(rt.alloc(), seed)?;
-        let mut book = book(rt.alloc(), 30)?;
-        for event in events.iter() {
-            make(&mut book, event)?;
-        }
-        let lines = transcript(rt.alloc(), &Streets, &events)?;
-        assert!(rt; are_same(book.journal(), &lines), "seed {seed}");
+        assert!(rt; is_as_plain(rt.alloc(), seed)?, "seed {seed}");
     }
     Ok(())
 }

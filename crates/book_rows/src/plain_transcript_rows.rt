@@ -8,6 +8,8 @@ use missing_round::MeterSet;
 use mod_word::Word;
 use plain_transcript::{World, transcript};
 use round_machine::{Closing, Ending, Verdict};
+use std::alloc::{AllocError, Global};
+use std::test::Fail;
 use transcript_log::{Event, Line};
 
 #[derive(Drop)]
@@ -47,6 +49,45 @@ impl World for Small {
     }
 }
 
+// A row: an event, and what its line says of it.
+#[derive(Clone, Copy)]
+enum Row {
+    // The frame with this word is sent, of the announced set where it is no reading.
+    Sent(Kind, u8, u64),
+    // Nothing is sent.
+    NotSent(Kind, u8),
+    Took(Kind, u8, Verdict),
+    // Meter 2 is announced as missing.
+    Closed,
+    NotClosed,
+    Total(u64),
+    Already,
+}
+
+static ROWS: [Row; 21] = [
+    Row::NotClosed,
+    Row::Took(Kind::Reading, 0, Verdict::Void),
+    Row::Sent(Kind::Reading, 0, 100),
+    Row::Sent(Kind::Reading, 1, 101),
+    Row::Sent(Kind::Reading, 2, 102),
+    Row::Took(Kind::Reading, 0, Verdict::Fresh),
+    Row::Took(Kind::Reading, 1, Verdict::Fresh),
+    Row::Closed,
+    Row::Took(Kind::Reading, 2, Verdict::Late),
+    Row::Took(Kind::Reading, 0, Verdict::Again),
+    Row::Sent(Kind::Announcement, 0, 0),
+    Row::Sent(Kind::Announcement, 1, 0),
+    Row::NotSent(Kind::Announcement, 2),
+    Row::Took(Kind::Announcement, 0, Verdict::Fresh),
+    Row::Took(Kind::Announcement, 1, Verdict::Fresh),
+    Row::Sent(Kind::Answer, 0, 200),
+    Row::Sent(Kind::Answer, 1, 201),
+    Row::Took(Kind::Answer, 0, Verdict::Fresh),
+    Row::Took(Kind::Answer, 1, Verdict::Fresh),
+    Row::Total(40),
+    Row::Already,
+];
+
 fn tag(kind: Kind, meter: u8) -> Tag {
     Tag {
         group: 0,
@@ -56,141 +97,78 @@ fn tag(kind: Kind, meter: u8) -> Tag {
     }
 }
 
-fn sent(kind: Kind, meter: u8, missing: MeterSet, word: u64) -> Line {
-    let tag = tag(kind, meter);
-    Line::Send {
-        tag,
-        frame: Some(Frame {
-            tag,
-            missing,
-            word: Word(word),
-        }),
+fn event(row: &Row) -> Event {
+    match *row {
+        Row::Sent(kind, meter, _) | Row::NotSent(kind, meter) => Event::Send(tag(kind, meter)),
+        Row::Took(kind, meter, _) => Event::Take(tag(kind, meter)),
+        Row::Closed => Event::Close { group: 0, round: 0 },
+        Row::NotClosed | Row::Total(_) | Row::Already => Event::End { group: 0, round: 0 },
     }
 }
 
-fn took(kind: Kind, meter: u8, verdict: Verdict) -> Line {
-    let tag = tag(kind, meter);
-    Line::Take { tag, verdict }
+// Meter 2 alone.
+fn announced() -> MeterSet {
+    MeterSet::empty().with(2)
+}
+
+fn frame(kind: Kind, meter: u8, word: u64) -> Frame {
+    Frame {
+        tag: tag(kind, meter),
+        missing: match kind {
+            Kind::Reading => MeterSet::empty(),
+            _ => announced(),
+        },
+        word: Word(word),
+    }
+}
+
+fn end(ending: Ending) -> Line {
+    Line::End {
+        group: 0,
+        round: 0,
+        ending,
+    }
+}
+
+fn line(row: &Row) -> Line {
+    match *row {
+        Row::Sent(kind, meter, word) => Line::Send {
+            tag: tag(kind, meter),
+            frame: Some(frame(kind, meter, word)),
+        },
+        Row::NotSent(kind, meter) => Line::Send {
+            tag: tag(kind, meter),
+            frame: None,
+        },
+        Row::Took(kind, meter, verdict) => Line::Take {
+            tag: tag(kind, meter),
+            verdict,
+        },
+        Row::Closed => Line::Close {
+            group: 0,
+            round: 0,
+            closing: Closing::Announced(announced()),
+        },
+        Row::NotClosed => end(Ending::NotClosed),
+        Row::Total(total) => end(Ending::Total(total)),
+        Row::Already => end(Ending::Already),
+    }
+}
+
+fn schedule(alloc: Global) -> Result<Vec<Event>, AllocError> {
+    let mut events = Vec::new(alloc);
+    for row in ROWS.iter() {
+        events.push(event(row))?;
+    }
+    Ok(events)
 }
 
 #[test]
-fn two_survivors_total_40(rt: HostRuntime) {
-    let (group, round) = (0, 0);
-    let missing = MeterSet::empty().with(2);
-    let cases = [
-        (
-            Event::End { group, round },
-            Line::End {
-                group,
-                round,
-                ending: Ending::NotClosed,
-            },
-        ),
-        (
-            Event::Take(tag(Kind::Reading, 0)),
-            took(Kind::Reading, 0, Verdict::Void),
-        ),
-        (
-            Event::Send(tag(Kind::Reading, 0)),
-            sent(Kind::Reading, 0, MeterSet::empty(), 100),
-        ),
-        (
-            Event::Send(tag(Kind::Reading, 1)),
-            sent(Kind::Reading, 1, MeterSet::empty(), 101),
-        ),
-        (
-            Event::Send(tag(Kind::Reading, 2)),
-            sent(Kind::Reading, 2, MeterSet::empty(), 102),
-        ),
-        (
-            Event::Take(tag(Kind::Reading, 0)),
-            took(Kind::Reading, 0, Verdict::Fresh),
-        ),
-        (
-            Event::Take(tag(Kind::Reading, 1)),
-            took(Kind::Reading, 1, Verdict::Fresh),
-        ),
-        (
-            Event::Close { group, round },
-            Line::Close {
-                group,
-                round,
-                closing: Closing::Announced(missing),
-            },
-        ),
-        (
-            Event::Take(tag(Kind::Reading, 2)),
-            took(Kind::Reading, 2, Verdict::Late),
-        ),
-        (
-            Event::Take(tag(Kind::Reading, 0)),
-            took(Kind::Reading, 0, Verdict::Again),
-        ),
-        (
-            Event::Send(tag(Kind::Announcement, 0)),
-            sent(Kind::Announcement, 0, missing, 0),
-        ),
-        (
-            Event::Send(tag(Kind::Announcement, 1)),
-            sent(Kind::Announcement, 1, missing, 0),
-        ),
-        (
-            Event::Send(tag(Kind::Announcement, 2)),
-            Line::Send {
-                tag: tag(Kind::Announcement, 2),
-                frame: None,
-            },
-        ),
-        (
-            Event::Take(tag(Kind::Announcement, 0)),
-            took(Kind::Announcement, 0, Verdict::Fresh),
-        ),
-        (
-            Event::Take(tag(Kind::Announcement, 1)),
-            took(Kind::Announcement, 1, Verdict::Fresh),
-        ),
-        (
-            Event::Send(tag(Kind::Answer, 0)),
-            sent(Kind::Answer, 0, missing, 200),
-        ),
-        (
-            Event::Send(tag(Kind::Answer, 1)),
-            sent(Kind::Answer, 1, missing, 201),
-        ),
-        (
-            Event::Take(tag(Kind::Answer, 0)),
-            took(Kind::Answer, 0, Verdict::Fresh),
-        ),
-        (
-            Event::Take(tag(Kind::Answer, 1)),
-            took(Kind::Answer, 1, Verdict::Fresh),
-        ),
-        (
-            Event::End { group, round },
-            Line::End {
-                group,
-                round,
-                ending: Ending::Total(40),
-            },
-        ),
-        (
-            Event::End { group, round },
-            Line::End {
-                group,
-                round,
-                ending: Ending::Already,
-            },
-        ),
-    ];
-    let mut schedule = Vec::new(rt.alloc());
-    for (event, _) in cases.as_slice() {
-        assert!(&rt; schedule.push(*event).is_ok());
+fn two_survivors_total_40(rt: HostRuntime) -> Result<(), Fail> {
+    let events = schedule(rt.alloc())?;
+    let lines = transcript(rt.alloc(), &Small, &events)?;
+    for (i, row) in ROWS.iter().enumerate() {
+        assert!(&rt; lines.get(i) == Some(&line(row)), "line {i}");
     }
-    let lines = transcript(rt.alloc(), &Small, &schedule);
-    assert!(&rt; lines.is_ok());
-    if let Ok(lines) = lines {
-        for (i, (_, line)) in cases.as_slice().iter().enumerate() {
-            assert!(&rt; lines.get(i) == Some(line), "line {i}");
-        }
-    }
+    Ok(())
 }

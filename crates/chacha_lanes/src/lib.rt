@@ -7,6 +7,3 @@ mod words;
 
 pub use row::WordRow;
 pub use words::{stream_word, stream_words, words_of_rounds};
-
-#[cfg(test)]
-mod tests;

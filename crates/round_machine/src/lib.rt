@@ -186,23 +186,3 @@ impl Round {
         readings.wrapping_sub(answers)
     }
 }
-
-#[cfg(test)]
-mod tests {
-    use crate::{Closing, Ending, Round, Verdict};
-    use missing_round::MeterSet;
-    use mod_word::Word;
-
-    #[test]
-    fn answers_open_total_30(rt: HostRuntime) {
-        let missing = MeterSet::empty().with(2);
-        let mut round = Round::new(MeterSet::full(3), 2);
-        assert!(&rt; round.take_reading(0, Word(122)) == Verdict::Fresh);
-        assert!(&rt; round.take_reading(1, Word(226)) == Verdict::Fresh);
-        assert!(&rt; round.close() == Closing::Announced(missing));
-        assert!(&rt; round.take_answer(0, Word(107)) == Verdict::Fresh);
-        assert!(&rt; round.take_answer(1, Word(211)) == Verdict::Fresh);
-        assert!(&rt; round.end() == Ending::Total(30));
-        assert!(&rt; round.survivors() == MeterSet::full(2));
-    }
-}

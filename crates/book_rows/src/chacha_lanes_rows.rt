@@ -1,6 +1,7 @@
 //! Mask words made eight at a time, compared with those made one by one.
 
-use crate::{WordRow, stream_word, words_of_rounds};
+use crate::fixtures::{check_all, check_same};
+use chacha_lanes::{WordRow, stream_word, words_of_rounds};
 
 fn key_ending_in(last: u8) -> [u8; 32] {
     let mut key = [0; 32];
@@ -22,8 +23,8 @@ fn published_words(rt: HostRuntime) {
         let mut row = WordRow::new(round);
         row.put(&key);
         row.put(&key);
-        assert_eq!(rt; row.words().as_slice(), [word, word].as_slice());
-        assert_eq!(rt; stream_word(&key, round), word);
+        check_all(&rt, &row.words(), &[word, word], "a row");
+        check_same(&rt, &stream_word(&key, round), &word, "a word");
     }
 }
 
@@ -52,10 +53,15 @@ fn rows_of_0_to_40_keys_as_one_by_one(rt: HostRuntime) {
             row.put(&key_of(64 * count + number));
         }
         let words = row.words();
-        assert_eq!(rt; words.len() as u64, count);
+        check_same(&rt, &(words.len() as u64), &count, "the number of words");
         for number in 0..count {
             let word = stream_word(&key_of(64 * count + number), round);
-            assert_eq!(rt; words.get(number as usize).copied(), Some(word));
+            check_same(
+                &rt,
+                &words.get(number as usize).copied(),
+                &Some(word),
+                "a word of a row",
+            );
         }
     }
 }
@@ -64,15 +70,19 @@ fn rows_of_0_to_40_keys_as_one_by_one(rt: HostRuntime) {
 #[test]
 fn eight_rounds_as_one_by_one(rt: HostRuntime) {
     let published = words_of_rounds(&key_ending_in(0), 0);
-    assert_eq!(rt; published[0], 0x903d_f1a0_ade0_b876);
-    assert_eq!(rt; published[1], 0xfb78_15c6_d6df_3fef);
+    check_all(
+        &rt,
+        &published[..2],
+        &[0x903d_f1a0_ade0_b876, 0xfb78_15c6_d6df_3fef],
+        "published words",
+    );
     for number in 0..40 {
         let key = key_of(number);
         let first = (next_word(number) >> 33) as u32;
         let words = words_of_rounds(&key, first);
         for round in 0..8u32 {
             let word = stream_word(&key, first + round);
-            assert_eq!(rt; words[round as usize], word);
+            check_same(&rt, &words[round as usize], &word, "a word of a round");
         }
     }
 }
