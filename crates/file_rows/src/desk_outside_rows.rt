@@ -90,30 +90,36 @@ fn check_fetches(
     fetches: &[(&str, u64, Option<FetchError>)],
 ) {
     for (name, most, error) in fetches {
-        assert_eq!(rt;
-            desk.fetch(alloc, name, *most).err(),
-            *error,
-            "{name} {most}"
-        );
+        let came = desk.fetch(alloc, name, *most).err();
+        check_same(rt, &(*most, came), &(*most, *error), name);
     }
+}
+
+// Looks for the listed calls, and for what they left.
+fn check_listed(rt: &impl Abort, desk: &mut MemoryDesk, alloc: Global) {
+    make_calls(rt, desk, alloc);
+    check_calls(rt, desk.calls());
+    check_same(rt, &desk.faults(), &4, "the faults");
+    check_views(rt, desk);
+}
+
+// Fetches what the listed calls put.
+fn check_listed_put(
+    rt: &impl Abort,
+    desk: &mut MemoryDesk,
+    alloc: Global,
+) -> Result<(), FetchError> {
+    check_held(rt, alloc, desk, ("b", 3), b"new")?;
+    check_fetches(rt, alloc, desk, &[("b", 2, Some(FetchError::TooLong(3)))]);
+    Ok(())
 }
 
 #[test]
 fn memory_desk_fails_the_listed_calls_and_absent_names(rt: HostRuntime) -> Result<(), Fail> {
-    let alloc = rt.alloc();
-    let mut desk = MemoryDesk::new(vec![in alloc; 1, 4, 6]?);
+    let mut desk = MemoryDesk::new(vec![in rt.alloc(); 1, 4, 6]?);
     desk.place("a", b"old")?;
-    make_calls(&rt, &mut desk, alloc);
-    check_calls(&rt, desk.calls());
-    check_same(&rt, &desk.faults(), &4, "the faults");
-    check_views(&rt, &desk);
-    check_held(&rt, alloc, &mut desk, ("b", 3), b"new")?;
-    check_fetches(
-        &rt,
-        alloc,
-        &mut desk,
-        &[("b", 2, Some(FetchError::TooLong(3)))],
-    );
+    check_listed(&rt, &mut desk, rt.alloc());
+    check_listed_put(&rt, &mut desk, rt.alloc())?;
     Ok(())
 }
 
@@ -152,35 +158,39 @@ fn check_said(rt: &impl Abort, desk: &mut impl Desk) {
     check_same(rt, &desk.complain(b"\xff"), &failed, "no text");
 }
 
+// Names and bytes that are put, each with its end.
+static PUTS: [(&str, &[u8], Result<(), DeskError>); 4] = [
+    ("desk_test/a", b"longer", Ok(())),
+    ("desk_test/a", b"\xffabc", Ok(())),
+    ("desk_test", b"abc", Err(DeskError::Failed)),
+    ("desk_test/absent/a", b"abc", Err(DeskError::Failed)),
+];
+
+// Names that are fetched after that, each with its limit and its error.
+static FETCHES: [(&str, u64, Option<FetchError>); 6] = [
+    ("desk_test/a", 4, None),
+    ("desk_test/a", 3, Some(FetchError::TooLong(4))),
+    ("desk_test/a", 0, Some(FetchError::TooLong(1))),
+    ("desk_test/absent", 4, Some(FetchError::Failed)),
+    ("desk_test", 4, Some(FetchError::Failed)),
+    ("desk_test/absent/a", 4, Some(FetchError::Failed)),
+];
+
+// Puts and fetches on real files, and says and complains.
+fn put_and_fetch(rt: &impl Abort, alloc: Global, desk: &mut impl Desk) -> Result<(), FetchError> {
+    check_puts(rt, desk, &PUTS);
+    check_held(rt, alloc, desk, ("desk_test/a", u64::MAX), b"\xffabc")?;
+    check_fetches(rt, alloc, desk, &FETCHES);
+    check_said(rt, desk);
+    Ok(())
+}
+
 #[test]
 fn file_desk_on_real_files(rt: HostRuntime) -> Result<(), Fail> {
-    let alloc = rt.alloc();
     empty_folder(&rt, "desk_test")?;
-    let mut desk = FileDesk::new(&rt);
-    let puts = [
-        ("desk_test/a", b"longer".as_slice(), Ok(())),
-        ("desk_test/a", b"\xffabc".as_slice(), Ok(())),
-        ("desk_test", b"abc".as_slice(), Err(DeskError::Failed)),
-        (
-            "desk_test/absent/a",
-            b"abc".as_slice(),
-            Err(DeskError::Failed),
-        ),
-    ];
-    check_puts(&rt, &mut desk, &puts);
-    check_held(&rt, alloc, &mut desk, ("desk_test/a", u64::MAX), b"\xffabc")?;
-    let fetches = [
-        ("desk_test/a", 4, None),
-        ("desk_test/a", 3, Some(FetchError::TooLong(4))),
-        ("desk_test/a", 0, Some(FetchError::TooLong(1))),
-        ("desk_test/absent", 4, Some(FetchError::Failed)),
-        ("desk_test", 4, Some(FetchError::Failed)),
-        ("desk_test/absent/a", 4, Some(FetchError::Failed)),
-    ];
-    check_fetches(&rt, alloc, &mut desk, &fetches);
+    put_and_fetch(&rt, rt.alloc(), &mut FileDesk::new(&rt))?;
     check_count(&rt, "desk_test", 1)?;
     fs::remove_dir_all(&rt, "desk_test")?;
-    check_said(&rt, &mut desk);
     Ok(())
 }
 
@@ -221,35 +231,47 @@ fn check_left(rt: &(impl Files + AllocGlobal + Abort + Clone)) -> io::Result<()>
     check_count(rt, "whole_test", 7)
 }
 
+// Puts of which none is done: on a fetched file by each of its names, on a link to nothing, and by a new file that is written
+// and can't take the name.
+static NOT_PUT: [(&str, Option<&str>); 6] = [
+    ("whole_test/fetched", Some("old")),
+    ("./whole_test/fetched", Some("old")),
+    ("whole_test/to_fetched", Some("old")),
+    ("whole_test/same_file", Some("old")),
+    ("whole_test/to_nothing", None),
+    ("whole_test/no_folder/", None),
+];
+
+// Puts on a file that is there in a folder that takes no new one.
+fn put_own_name(rt: &(impl Files + AllocGlobal + Abort), desk: &mut impl Desk) -> io::Result<()> {
+    let name = "/proc/self/comm";
+    let own_name = fs::read_to_string(rt, name)?;
+    let failed = Err(DeskError::Failed);
+    check_put(rt, desk, name, failed, Some(own_name.as_str()));
+    Ok(())
+}
+
+// Puts whole files after a fetch of one of them.
+fn put_whole(
+    rt: &(impl Files + AllocGlobal + Abort),
+    alloc: Global,
+    desk: &mut impl Desk,
+) -> Result<(), Fail> {
+    let _ = desk.fetch(alloc, "whole_test/fetched", 3)?;
+    for (name, left) in NOT_PUT.iter() {
+        check_put(rt, desk, name, Err(DeskError::Failed), *left);
+    }
+    put_own_name(rt, desk)?;
+    for name in ["whole_test/to_held", "whole_test/made"] {
+        check_put(rt, desk, name, Ok(()), Some("new bytes"));
+    }
+    Ok(())
+}
+
 #[test]
 fn file_desk_puts_whole_files(rt: HostRuntime) -> Result<(), Fail> {
     make_whole_test(&rt)?;
-    let own_name = fs::read_to_string(&rt, "/proc/self/comm")?;
-    let mut desk = FileDesk::new(&rt);
-    let _ = desk.fetch(rt.alloc(), "whole_test/fetched", 3)?;
-    for name in [
-        "whole_test/fetched",
-        "./whole_test/fetched",
-        "whole_test/to_fetched",
-        "whole_test/same_file",
-    ] {
-        check_put(&rt, &mut desk, name, Err(DeskError::Failed), Some("old"));
-    }
-    // A link to nothing; and a new file that is written and can't take the name.
-    for name in ["whole_test/to_nothing", "whole_test/no_folder/"] {
-        check_put(&rt, &mut desk, name, Err(DeskError::Failed), None);
-    }
-    // A file that is there in a folder that takes no new one.
-    check_put(
-        &rt,
-        &mut desk,
-        "/proc/self/comm",
-        Err(DeskError::Failed),
-        Some(own_name.as_str()),
-    );
-    for name in ["whole_test/to_held", "whole_test/made"] {
-        check_put(&rt, &mut desk, name, Ok(()), Some("new bytes"));
-    }
+    put_whole(&rt, rt.alloc(), &mut FileDesk::new(&rt))?;
     check_left(&rt)?;
     fs::remove_dir_all(&rt, "whole_test")?;
     Ok(())
@@ -263,16 +285,43 @@ fn check_piped(rt: &impl Abort, reader: &mut impl Read) -> io::Result<()> {
     Ok(())
 }
 
+// Puts into the pipe of this number.
+fn put_into_pipe(
+    rt: &impl Abort,
+    alloc: Global,
+    desk: &mut impl Desk,
+    number: i32,
+) -> Result<(), AllocError> {
+    let name = format!(in alloc; "/proc/self/fd/{number}")?;
+    check_puts(rt, desk, &[(&name, b"piped", Ok(()))]);
+    Ok(())
+}
+
+// Puts into nothing.
+fn put_into_null(rt: &(impl Files + AllocGlobal + Abort), desk: &mut impl Desk) -> io::Result<()> {
+    check_puts(rt, desk, &[("/dev/null", b"gone", Ok(()))]);
+    check(rt, !fs::metadata(rt, "/dev/null")?.is_file(), "no file");
+    Ok(())
+}
+
+// Puts into a pipe, which is read, and into nothing.
+fn put_into_both(
+    rt: &(impl Files + AllocGlobal + Abort),
+    desk: &mut impl Desk,
+    reader: &mut impl Read,
+    number: i32,
+) -> Result<(), Fail> {
+    put_into_pipe(rt, rt.alloc(), desk, number)?;
+    check_piped(rt, reader)?;
+    put_into_null(rt, desk)?;
+    Ok(())
+}
+
 #[test]
 fn file_desk_writes_a_pipe_as_it_is(rt: HostRuntime) -> Result<(), Fail> {
     let (mut reader, writer) = io::pipe(&rt)?;
-    let name = format!(in rt.alloc(); "/proc/self/fd/{}", writer.as_raw_fd())?;
-    let mut desk = FileDesk::new(&rt);
-    check_puts(&rt, &mut desk, &[(&name, b"piped", Ok(()))]);
-    check_piped(&rt, &mut reader)?;
-    check_puts(&rt, &mut desk, &[("/dev/null", b"gone", Ok(()))]);
-    check(&rt, !fs::metadata(&rt, "/dev/null")?.is_file(), "no file");
-    Ok(())
+    let number = writer.as_raw_fd();
+    put_into_both(&rt, &mut FileDesk::new(&rt), &mut reader, number)
 }
 
 // Bytes of a piece.
@@ -312,6 +361,14 @@ fn whole(rest: &[u8]) -> Made<'_> {
     }
 }
 
+// The pieces of these bytes, after which there is no memory.
+fn broken(rest: &[u8]) -> Made<'_> {
+    Made {
+        rest,
+        is_broken: true,
+    }
+}
+
 // The bytes of 160 pieces, 10 MB, no two pieces alike. So many are written in several groups.
 fn bytes_of_groups(alloc: Global) -> Result<Vec<u8>, AllocError> {
     let mut bytes = Vec::new(alloc);
@@ -321,39 +378,44 @@ fn bytes_of_groups(alloc: Global) -> Result<Vec<u8>, AllocError> {
     Ok(bytes)
 }
 
+// Puts a short file and then a long one under a name.
+fn put_groups(rt: &impl Abort, desk: &mut impl Desk, name: &str, bytes: &[u8]) {
+    check_puts(rt, desk, &[(name, b"old", Ok(())), (name, bytes, Ok(()))]);
+}
+
+// Looks for what the one file of a folder holds, and removes the folder.
+fn check_end(
+    rt: &(impl Files + AllocGlobal + Abort + Clone),
+    (folder, name): (&str, &str),
+    bytes: &[u8],
+) -> io::Result<()> {
+    check_file(rt, (folder, name), bytes, 1)?;
+    fs::remove_dir_all(rt, folder)
+}
+
 #[test]
 fn file_desk_puts_a_file_of_several_groups(rt: HostRuntime) -> Result<(), Fail> {
-    let alloc = rt.alloc();
     empty_folder(&rt, "group_test")?;
+    let bytes = bytes_of_groups(rt.alloc())?;
+    put_groups(&rt, &mut FileDesk::new(&rt), "group_test/a", &bytes);
+    check_end(&rt, ("group_test", "group_test/a"), &bytes)?;
+    Ok(())
+}
+
+// Puts a short file, and then pieces after which there is no memory.
+fn put_broken(rt: &impl Abort, alloc: Global, desk: &mut impl Desk) -> Result<(), AllocError> {
     let bytes = bytes_of_groups(alloc)?;
-    let mut desk = FileDesk::new(&rt);
-    let puts = [
-        ("group_test/a", b"old".as_slice(), Ok(())),
-        ("group_test/a", bytes.as_slice(), Ok(())),
-    ];
-    check_puts(&rt, &mut desk, &puts);
-    let came = fs::read(&rt, "group_test/a")?;
-    check_bytes(&rt, &came, &bytes, "several groups");
-    check_count(&rt, "group_test", 1)?;
-    fs::remove_dir_all(&rt, "group_test")?;
+    check_puts(rt, desk, &[("broken_test/a", b"old", Ok(()))]);
+    let put = desk.put_pieces("broken_test/a", &mut broken(&bytes));
+    check_same(rt, &put, &Err(DeskError::Memory), "the pieces");
     Ok(())
 }
 
 #[test]
 fn file_desk_keeps_a_file_where_pieces_fail_after_a_group(rt: HostRuntime) -> Result<(), Fail> {
-    let alloc = rt.alloc();
     empty_folder(&rt, "broken_test")?;
-    let bytes = bytes_of_groups(alloc)?;
-    let mut desk = FileDesk::new(&rt);
-    check_puts(&rt, &mut desk, &[("broken_test/a", b"old", Ok(()))]);
-    let mut broken = whole(&bytes);
-    broken.is_broken = true;
-    let put = desk.put_pieces("broken_test/a", &mut broken);
-    check_same(&rt, &put, &Err(DeskError::Memory), "the pieces");
-    let came = fs::read(&rt, "broken_test/a")?;
-    check_bytes(&rt, &came, b"old", "the old bytes");
-    check_count(&rt, "broken_test", 1)?;
-    fs::remove_dir_all(&rt, "broken_test")?;
+    put_broken(&rt, rt.alloc(), &mut FileDesk::new(&rt))?;
+    check_end(&rt, ("broken_test", "broken_test/a"), b"old")?;
     Ok(())
 }
 
@@ -411,16 +473,29 @@ fn check_file(
     check_count(rt, folder, count)
 }
 
+// Puts a file in parts.
+fn put_new_bytes(rt: &impl Abort, desk: &mut impl Desk, name: &str) {
+    let parts = [b"".as_slice(), b"new ".as_slice(), b"by".as_slice()];
+    let put = put_in_parts(desk, name, &parts, &mut whole(b"tes"));
+    check_same(rt, &put, &Some(Ok(())), name);
+}
+
+// Puts files in parts, and looks for what they hold.
+fn put_begun_files(
+    rt: &(impl Files + AllocGlobal + Abort),
+    desk: &mut impl Desk,
+) -> io::Result<()> {
+    for name in ["whole_test/to_held", "whole_test/made"] {
+        put_new_bytes(rt, desk, name);
+        check_bytes(rt, &fs::read(rt, name)?, b"new bytes", name);
+    }
+    Ok(())
+}
+
 #[test]
 fn file_desk_puts_files_that_it_began(rt: HostRuntime) -> Result<(), Fail> {
     make_whole_test(&rt)?;
-    let mut desk = FileDesk::new(&rt);
-    for name in ["whole_test/to_held", "whole_test/made"] {
-        let parts = [b"".as_slice(), b"new ".as_slice(), b"by".as_slice()];
-        let put = put_in_parts(&mut desk, name, &parts, &mut whole(b"tes"));
-        check_same(&rt, &put, &Some(Ok(())), name);
-        check_bytes(&rt, &fs::read(&rt, name)?, b"new bytes", name);
-    }
+    put_begun_files(&rt, &mut FileDesk::new(&rt))?;
     check_left(&rt)?;
     fs::remove_dir_all(&rt, "whole_test")?;
     Ok(())
@@ -438,56 +513,69 @@ static NOT_BEGUN: [&str; 7] = [
     "begin_test/absent/a",
 ];
 
+// A folder with a file, with links to it and to nothing.
+fn make_begin_test(rt: &HostRuntime) -> io::Result<()> {
+    empty_folder(rt, "begin_test")?;
+    fs::write(rt, "begin_test/fetched", "old")?;
+    symlink(rt, "fetched", "begin_test/to_fetched")?;
+    symlink(rt, "absent", "begin_test/to_nothing")?;
+    fs::hard_link(rt, "begin_test/fetched", "begin_test/same_file")
+}
+
+// Begins no file after a fetch of one of them.
+fn begin_none(rt: &impl Abort, alloc: Global, desk: &mut impl Desk) -> Result<(), FetchError> {
+    let _ = desk.fetch(alloc, "begin_test/fetched", 3)?;
+    for name in NOT_BEGUN {
+        let put = put_in_parts(desk, name, &[], &mut whole(b"new"));
+        check_same(rt, &put, &None, name);
+    }
+    Ok(())
+}
+
 #[test]
 fn file_desk_begins_no_file_where_a_put_makes_none(rt: HostRuntime) -> Result<(), Fail> {
-    empty_folder(&rt, "begin_test")?;
-    fs::write(&rt, "begin_test/fetched", "old")?;
-    symlink(&rt, "fetched", "begin_test/to_fetched")?;
-    symlink(&rt, "absent", "begin_test/to_nothing")?;
-    fs::hard_link(&rt, "begin_test/fetched", "begin_test/same_file")?;
-    let mut desk = FileDesk::new(&rt);
-    let _ = desk.fetch(rt.alloc(), "begin_test/fetched", 3)?;
-    for name in NOT_BEGUN {
-        let put = put_in_parts(&mut desk, name, &[], &mut whole(b"new"));
-        check_same(&rt, &put, &None, name);
-    }
+    make_begin_test(&rt)?;
+    begin_none(&rt, rt.alloc(), &mut FileDesk::new(&rt))?;
     let place = ("begin_test", "begin_test/fetched");
     check_file(&rt, place, b"old", 4)?;
     fs::remove_dir_all(&rt, "begin_test")?;
     Ok(())
 }
 
+// Puts these bytes in halves.
+fn put_halves(rt: &impl Abort, desk: &mut impl Desk, bytes: &[u8]) {
+    let (front, after) = bytes.split_at(bytes.len() / 2);
+    let name = "append_test/a";
+    let put = put_in_parts(desk, name, &[front, b""], &mut whole(after));
+    check_same(rt, &put, &Some(Ok(())), "several groups");
+}
+
 #[test]
 fn file_desk_appends_several_groups(rt: HostRuntime) -> Result<(), Fail> {
-    let alloc = rt.alloc();
     empty_folder(&rt, "append_test")?;
+    let bytes = bytes_of_groups(rt.alloc())?;
+    put_halves(&rt, &mut FileDesk::new(&rt), &bytes);
+    check_end(&rt, ("append_test", "append_test/a"), &bytes)?;
+    Ok(())
+}
+
+// Puts a short file, begins one that is let go, and begins one whose last pieces fail.
+fn put_and_let_go(rt: &impl Abort, alloc: Global, desk: &mut impl Desk) -> Result<(), AllocError> {
     let bytes = bytes_of_groups(alloc)?;
-    let (front, after) = bytes.split_at(bytes.len() / 2);
-    let mut desk = FileDesk::new(&rt);
-    let name = "append_test/a";
-    let put = put_in_parts(&mut desk, name, &[front, b""], &mut whole(after));
-    check_same(&rt, &put, &Some(Ok(())), "several groups");
-    check_file(&rt, ("append_test", name), &bytes, 1)?;
-    fs::remove_dir_all(&rt, "append_test")?;
+    let name = "let_go_test/a";
+    check_puts(rt, desk, &[(name, b"old", Ok(()))]);
+    let gone = let_go(desk, name, &mut whole(&bytes));
+    check_same(rt, &gone, &Some(Ok(())), "let go");
+    let put = put_in_parts(desk, name, &[&bytes], &mut broken(&bytes));
+    check_same(rt, &put, &Some(Err(DeskError::Memory)), "the pieces");
     Ok(())
 }
 
 #[test]
 fn file_desk_keeps_a_file_where_a_begun_one_is_let_go(rt: HostRuntime) -> Result<(), Fail> {
-    let alloc = rt.alloc();
     empty_folder(&rt, "let_go_test")?;
-    let bytes = bytes_of_groups(alloc)?;
-    let mut broken = whole(&bytes);
-    broken.is_broken = true;
-    let mut desk = FileDesk::new(&rt);
-    let name = "let_go_test/a";
-    check_puts(&rt, &mut desk, &[(name, b"old", Ok(()))]);
-    let gone = let_go(&mut desk, name, &mut whole(&bytes));
-    check_same(&rt, &gone, &Some(Ok(())), "let go");
-    let put = put_in_parts(&mut desk, name, &[&bytes], &mut broken);
-    check_same(&rt, &put, &Some(Err(DeskError::Memory)), "the pieces");
-    check_file(&rt, ("let_go_test", name), b"old", 1)?;
-    fs::remove_dir_all(&rt, "let_go_test")?;
+    put_and_let_go(&rt, rt.alloc(), &mut FileDesk::new(&rt))?;
+    check_end(&rt, ("let_go_test", "let_go_test/a"), b"old")?;
     Ok(())
 }
 
@@ -498,17 +586,22 @@ static BEGUN: [(&[u8], Result<(), DeskError>, &[u8]); 3] = [
     (b"", Ok(()), b"ne"),
 ];
 
+// Puts the listed files.
+fn put_begun_in_memory(rt: &impl Abort, desk: &mut MemoryDesk) {
+    for (last, put, held) in BEGUN.iter() {
+        let parts = [b"n".as_slice(), b"e".as_slice()];
+        let done = put_in_parts(desk, "a", &parts, &mut whole(last));
+        check_same(rt, &done, &Some(*put), "the put");
+        let gone = let_go(desk, "a", &mut whole(b"gone"));
+        check_same(rt, &gone, &Some(Ok(())), "let go");
+        check_same(rt, &desk.held("a"), &Some(*held), "a");
+    }
+}
+
 #[test]
 fn memory_desk_puts_files_that_it_began(rt: HostRuntime) -> Result<(), Fail> {
     let mut desk = MemoryDesk::new(vec![in rt.alloc(); 1]?);
-    for (last, put, held) in BEGUN.iter() {
-        let parts = [b"n".as_slice(), b"e".as_slice()];
-        let done = put_in_parts(&mut desk, "a", &parts, &mut whole(last));
-        check_same(&rt, &done, &Some(*put), "the put");
-        let gone = let_go(&mut desk, "a", &mut whole(b"gone"));
-        check_same(&rt, &gone, &Some(Ok(())), "let go");
-        check_same(&rt, &desk.held("a"), &Some(*held), "a");
-    }
+    put_begun_in_memory(&rt, &mut desk);
     check_same(&rt, &desk.calls().len(), &3, "the calls");
     check_same(&rt, &desk.faults(), &1, "the faults");
     Ok(())

@@ -10,7 +10,7 @@ pub(crate) fn check_same<T: PartialEq + Debug>(rt: &impl Abort, came: &T, value:
 
 /// Looks for these bytes.
 pub(crate) fn check_bytes(rt: &impl Abort, came: &[u8], bytes: &[u8], row: &str) {
-    assert_eq!(rt; came, bytes, "at {row}");
+    check_same(rt, &came, &bytes, row);
 }
 
 /// Asks whether a fact is so.

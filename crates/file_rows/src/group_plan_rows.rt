@@ -21,9 +21,7 @@ fn groups(alloc: Global, rows: &[Row]) -> Result<Vec<GroupPlan>, Fail> {
 fn refusal(
     alloc: Global,
     rows: &[Row],
-    rounds: u32,
-    w1: u32,
-    w2: u32,
+    (rounds, w1, w2): Numbers,
 ) -> Result<Option<PlanError>, Fail> {
     match Plan::new(alloc, &groups(alloc, rows)?, rounds, w1, w2) {
         Ok(_) => Ok(None),
@@ -38,19 +36,31 @@ fn span_refusal(plan: &Plan, spans: &[Span]) -> Option<SpanError> {
     }
 }
 
+// Texts, and whether they are names.
+static NAMES: [(&[u8], bool); 9] = [
+    (b"n", true),
+    (b"north", true),
+    (b"a-Z_09", true),
+    (b"sixteen-letters_", true),
+    (b"", false),
+    (b"a b", false),
+    (b"seventeen-letters", false),
+    (b"n\xc3\xb6rd", false),
+    (b"a.b", false),
+];
+
+// Whether a text is a name, of the same bytes.
+fn is_name(text: &[u8]) -> bool {
+    match Name::new(text) {
+        Some(name) => name.bytes() == text,
+        None => false,
+    }
+}
+
 #[test]
 fn names_of_1_to_16_bytes(rt: HostRuntime) {
-    for text in [b"n".as_slice(), b"north", b"a-Z_09", b"sixteen-letters_"] {
-        assert!(rt; Name::new(text).is_some_and(|name| name.bytes() == text));
-    }
-    for text in [
-        b"".as_slice(),
-        b"a b",
-        b"seventeen-letters",
-        b"n\xc3\xb6rd",
-        b"a.b",
-    ] {
-        assert!(rt; Name::new(text).is_none());
+    for (text, is_so) in NAMES.iter() {
+        check_same(&rt, &(*text, is_name(text)), &(*text, *is_so), "a name");
     }
 }
 
@@ -62,85 +72,84 @@ const LOW: Row = (b"low", 3, 1);
 
 const WIDE: Row = (b"wide", 256, 256);
 
-// Whether the plan of these groups, rounds and windows is refused so, or not at all.
-fn ends_so(
-    alloc: Global,
-    rows: &[Row],
-    (rounds, w1, w2): (u32, u32, u32),
-    error: Option<PlanError>,
-) -> Result<bool, Fail> {
-    Ok(refusal(alloc, rows, rounds, w1, w2)? == error)
-}
+/// Rounds and windows.
+type Numbers = (u32, u32, u32);
 
-// Plans without a group and with one too many.
-fn check_numbers_of_groups(rt: &impl Abort, alloc: Global) -> Result<(), Fail> {
-    let none = Some(PlanError::NoGroup);
-    assert!(rt; ends_so(alloc, &[], (0, 0, 0), none)?);
-    let many = Some(PlanError::TooManyGroups(257));
-    assert!(rt; ends_so(alloc, &[NORTH; 257], (0, 0, 0), many)?);
-    Ok(())
-}
-
-// Plans with a fault in their groups.
-fn check_groups(rt: &impl Abort, alloc: Global) -> Result<(), Fail> {
-    let same = Some(PlanError::SameName(2, 3));
-    let five = [LOW, NORTH, SOUTH, SOUTH, NORTH];
-    assert!(rt; ends_so(alloc, &five, (0, 0, 0), same)?);
-    let meters = Some(PlanError::Meters(1));
-    assert!(rt; ends_so(alloc, &[LOW, SOUTH], (0, 0, 0), meters)?);
-    let floor = Some(PlanError::Floor(1));
-    assert!(rt; ends_so(alloc, &[NORTH, LOW], (0, 0, 0), floor)?);
-    Ok(())
-}
-
-// Plans of a group of 256 meters, the last of which is accepted.
-fn check_limits(rt: &impl Abort, alloc: Global) -> Result<(), Fail> {
-    let rounds = Some(PlanError::Rounds);
-    assert!(rt; ends_so(alloc, &[WIDE], (4097, 0, 0), rounds)?);
-    let window = Some(PlanError::Window);
-    assert!(rt; ends_so(alloc, &[WIDE], (4096, 16, 33), window)?);
-    let readings = Some(PlanError::TooManyReadings(131_328));
-    assert!(rt; ends_so(alloc, &[WIDE], (513, 16, 32), readings)?);
-    assert!(rt; ends_so(alloc, &[WIDE], (512, 16, 32), None)?);
-    Ok(())
-}
+// Groups with rounds and windows, and how their plan is refused: without a group and with one too many, with a fault in their
+// groups, and of a group of 256 meters. The last is accepted.
+static PLANS: [(&[Row], Numbers, Option<PlanError>); 9] = [
+    (&[], (0, 0, 0), Some(PlanError::NoGroup)),
+    (
+        &[NORTH; 257],
+        (0, 0, 0),
+        Some(PlanError::TooManyGroups(257)),
+    ),
+    (
+        &[LOW, NORTH, SOUTH, SOUTH, NORTH],
+        (0, 0, 0),
+        Some(PlanError::SameName(2, 3)),
+    ),
+    (&[LOW, SOUTH], (0, 0, 0), Some(PlanError::Meters(1))),
+    (&[NORTH, LOW], (0, 0, 0), Some(PlanError::Floor(1))),
+    (&[WIDE], (4097, 0, 0), Some(PlanError::Rounds)),
+    (&[WIDE], (4096, 16, 33), Some(PlanError::Window)),
+    (
+        &[WIDE],
+        (513, 16, 32),
+        Some(PlanError::TooManyReadings(131_328)),
+    ),
+    (&[WIDE], (512, 16, 32), None),
+];
 
 #[test]
 fn plans_in_the_order_of_refusals(rt: HostRuntime) -> Result<(), Fail> {
-    check_numbers_of_groups(&rt, rt.alloc())?;
-    check_groups(&rt, rt.alloc())?;
-    check_limits(&rt, rt.alloc())
+    for (rows, numbers, error) in PLANS.iter() {
+        check_same(&rt, &refusal(rt.alloc(), rows, *numbers)?, error, "a plan");
+    }
+    Ok(())
+}
+
+// The third meter of the first group, in round 1 alone.
+const JOINS: Span = Span {
+    group: 0,
+    meter: 2,
+    from: 1,
+    until: 2,
+};
+
+// Looks for who is a member.
+fn check_members(rt: &impl Abort, plan: &Plan) {
+    for (round, meter, is_member) in [(0, 0, true), (0, 2, false), (1, 2, true)] {
+        let is_place = plan.holds(reading_tag(0, round, meter));
+        let is_so = is_place && plan.is_member(0, round, meter) == is_member;
+        check(rt, is_so, "a member");
+    }
+    check_same(rt, &plan.last_tick(), &36, "the last tick");
+}
+
+// Adds an empty span, and one for a meter that has a span.
+fn check_spans(rt: &impl Abort, plan: &Plan) {
+    let empty = Span {
+        from: 1,
+        until: 1,
+        ..JOINS
+    };
+    let refusal = span_refusal(plan, &[JOINS, empty]);
+    check_same(rt, &refusal, &Some(SpanError::Range(1)), "an empty span");
+    let refusal = span_refusal(plan, &[JOINS, Span { from: 0, ..JOINS }]);
+    check_same(rt, &refusal, &Some(SpanError::Twice(1)), "a second span");
+}
+
+// The plan in which a meter joins, copied.
+fn joined(plan: &Plan) -> Result<Plan, Fail> {
+    Ok(plan.with_members(&[JOINS])?.try_copy()?)
 }
 
 #[test]
 fn meter_joins_in_round_1(rt: HostRuntime) -> Result<(), Fail> {
-    let alloc = rt.alloc();
-    let plan = plan_of_north(alloc, 2)?;
-    let span = Span {
-        group: 0,
-        meter: 2,
-        from: 1,
-        until: 2,
-    };
-    let joined = plan.with_members(&[span])?.try_copy()?;
-    for (round, meter, is_member) in [(0, 0, true), (0, 2, false), (1, 2, true)] {
-        assert!(rt; joined.holds(reading_tag(0, round, meter)));
-        check(
-            &rt,
-            joined.is_member(0, round, meter) == is_member,
-            "a member",
-        );
-    }
-    check_same(&rt, &joined.last_tick(), &36, "the last tick");
-    let empty = Span {
-        from: 1,
-        until: 1,
-        ..span
-    };
-    let refusal = span_refusal(&plan, &[span, empty]);
-    check_same(&rt, &refusal, &Some(SpanError::Range(1)), "an empty span");
-    let refusal = span_refusal(&plan, &[span, Span { from: 0, ..span }]);
-    check_same(&rt, &refusal, &Some(SpanError::Twice(1)), "a second span");
+    let plan = plan_of_north(rt.alloc(), 2)?;
+    check_members(&rt, &joined(&plan)?);
+    check_spans(&rt, &plan);
     Ok(())
 }
 
@@ -193,17 +202,21 @@ fn small_table(alloc: Global, plan: &Plan) -> Result<Readings, Fail> {
 
 fn check_presence(rt: &impl Abort, alloc: Global, readings: &Readings) -> Result<(), Fail> {
     let presence = Presence::of(alloc, readings)?;
-    assert!(rt; is_present(&presence, 2)?);
-    assert!(rt; !is_present(&presence, 1)?);
+    check(rt, is_present(&presence, 2)?, "the reading of meter 2");
+    check(rt, !is_present(&presence, 1)?, "the reading of meter 1");
     Ok(())
+}
+
+fn check_small_table(rt: &impl Abort, alloc: Global, plan: &Plan) -> Result<(), Fail> {
+    let readings = small_table(alloc, plan)?;
+    check_same(rt, &reading_of(&readings, 2)?, &Some(30), "a reading");
+    check_presence(rt, alloc, &readings)
 }
 
 #[test]
 fn readings_put_and_taken_out(rt: HostRuntime) -> Result<(), Fail> {
     let plan = plan_of_north(rt.alloc(), 2)?;
-    assert!(rt; is_member(&plan, 2));
-    assert!(rt; is_member(&plan, 1));
-    let readings = small_table(rt.alloc(), &plan)?;
-    check_same(&rt, &reading_of(&readings, 2)?, &Some(30), "a reading");
-    check_presence(&rt, rt.alloc(), &readings)
+    check(&rt, is_member(&plan, 2), "meter 2");
+    check(&rt, is_member(&plan, 1), "meter 1");
+    check_small_table(&rt, rt.alloc(), &plan)
 }

@@ -137,7 +137,7 @@ static BURST: [(&str, bool); 10] = [
 
 // Looks for whether a lane takes an argument.
 fn check_fits(rt: &impl Abort, takes: bool, fits: bool, lane: &str, arg: &str) {
-    assert_eq!(rt; takes, fits, "{lane} {arg}");
+    check_same(rt, &(lane, takes), &(lane, fits), arg);
 }
 
 fn check_clear(rt: &impl Abort, alloc: Global) -> Result<(), Fail> {
@@ -182,24 +182,24 @@ fn check_burst(rt: &impl Abort, alloc: Global) -> Result<(), Fail> {
 
 // A lane takes 64 rules and no more.
 fn check_most_rules(rt: &impl Abort, alloc: Global) -> Result<(), Fail> {
-    let most = many_rules(alloc, 64)?;
-    let takes_most = takes(alloc, &mut Rules::new(), &most)?;
-    check_fits(rt, takes_most, true, "rules", &most);
-    let more = many_rules(alloc, 65)?;
-    let takes_more = takes(alloc, &mut Rules::new(), &more)?;
-    check_fits(rt, takes_more, false, "rules", &more);
+    for (count, fits) in [(64, true), (65, false)] {
+        let arg = many_rules(alloc, count)?;
+        let takes = takes(alloc, &mut Rules::new(), &arg)?;
+        check_fits(rt, takes, fits, "rules", &arg);
+    }
     Ok(())
 }
 
 // The texts that are arguments at all.
 fn check_texts(rt: &impl Abort, alloc: Global) -> Result<(), Fail> {
-    let blank = Arg::new(alloc, b"a b").err();
-    check(rt, blank == Some(ArgError::Byte(1)), "a blank");
-    let deleted = Arg::new(alloc, b"!~\x7f").err();
-    check(rt, deleted == Some(ArgError::Byte(2)), "byte 127");
-    let plain = Arg::new(alloc, b"!,\"~")?;
-    check(rt, plain.text() == "!,\"~", "a plain text");
-    check(rt, Arg::new(alloc, b"")?.text() == "", "an empty text");
+    for (text, byte) in [(b"a b", 1), (b"!~\x7f", 2)] {
+        let error = Arg::new(alloc, text).err();
+        check_same(rt, &error, &Some(ArgError::Byte(byte)), "another byte");
+    }
+    for text in ["!,\"~", ""] {
+        let arg = Arg::new(alloc, text.as_bytes())?;
+        check_same(rt, &arg.text(), &text, "a plain text");
+    }
     Ok(())
 }
 
@@ -252,11 +252,54 @@ fn lane_rows(alloc: Global, rows: &[(&str, &str, (u32, u32))]) -> Result<Vec<Lan
 fn check_posts(rt: &impl Abort, posts: &[Post], fates: &[&[u8]]) {
     check_same(rt, &posts.len(), &fates.len(), "the posts");
     for (post, delays) in posts.iter().zip(fates) {
-        assert_eq!(rt; post.fate.delays(), *delays, "{:?}", post.tag);
+        let came = (post.tag, post.fate.delays());
+        check_same(rt, &came, &(post.tag, *delays), "a post");
     }
 }
 
+// Makes these posts, and looks for their fates.
+fn check_passed(
+    rt: &impl Abort,
+    rack: &mut Rack,
+    posts: &[(u32, Tag)],
+    fates: &[&[u8]],
+) -> Result<(), Fail>
+    requires room { HasRoom (λ b. meaning (b.vtable, b.value)) rack.old }
+    requires none { length (posts_of rack.old) ≡ 0 }
+{
+    check(rt, posts.len() < 100, "the number of posts");
+    if posts.len() < 100 {
+        rack.reserve(posts.len() as u64)?;
+        pass_all(rack, posts);
+    }
+    check_posts(rt, rack.posts(), fates);
+    Ok(())
+}
+
 // Lanes out of a cupboard with one of each kind, hung by these rows, give the posts these fates.
+fn check_hung(
+    rt: &impl Abort,
+    alloc: Global,
+    rows: &[LaneRow],
+    posts: &[(u32, Tag)],
+    fates: &[&[u8]],
+) -> Result<(), Fail> {
+    let mut cupboard: Vec<Box<dyn Lane>> = Vec::new(alloc);
+    cupboard.push(Box::new(alloc, Clear::new())?)?;
+    cupboard.push(Box::new(alloc, Rules::new())?)?;
+    cupboard.push(Box::new(alloc, Seeded::new())?)?;
+    cupboard.push(Box::new(alloc, EveryNth::new())?)?;
+    cupboard.push(Box::new(alloc, Burst::new())?)?;
+    match Rack::fit(alloc, cupboard, rows) {
+        Ok(rack) => {
+            let mut rack = rack;
+            check_passed(rt, &mut rack, posts, fates)
+        }
+        Err(error) => Err(Fail::from(error)),
+    }
+}
+
+// The same for rows of a table.
 fn check_fates(
     rt: &impl Abort,
     alloc: Global,
@@ -264,22 +307,7 @@ fn check_fates(
     posts: &[(u32, Tag)],
     fates: &[&[u8]],
 ) -> Result<(), Fail> {
-    let rows = lane_rows(alloc, rows)?;
-    let mut cupboard: Vec<Box<dyn Lane>> = Vec::new(alloc);
-    cupboard.push(Box::new(alloc, Clear::new())?)?;
-    cupboard.push(Box::new(alloc, Rules::new())?)?;
-    cupboard.push(Box::new(alloc, Seeded::new())?)?;
-    cupboard.push(Box::new(alloc, EveryNth::new())?)?;
-    cupboard.push(Box::new(alloc, Burst::new())?)?;
-    let mut rack = match Rack::fit(alloc, cupboard, &rows) {
-        Ok(rack) => rack,
-        Err(error) => return Err(Fail::from(error)),
-    };
-    assert!(rt; posts.len() < 100);
-    rack.reserve(posts.len() as u64)?;
-    pass_all(&mut rack, posts);
-    check_posts(rt, rack.posts(), fates);
-    Ok(())
+    check_hung(rt, alloc, &lane_rows(alloc, rows)?, posts, fates)
 }
 
 // The same of six posts: three readings at tick 0, an announcement, an answer and a reading of another group.
@@ -428,20 +456,23 @@ fn check_refusal(
     name: &str,
     arg: &str,
 ) {
-    assert_eq!(rt; came, refusal, "{name} {arg}");
+    check_same(rt, &(name, came), &(name, refusal), arg);
 }
+
+// Names and arguments of row 12, each with the cause for which it is refused.
+static REFUSED: [(&str, &str, RackCause); 4] = [
+    ("none", "3:1", RackCause::NoSuchLane),
+    ("every", "3:1", RackCause::NoSuchLane),
+    ("every", "x", RackCause::NoSuchLane),
+    ("burst", "3:0", RackCause::BadArgument),
+];
 
 #[test]
 fn rows_refused(rt: HostRuntime) -> Result<(), Fail> {
     let alloc = rt.alloc();
-    for (name, arg, cause) in [
-        ("none", "3:1", RackCause::NoSuchLane),
-        ("every", "3:1", RackCause::NoSuchLane),
-        ("every", "x", RackCause::NoSuchLane),
-        ("burst", "3:0", RackCause::BadArgument),
-    ] {
+    for (name, arg, cause) in REFUSED.iter() {
         let rows = rows_around(alloc, name, arg)?;
-        check_refusal(&rt, refusal(alloc, &rows)?, (12, cause), name, arg);
+        check_refusal(&rt, refusal(alloc, &rows)?, (12, *cause), name, arg);
     }
     Ok(())
 }

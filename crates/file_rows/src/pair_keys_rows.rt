@@ -4,6 +4,7 @@ use crate::fixtures::{check, check_same};
 use group_plan::Plan;
 use pair_keys::{KeyError, KeyId, KeyPile};
 use row_fixtures::group;
+use std::alloc::Global;
 use std::process::Abort;
 use std::test::Fail;
 
@@ -30,33 +31,47 @@ fn check_pairs(rt: &impl Abort, pile: &mut KeyPile) {
     }
 }
 
+// Puts a key of equal bytes.
+fn put_key(pile: &mut KeyPile, id: KeyId) -> Result<(), KeyError> {
+    match id {
+        KeyId::Own { group, meter } => pile.put_own(group, meter, [8; 32]),
+        KeyId::Pair { group, low, high } => pile.put_pair(group, low, high, [9; 32]),
+    }
+}
+
+// The pile in which this key is the first that is missing, with this key.
+fn with_missing(rt: &impl Abort, pile: KeyPile, missing: KeyId) -> Result<KeyPile, Fail> {
+    let Err(unfinished) = pile.finish() else {
+        return Err(Fail::new("no key is missing"));
+    };
+    check_same(rt, &unfinished.missing, &missing, "a missing key");
+    let mut pile = unfinished.pile;
+    let put = put_key(&mut pile, missing);
+    check_same(rt, &put, &Ok(()), "a key that was missing");
+    Ok(pile)
+}
+
+// A pile for two meters, without a key.
+fn empty_pile(alloc: Global) -> Result<KeyPile, Fail> {
+    let plan = Plan::new(alloc, &[group(b"north", 2, 2)?], 1, 1, 2)?;
+    Ok(KeyPile::new(alloc, &plan)?)
+}
+
+const OWN: KeyId = KeyId::Own { group: 0, meter: 1 };
+
+const PAIR: KeyId = KeyId::Pair {
+    group: 0,
+    low: 0,
+    high: 1,
+};
+
 #[test]
 fn keys_of_two_meters(rt: HostRuntime) -> Result<(), Fail> {
-    let plan = Plan::new(rt.alloc(), &[group(b"north", 2, 2)?], 1, 1, 2)?;
-    let mut pile = KeyPile::new(rt.alloc(), &plan)?;
+    let mut pile = empty_pile(rt.alloc())?;
     check_own(&rt, &mut pile);
     check_pairs(&rt, &mut pile);
-    for missing in [
-        KeyId::Own { group: 0, meter: 1 },
-        KeyId::Pair {
-            group: 0,
-            low: 0,
-            high: 1,
-        },
-    ] {
-        match pile.finish() {
-            Ok(_) => return Err(Fail::new("no key is missing")),
-            Err(unfinished) => {
-                check_same(&rt, &unfinished.missing, &missing, "a missing key");
-                pile = unfinished.pile;
-            }
-        }
-        let put = match missing {
-            KeyId::Own { group, meter } => pile.put_own(group, meter, [8; 32]),
-            KeyId::Pair { group, low, high } => pile.put_pair(group, low, high, [9; 32]),
-        };
-        check_same(&rt, &put, &Ok(()), "a key that was missing");
-    }
+    let pile = with_missing(&rt, pile, OWN)?;
+    let pile = with_missing(&rt, pile, PAIR)?;
     check(&rt, pile.finish().is_ok(), "the end");
     Ok(())
 }

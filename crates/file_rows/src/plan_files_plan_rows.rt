@@ -338,7 +338,7 @@ static FAULTS: [(usize, usize, &str, &str, u32, FileCause); 103] = [
 
 // Looks for this fault.
 fn check_fault(rt: &impl Abort, came: &FileError, fault: &FileError, text: &str, more: &str) {
-    assert_eq!(rt; came, fault, "{text} {more}");
+    check_same(rt, &(more, came), &(more, fault), text);
 }
 
 #[test]
@@ -391,8 +391,9 @@ fn check_plan(rt: &impl Abort, plan: &Plan) {
     let numbers = [plan.rounds(), plan.w1(), plan.w2()];
     check_same(rt, &numbers, &[3, 4, 5], "the numbers");
     for (round, is_member) in [(0, false), (1, true), (2, true)] {
-        let tag = reading_tag(0, round, 1);
-        assert!(rt; plan.holds(tag) && plan.is_member(0, round, 1) == is_member);
+        let is_place = plan.holds(reading_tag(0, round, 1));
+        let is_so = is_place && plan.is_member(0, round, 1) == is_member;
+        check(rt, is_so, "a member");
     }
 }
 
@@ -415,8 +416,9 @@ fn check_lanes(rt: &impl Abort, lanes: &[LaneRow]) {
 // The own keys of two meters end in f1 and f2, and the key of their pair begins with 3.
 fn check_keys(rt: &impl Abort, keys: &KeyTable) {
     let is_place = keys.plan().meters(0) == 2;
-    assert!(rt; is_place && keys.own(0, 0)[31] == 0xf1 && keys.own(0, 1)[31] == 0xf2);
-    assert!(rt; is_place && keys.pair(0, 0, 1)[0] == 3);
+    let are_own = is_place && keys.own(0, 0)[31] == 0xf1 && keys.own(0, 1)[31] == 0xf2;
+    check(rt, are_own, "the own keys");
+    check(rt, is_place && keys.pair(0, 0, 1)[0] == 3, "the pair's key");
 }
 
 // What a plan of three rounds says up to its first member row, and the rows behind that.

@@ -5,6 +5,7 @@ use group_plan::{Plan, Readings, Span};
 use plan_files::{FileCause, FileError, read_readings};
 use row_fixtures::{group, reading_tag};
 use std::alloc::Global;
+use std::process::Abort;
 use std::test::Fail;
 
 // Two rounds of three meters and of two, the last of the three a member in round 1 alone.
@@ -37,27 +38,35 @@ fn reading_at(readings: &Readings, group: u16, round: u32, meter: u8) -> Option<
     readings.get(group, round, meter)
 }
 
+// Groups, rounds and meters, each with its reading.
+static READINGS: [(u16, u32, u8, Option<u64>); 10] = [
+    (0, 0, 0, Some(10)),
+    (0, 0, 1, Some(20)),
+    (0, 0, 2, None),
+    (0, 1, 0, Some(1)),
+    (0, 1, 1, None),
+    (0, 1, 2, Some(1_099_511_627_775)),
+    (1, 0, 0, Some(4)),
+    (1, 0, 1, Some(5)),
+    (1, 1, 0, None),
+    (1, 1, 1, Some(0)),
+];
+
+// Looks for these readings.
+fn check_readings(rt: &impl Abort, readings: &Readings) {
+    for (group, round, meter, reading) in READINGS.iter() {
+        let came = reading_at(readings, *group, *round, *meter);
+        check_same(rt, &came, reading, "a reading");
+    }
+}
+
 #[test]
 fn readings_of_two_groups(rt: HostRuntime) -> Result<(), Fail> {
     let plan = small_plan(rt.alloc())?;
     let text = b"north,0,10,20,\nnorth,1,1,,1099511627775\nsouth,0,4,5\nsouth,1,\"\",0";
-    let Ok(readings) = read_readings(rt.alloc(), &plan, text) else {
-        panic!(rt; "refused")
-    };
-    for (group, round, meter, reading) in [
-        (0, 0, 0, Some(10)),
-        (0, 0, 1, Some(20)),
-        (0, 0, 2, None),
-        (0, 1, 0, Some(1)),
-        (0, 1, 1, None),
-        (0, 1, 2, Some(1_099_511_627_775)),
-        (1, 0, 0, Some(4)),
-        (1, 0, 1, Some(5)),
-        (1, 1, 0, None),
-        (1, 1, 1, Some(0)),
-    ] {
-        let came = reading_at(&readings, group, round, meter);
-        check_same(&rt, &came, &reading, "a reading");
+    match read_readings(rt.alloc(), &plan, text) {
+        Ok(readings) => check_readings(&rt, &readings),
+        Err(_) => return Err(Fail::new("refused")),
     }
     Ok(())
 }

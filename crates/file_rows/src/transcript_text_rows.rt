@@ -1,7 +1,7 @@
 //! Texts of transcripts, read and written, and their first faults.
 
 use crate::fixtures::{check, check_bytes, check_same};
-use group_plan::{Plan, Span};
+use group_plan::{Kind, Plan, Span, Tag};
 use link_lanes::Fate;
 use round_machine::Verdict;
 use row_fixtures::{PLAIN, plan_of_north, reading_tag, with_line};
@@ -93,11 +93,8 @@ fn cut_before_each_byte(rt: HostRuntime) {
         } else {
             ReadError::NoEnd(lines)
         };
-        assert_eq!(rt;
-            fault_of(rt.alloc(), &bytes[..cut]),
-            Some(expected),
-            "{cut}"
-        );
+        let fault = fault_of(rt.alloc(), &bytes[..cut]);
+        check_same(&rt, &(cut, fault), &(cut, Some(expected)), "a cut");
         if bytes[cut] == b'\n' {
             lines = lines.wrapping_add(1);
         }
@@ -197,24 +194,52 @@ begin\n\
 7,t,0,1,r,2,late\n\
 end,1\n";
 
-#[test]
-fn entry_pushed(rt: HostRuntime) -> Result<(), Fail> {
-    let plan = small_plan(rt.alloc())?;
-    let tag = reading_tag(0, 1, 2);
+// The reading of meter 2 in round 1, which comes late.
+const LATE: Line = Line::Take {
+    tag: Tag {
+        group: 0,
+        round: 1,
+        meter: 2,
+        kind: Kind::Reading,
+    },
+    verdict: Verdict::Late,
+};
+
+fn check_late_line(rt: &impl Abort, alloc: Global) -> Result<(), Fail> {
     let fate = Fate::new(&[]).ok().ok_or("no fate")?;
     let entry = Entry {
         tick: 7,
         fate,
-        line: Line::Take {
-            tag,
-            verdict: Verdict::Late,
-        },
+        line: LATE,
     };
-    let line = line_text(rt.alloc(), &entry)?;
-    check_bytes(&rt, &line, b"7,t,0,1,r,2,late", "the line");
-    let mut transcript = Transcript::empty(rt.alloc(), &plan)?;
-    if plan.holds(tag) && fate.delays().is_empty() {
+    let line = line_text(alloc, &entry)?;
+    check_bytes(rt, &line, b"7,t,0,1,r,2,late", "the line");
+    Ok(())
+}
+
+// The transcript of this entry.
+fn late_transcript(alloc: Global, plan: &Plan) -> Result<Transcript, Fail> {
+    let fate = Fate::new(&[]).ok().ok_or("no fate")?;
+    let entry = Entry {
+        tick: 7,
+        fate,
+        line: LATE,
+    };
+    let mut transcript = Transcript::empty(alloc, plan)?;
+    if plan.holds(reading_tag(0, 1, 2)) && fate.delays().is_empty() {
         transcript.push(entry)?;
     }
-    check_text(&rt, rt.alloc(), &transcript, SMALL)
+    Ok(transcript)
+}
+
+fn check_late_transcript(rt: &impl Abort, alloc: Global, plan: &Plan) -> Result<(), Fail> {
+    let transcript = late_transcript(alloc, plan)?;
+    check_text(rt, alloc, &transcript, SMALL)
+}
+
+#[test]
+fn entry_pushed(rt: HostRuntime) -> Result<(), Fail> {
+    let plan = small_plan(rt.alloc())?;
+    check_late_line(&rt, rt.alloc())?;
+    check_late_transcript(&rt, rt.alloc(), &plan)
 }

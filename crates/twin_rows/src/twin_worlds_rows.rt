@@ -3,10 +3,12 @@
 use crate::fixtures::{LATE, check, is_writable};
 use group_plan::{Plan, Span};
 use ideal_masks::Differ;
+use link_lanes::Fate;
 use row_fixtures::{PLAIN, group, keys_of_north, plan_of_north, table, with_line};
 use std::alloc::Global;
+use std::process::Abort;
 use std::test::Fail;
-use transcript_log::{Entry, Transcript};
+use transcript_log::{Entry, Line, Transcript};
 use transcript_text::{ReadError, line_text, write};
 use twin_worlds::{MovedWords, TwinError, moved_text, twin};
 
@@ -108,10 +110,20 @@ fn judged(
 
 // ---- moved words
 
+// What `twin` answers for a text of the plan of `north` in one round.
+fn judged_north(
+    alloc: Global,
+    first: &[u64],
+    second: &[u64],
+    text: &str,
+) -> Result<Result<MovedWords, TwinError>, Fail> {
+    let plan = plan_of_north(alloc, 1)?;
+    judged(alloc, &plan, first, second, text.as_bytes())
+}
+
 // Whether these are the moved words from 10, 20 and 30 to the second table.
 fn moves(alloc: Global, text: &str, second: &[u64], masks: &str) -> Result<bool, Fail> {
-    let plan = plan_of_north(alloc, 1)?;
-    match judged(alloc, &plan, &[10, 20, 30], second, text.as_bytes())? {
+    match judged_north(alloc, &[10, 20, 30], second, text)? {
         Ok(moved) => Ok(moved_text(alloc, &moved)?.as_slice() == masks.as_bytes()),
         Err(_) => Ok(false),
     }
@@ -169,6 +181,40 @@ static OTHER_LINES: [(usize, &str, u64, &str); 8] = [
     ),
 ];
 
+// Whether a line is expected at this tick and with this fate, and has this text.
+fn is_line(
+    alloc: Global,
+    tick: u32,
+    fate: Fate,
+    line: Line,
+    expected_text: &str,
+) -> Result<bool, Fail> {
+    if !is_writable(&line) {
+        return Ok(false);
+    }
+    let text = line_text(alloc, &Entry { tick, fate, line })?;
+    Ok(text.as_slice() == expected_text.as_bytes())
+}
+
+// Whether this line is the first that differs, and this is expected there.
+fn is_expected(
+    alloc: Global,
+    error: &TwinError,
+    number: u64,
+    expected_text: &str,
+) -> Result<bool, Fail> {
+    match error {
+        TwinError::NotThis {
+            line,
+            expected,
+            tick,
+            fate,
+            ..
+        } if *line == number => is_line(alloc, *tick, *fate, *expected, expected_text),
+        _ => Ok(false),
+    }
+}
+
 // Whether this line of the text is the first that differs from what the table gives, and this is expected there.
 fn expects(
     alloc: Global,
@@ -177,29 +223,9 @@ fn expects(
     number: u64,
     expected_text: &str,
 ) -> Result<bool, Fail> {
-    let plan = plan_of_north(alloc, 1)?;
-    match judged(alloc, &plan, first, &[1, 2], text.as_bytes())? {
-        Err(
-            TwinError::NotThis {
-                line,
-                expected,
-                tick,
-                fate,
-                ..
-            },
-        ) => {
-            if !is_writable(&expected) {
-                return Ok(false);
-            }
-            let entry = Entry {
-                tick,
-                fate,
-                line: expected,
-            };
-            let text = line_text(alloc, &entry)?;
-            Ok(line == number && text.as_slice() == expected_text.as_bytes())
-        }
-        _ => Ok(false),
+    match judged_north(alloc, first, &[1, 2], text)?.err() {
+        Some(error) => is_expected(alloc, &error, number, expected_text),
+        None => Ok(false),
     }
 }
 
@@ -232,9 +258,8 @@ fn refuses(
     }
 }
 
-/// The cause that comes first is answered, whatever else there is.
-#[test]
-fn first_causes(rt: HostRuntime) -> Result<(), Fail> {
+// Looks for the first cause where the answer of meter 1 is lost.
+fn check_lost(rt: &impl Abort, alloc: Global) -> Result<(), Fail> {
     let (group, round) = (0, 0);
     let total = Differ::Total {
         group,
@@ -242,30 +267,49 @@ fn first_causes(rt: HostRuntime) -> Result<(), Fail> {
         first: 60,
         second: 6,
     };
+    let is_first = refuses(alloc, 2, LOST, &[1, 2, 3], TwinError::Differ(total))?;
+    check(rt, is_first, "lost_answer_gives_none");
     let presence = Differ::Presence {
         group,
         round,
         meter: 2,
     };
-    let cut = with_line(rt.alloc(), PLAIN, 26, "end,19")?;
-    let other = with_line(rt.alloc(), PLAIN, 9, "1,t,0,0,r,0,again")?;
-    let total = TwinError::Differ(total);
-    let is_first = refuses(rt.alloc(), 2, LOST, &[1, 2, 3], total)?;
-    check(&rt, is_first, "lost_answer_gives_none");
-    let presence = TwinError::Differ(presence);
-    let is_first = refuses(rt.alloc(), 2, LOST, &[1, 2], presence)?;
-    check(&rt, is_first, "presence");
-    let is_first = refuses(rt.alloc(), 3, &other, &[1, 2], TwinError::Head)?;
-    check(&rt, is_first, "other plan");
-    let count = TwinError::Transcript(ReadError::Count(26));
-    let is_first = refuses(rt.alloc(), 3, &cut, &[1, 2], count)?;
-    check(&rt, is_first, "other count");
+    let is_first = refuses(alloc, 2, LOST, &[1, 2], TwinError::Differ(presence))?;
+    check(rt, is_first, "presence");
     Ok(())
+}
+
+// Whether `twin` answers this error where a line of `PLAIN` is changed and the plan is another.
+fn refuses_changed(
+    alloc: Global,
+    number: usize,
+    line: &str,
+    error: TwinError,
+) -> Result<bool, Fail> {
+    let text = with_line(alloc, PLAIN, number, line)?;
+    refuses(alloc, 3, &text, &[1, 2], error)
+}
+
+/// The cause that comes first is answered, whatever else there is.
+#[test]
+fn first_causes(rt: HostRuntime) -> Result<(), Fail> {
+    check_lost(&rt, rt.alloc())?;
+    let other = refuses_changed(rt.alloc(), 9, "1,t,0,0,r,0,again", TwinError::Head)?;
+    check(&rt, other, "other plan");
+    let count = TwinError::Transcript(ReadError::Count(26));
+    let cut = refuses_changed(rt.alloc(), 26, "end,19", count)?;
+    check(&rt, cut, "other count");
+    Ok(())
+}
+
+// The text of an empty transcript.
+fn empty_text(alloc: Global, plan: &Plan) -> Result<Vec<u8>, Fail> {
+    Ok(write(alloc, &Transcript::empty(alloc, plan)?)?)
 }
 
 // Whether `twin` takes an empty transcript of the other plan for one of this plan.
 fn is_same_plan(alloc: Global, plan: &Plan, other: &Plan) -> Result<bool, Fail> {
-    let text = write(alloc, &Transcript::empty(alloc, other)?)?;
+    let text = empty_text(alloc, other)?;
     match judged(alloc, plan, &[], &[], &text)? {
         Ok(_) => Ok(true),
         Err(TwinError::Head) => Ok(false),
@@ -273,32 +317,34 @@ fn is_same_plan(alloc: Global, plan: &Plan, other: &Plan) -> Result<bool, Fail> 
     }
 }
 
-// The plan with this span.
-fn with_member(plan: &Plan, span: Span) -> Result<Plan, Fail> {
-    Ok(plan.with_members(&[span])?)
+// A meter with a span from the first round on.
+fn span(until: u32) -> Span {
+    Span {
+        group: 0,
+        meter: 1,
+        from: 0,
+        until,
+    }
+}
+
+// Whether `twin` takes an empty transcript of the plan with this span for one of the plan.
+fn is_same_with(alloc: Global, plan: &Plan, span: Span) -> Result<bool, Fail> {
+    is_same_plan(alloc, plan, &plan.with_members(&[span])?)
+}
+
+// Looks for whether plans of one round and of two are the same as others.
+fn check_plans(rt: &impl Abort, alloc: Global, plan: &Plan, longer: &Plan) -> Result<(), Fail> {
+    check(rt, is_same_with(alloc, plan, span(1))?, "the same");
+    check(rt, !is_same_plan(alloc, plan, longer)?, "rounds");
+    check(rt, is_same_with(alloc, longer, span(2))?, "both rounds");
+    check(rt, !is_same_with(alloc, longer, span(1))?, "a span");
+    Ok(())
 }
 
 /// Plans are the same where their groups, rounds, windows and spans are.
 #[test]
 fn other_plans(rt: HostRuntime) -> Result<(), Fail> {
     let plan = plan_of_north(rt.alloc(), 1)?;
-    let joins = Span {
-        group: 0,
-        meter: 1,
-        from: 0,
-        until: 1,
-    };
-    let same = with_member(&plan, joins)?;
-    check(&rt, is_same_plan(rt.alloc(), &plan, &same)?, "the same");
     let longer = plan_of_north(rt.alloc(), 2)?;
-    let later = with_member(&longer, Span { until: 2, ..joins })?;
-    check(&rt, !is_same_plan(rt.alloc(), &plan, &longer)?, "rounds");
-    check(
-        &rt,
-        is_same_plan(rt.alloc(), &longer, &later)?,
-        "both rounds",
-    );
-    let first = with_member(&longer, joins)?;
-    check(&rt, !is_same_plan(rt.alloc(), &longer, &first)?, "a span");
-    Ok(())
+    check_plans(&rt, rt.alloc(), &plan, &longer)
 }

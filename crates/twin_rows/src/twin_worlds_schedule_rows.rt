@@ -16,6 +16,7 @@ use pair_keys::{KeyId, KeyTable};
 use plain_transcript::{World, transcript};
 use row_fixtures::{keys_of_north, plan_of_north, put, roll};
 use std::alloc::{AllocError, Global};
+use std::process::Abort;
 use std::test::Fail;
 use transcript_log::{Entry, Event, Line};
 use transcript_text::line_text;
@@ -117,32 +118,54 @@ struct Reckoned {
     totals: Vec<u64>,
 }
 
-fn reckon(alloc: Global, small: &Small) -> Result<Reckoned, AllocError> {
+// Which readings there are.
+fn present(small: &Small) -> [bool; 6] {
     let mut present = [false; 6];
+    for at in 0..6usize {
+        present[at] = small.readings[at].is_some();
+    }
+    present
+}
+
+fn reckon_readings(alloc: Global, small: &Small) -> Result<Vec<u64>, AllocError> {
     let mut readings = Vec::new(alloc);
-    let mut answers = Vec::new(alloc);
-    let mut totals = Vec::new(alloc);
     for round in 0..2u32 {
         for meter in 0..3u8 {
-            let at = place(round, meter);
-            if at < 6 {
-                present[at] = small.readings[at].is_some();
-            }
             let hidden = small.answer(round, meter, 7);
             readings.push(small.reading(round, meter).wrapping_add(hidden))?;
+        }
+    }
+    Ok(readings)
+}
+
+fn reckon_answers(alloc: Global, small: &Small) -> Result<Vec<u64>, AllocError> {
+    let mut answers = Vec::new(alloc);
+    for round in 0..2u32 {
+        for meter in 0..3u8 {
             for missing in 0..8u32 {
                 answers.push(small.answer(round, meter, missing))?;
             }
         }
+    }
+    Ok(answers)
+}
+
+fn reckon_totals(alloc: Global, small: &Small) -> Result<Vec<u64>, AllocError> {
+    let mut totals = Vec::new(alloc);
+    for round in 0..2u32 {
         for meters in 0..8u32 {
             totals.push(small.total(round, meters))?;
         }
     }
+    Ok(totals)
+}
+
+fn reckon(alloc: Global, small: &Small) -> Result<Reckoned, AllocError> {
     Ok(Reckoned {
-        present,
-        readings,
-        answers,
-        totals,
+        present: present(small),
+        readings: reckon_readings(alloc, small)?,
+        answers: reckon_answers(alloc, small)?,
+        totals: reckon_totals(alloc, small)?,
     })
 }
 
@@ -321,20 +344,40 @@ fn put_some(
     }
 }
 
+fn fill(table: &mut Readings, readings: &[Option<u64>; 6]) -> Result<(), Fail>
+    ensures { table.new.plan ≡ table.old.plan }
+{
+    put_some(table, 0, 0, readings[0])?;
+    put_some(table, 0, 1, readings[1])?;
+    put_some(table, 0, 2, readings[2])?;
+    put_some(table, 1, 0, readings[3])?;
+    put_some(table, 1, 1, readings[4])?;
+    put_some(table, 1, 2, readings[5])
+}
+
 fn table(alloc: Global, plan: &Plan, readings: &[Option<u64>; 6]) -> Result<Readings, Fail>
     ensures { IfOk result (λ table. table.plan ≡ plan.now) }
 {
     let mut table = Readings::new(alloc, plan)?;
-    put_some(&mut table, 0, 0, readings[0])?;
-    put_some(&mut table, 0, 1, readings[1])?;
-    put_some(&mut table, 0, 2, readings[2])?;
-    put_some(&mut table, 1, 0, readings[3])?;
-    put_some(&mut table, 1, 1, readings[4])?;
-    put_some(&mut table, 1, 2, readings[5])?;
+    fill(&mut table, readings)?;
     Ok(table)
 }
 
 // ---- texts
+
+// The text of a line at tick 0, without copies.
+fn line_at_start(alloc: Global, line: &Line) -> Result<Vec<u8>, Fail> {
+    let fate = Fate::new(&[]).ok().ok_or("no fate")?;
+    if !is_writable(line) {
+        return Err(Fail::new("no line"));
+    }
+    let entry = Entry {
+        tick: 0,
+        fate,
+        line: *line,
+    };
+    Ok(line_text(alloc, &entry)?)
+}
 
 fn text_of(alloc: Global, lines: &[Line]) -> Result<Vec<u8>, Fail> {
     let mut text = Vec::new(alloc);
@@ -342,18 +385,7 @@ fn text_of(alloc: Global, lines: &[Line]) -> Result<Vec<u8>, Fail> {
         b"meteragg transcript 2\nrounds,2\nwindows,1,2\ngroup,north,3,2\nbegin\n",
     )?;
     for line in lines {
-        let Ok(fate) = Fate::new(&[]) else {
-            return Err(Fail::new("no fate"));
-        };
-        if !is_writable(line) {
-            return Err(Fail::new("no line"));
-        }
-        let entry = Entry {
-            tick: 0,
-            fate,
-            line: *line,
-        };
-        text.extend_from_slice(&line_text(alloc, &entry)?)?;
+        text.extend_from_slice(&line_at_start(alloc, line)?)?;
         text.push(b'\n')?;
     }
     text.extend_from_slice(b"end,44\n")?;
@@ -423,17 +455,19 @@ fn refused(error: &TwinError) -> Found {
     }
 }
 
-fn judge(alloc: Global, seed: u8) -> Result<Found, Fail> {
-    let mut state = u64::from(seed);
-    let keys = keys_of(alloc, seed)?;
-    let first = first_world(&keys, &mut state);
-    let second = second_readings(&first, &mut state);
-    let events = schedule(alloc, &mut state)?;
-    let lines = told(alloc, &first, &events)?;
+// What the two tables come to over these events.
+fn compare(
+    alloc: Global,
+    keys: &KeyTable,
+    first: &Small,
+    second: &[Option<u64>; 6],
+    events: &[Event],
+) -> Result<Found, Fail> {
+    let lines = told(alloc, first, events)?;
     let text = text_of(alloc, &lines)?;
-    match judged(alloc, &keys, &first.readings, &second, &text)? {
+    match judged(alloc, keys, &first.readings, second, &text)? {
         Ok(moved) => {
-            if is_second_world(alloc, &first, &second, &moved, &events, &lines)? {
+            if is_second_world(alloc, first, second, &moved, events, &lines)? {
                 Ok(Found::Twins)
             } else {
                 Ok(Found::Wrong)
@@ -443,16 +477,35 @@ fn judge(alloc: Global, seed: u8) -> Result<Found, Fail> {
     }
 }
 
+fn judge(alloc: Global, seed: u8) -> Result<Found, Fail> {
+    let mut state = u64::from(seed);
+    let keys = keys_of(alloc, seed)?;
+    let first = first_world(&keys, &mut state);
+    let second = second_readings(&first, &mut state);
+    let events = schedule(alloc, &mut state)?;
+    compare(alloc, &keys, &first, &second, &events)
+}
+
+// Looks for no wrong answer.
+fn check_found(rt: &impl Abort, found: Found, seed: u8) {
+    assert!(rt; found != Found::Wrong, "seed {seed}");
+}
+
+// Looks for enough twins.
+fn check_twins(rt: &impl Abort, twins: u32) {
+    assert!(rt; twins > 9, "{twins}");
+}
+
 #[test]
 fn twenty_schedules(rt: HostRuntime) -> Result<(), Fail> {
     let mut twins = 0u32;
     for seed in 0..20u8 {
         let found = judge(rt.alloc(), seed)?;
-        assert!(rt; found != Found::Wrong, "seed {seed}");
+        check_found(&rt, found, seed);
         if found == Found::Twins {
             twins = twins.wrapping_add(1);
         }
     }
-    assert!(rt; twins > 9, "{twins}");
+    check_twins(&rt, twins);
     Ok(())
 }

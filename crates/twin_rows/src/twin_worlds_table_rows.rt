@@ -5,7 +5,7 @@ ghost use Rattle.group_plan.specs.Plans.{is_place};
 ghost use Rattle.blind_core.specs.Blind.{are_places};
 ghost use Rattle.ideal_masks.specs.Order.{AreOfPlan};
 
-use crate::fixtures::LATE;
+use crate::fixtures::{LATE, check};
 use blind_core::{answer, masked};
 use group_plan::{Plan, Readings};
 use ideal_masks::{MaskTable, Offsets, offsets, shift};
@@ -14,6 +14,7 @@ use missing_round::MeterSet;
 use mod_word::Word;
 use row_fixtures::{group, plan_of_north, reading_tag, table};
 use std::alloc::Global;
+use std::process::Abort;
 use std::test::Fail;
 use transcript_log::Transcript;
 use transcript_text::read;
@@ -44,17 +45,23 @@ fn set_pair(masks: &mut MaskTable, low: u8, high: u8, word: u64) -> Result<(), F
     Ok(())
 }
 
+fn set_ideal_words(masks: &mut MaskTable) -> Result<(), Fail>
+    ensures { masks.new.plan ≡ masks.old.plan }
+{
+    set_own(masks, 0, 100)?;
+    set_own(masks, 1, 200)?;
+    set_own(masks, 2, 300)?;
+    set_pair(masks, 0, 1, 5)?;
+    set_pair(masks, 0, 2, 7)?;
+    set_pair(masks, 1, 2, 11)
+}
+
 // The own words 100, 200 and 300, and 5, 7 and 11 for the pairs of 0 and 1, 0 and 2, 1 and 2.
 fn ideal_table(alloc: Global, plan: &Plan) -> Result<MaskTable, Fail>
     ensures { IfOk result (λ masks. masks.plan ≡ plan.now) }
 {
     let mut masks = MaskTable::zeros(alloc, plan)?;
-    set_own(&mut masks, 0, 100)?;
-    set_own(&mut masks, 1, 200)?;
-    set_own(&mut masks, 2, 300)?;
-    set_pair(&mut masks, 0, 1, 5)?;
-    set_pair(&mut masks, 0, 2, 7)?;
-    set_pair(&mut masks, 1, 2, 11)?;
+    set_ideal_words(&mut masks)?;
     Ok(masks)
 }
 
@@ -95,12 +102,16 @@ fn gives_ideal_words(masks: &MaskTable, readings: [u64; 3]) -> Result<bool, Fail
     Ok(true)
 }
 
+fn check_ideal_words(rt: &impl Abort, masks: &MaskTable, readings: [u64; 3]) -> Result<(), Fail> {
+    check(rt, gives_ideal_words(masks, readings)?, "the words");
+    Ok(())
+}
+
 /// The answers are those of the row `answers_open_total_30`.
 #[test]
 fn words_over_ideal_table(rt: HostRuntime) -> Result<(), Fail> {
-    let masks = ideal_table(rt.alloc(), &plan_of_north(rt.alloc(), 1)?)?;
-    assert!(rt; gives_ideal_words(&masks, [10, 20, 30])?);
-    Ok(())
+    let plan = plan_of_north(rt.alloc(), 1)?;
+    check_ideal_words(&rt, &ideal_table(rt.alloc(), &plan)?, [10, 20, 30])
 }
 
 #[test]
@@ -108,7 +119,8 @@ fn higher_meter_subtracts(rt: HostRuntime) -> Result<(), Fail> {
     let plan = Plan::new(rt.alloc(), &[group(b"north", 2, 2)?], 1, 1, 2)?;
     let mut masks = MaskTable::zeros(rt.alloc(), &plan)?;
     set_pair(&mut masks, 0, 1, 1)?;
-    assert_eq!(rt; word_of(&masks, 2, 1, 0)?, Word(18_446_744_073_709_551_615));
+    let word = word_of(&masks, 2, 1, 0)?;
+    check(&rt, word == Word(18_446_744_073_709_551_615), "the word");
     Ok(())
 }
 
@@ -119,39 +131,55 @@ fn shift_by(masks: &mut MaskTable, first: &Readings, offsets: &Offsets)
     shift(masks, offsets);
 }
 
-// Shifts a table by what this transcript moves from 10, 20 and 30 to 15, 15 and 0.
-fn shift_over(alloc: Global, masks: &mut MaskTable, transcript: &Transcript) -> Result<(), Fail>
-    requires { masks.old.plan ≡ transcript.now.plan }
+// What this transcript moves from a table to 15, 15 and 0.
+fn offsets_from(alloc: Global, first: &Readings, transcript: &Transcript) -> Result<Offsets, Fail>
+    requires { first.now.plan ≡ transcript.now.plan }
+    ensures { IfOk result (AreOfPlan first.now.plan) }
 {
-    let plan = transcript.plan();
-    let first = table(alloc, plan, &[10, 20, 30])?;
-    let second = table(alloc, plan, &[15, 15, 0])?;
-    match offsets(alloc, &first, &second, transcript) {
-        Ok(offsets) => {
-            shift_by(masks, &first, &offsets);
-            Ok(())
-        }
+    let second = table(alloc, transcript.plan(), &[15, 15, 0])?;
+    match offsets(alloc, first, &second, transcript) {
+        Ok(offsets) => Ok(offsets),
         Err(_) => Err(Fail::new("no offsets")),
     }
 }
 
-// The ideal table, shifted by what `LATE` moves from 10, 20 and 30 to 15, 15 and 0.
-fn shifted_table(alloc: Global) -> Result<MaskTable, Fail> {
-    let Ok(transcript) = read(alloc, LATE.as_bytes()) else {
-        return Err(Fail::new("no transcript"));
-    };
+// Shifts a table by what this transcript moves from 10, 20 and 30 to 15, 15 and 0.
+fn shift_over(alloc: Global, masks: &mut MaskTable, transcript: &Transcript) -> Result<(), Fail>
+    requires { masks.old.plan ≡ transcript.now.plan }
+{
+    let first = table(alloc, transcript.plan(), &[10, 20, 30])?;
+    let offsets = offsets_from(alloc, &first, transcript)?;
+    shift_by(masks, &first, &offsets);
+    Ok(())
+}
+
+fn late_transcript(alloc: Global) -> Result<Transcript, Fail> {
+    match read(alloc, LATE.as_bytes()) {
+        Ok(transcript) => Ok(transcript),
+        Err(_) => Err(Fail::new("no transcript")),
+    }
+}
+
+// The ideal table, shifted by what this transcript moves from 10, 20 and 30 to 15, 15 and 0.
+fn shifted_table(alloc: Global, transcript: &Transcript) -> Result<MaskTable, Fail> {
     let mut masks = ideal_table(alloc, transcript.plan())?;
-    shift_over(alloc, &mut masks, &transcript)?;
+    shift_over(alloc, &mut masks, transcript)?;
     Ok(masks)
+}
+
+// Looks for the words of the shifted table.
+fn check_shifted(rt: &impl Abort, masks: &MaskTable) -> Result<(), Fail> {
+    check(rt, holds(masks.plan(), 1), "meter 1");
+    check(rt, holds(masks.plan(), 2), "meter 2");
+    if holds(masks.plan(), 1) && holds(masks.plan(), 2) {
+        check(rt, masks.pair(0, 0, 0, 1) == Word(0), "a pair's word");
+        check(rt, masks.own(0, 0, 2) == Word(330), "an own word");
+    }
+    check_ideal_words(rt, masks, [15, 15, 0])
 }
 
 #[test]
 fn ideal_table_shifted(rt: HostRuntime) -> Result<(), Fail> {
-    let masks = shifted_table(rt.alloc())?;
-    assert!(rt; holds(masks.plan(), 1));
-    assert!(rt; holds(masks.plan(), 2));
-    assert_eq!(rt; masks.pair(0, 0, 0, 1), Word(0));
-    assert_eq!(rt; masks.own(0, 0, 2), Word(330));
-    assert!(rt; gives_ideal_words(&masks, [15, 15, 0])?);
-    Ok(())
+    let transcript = late_transcript(rt.alloc())?;
+    check_shifted(&rt, &shifted_table(rt.alloc(), &transcript)?)
 }
