@@ -4,7 +4,7 @@ use std::alloc::{AllocError, AllocFailed};
 use totals_report::ReportRow;
 
 /// What a report that the frames confirm has.
-#[derive(Clone, Copy, Debug, PartialEq, Eq)]
+#[derive(Clone, Copy)]
 pub struct AuditCounts {
     /// The number of its rows.
     pub rows: u32,
@@ -13,7 +13,7 @@ pub struct AuditCounts {
 }
 
 /// Why the frames do not confirm a report.
-#[derive(Clone, Copy, Debug, PartialEq, Eq)]
+#[derive(Clone, Copy)]
 pub enum AuditError {
     /// This line of the transcript's text, counted from 1, is the first that is not possible.
     Line(u64),

@@ -7,7 +7,7 @@ use transcript_log::Entry;
 use transcript_text::ReadError;
 
 /// How a command ends. A name is the word that named the file.
-#[derive(Clone, Copy, Debug)]
+#[derive(Clone, Copy)]
 pub enum Outcome<'a> {
     /// The command was done.
     Done,

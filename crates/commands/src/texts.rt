@@ -27,7 +27,7 @@ pub struct RunInput {
 }
 
 /// The texts of a run. That of the transcript is long, and made only as it is put.
-#[derive(Debug, Drop)]
+#[derive(Drop)]
 pub struct RunTexts {
     pub transcript: Transcript,
     pub report: Vec<u8>,
@@ -35,7 +35,7 @@ pub struct RunTexts {
 }
 
 /// Why there is no run.
-#[derive(Clone, Copy, Debug, PartialEq, Eq)]
+#[derive(Clone, Copy)]
 pub enum Refusal {
     /// The plan file has this fault.
     Plan(FileError),

@@ -14,7 +14,7 @@ const USUAL_WORKERS: u32 = 4;
 const MOST_WORKERS: u64 = 16;
 
 /// The names of the files of `run`.
-#[derive(Clone, Copy, Debug)]
+#[derive(Clone, Copy)]
 pub struct RunFiles<'a> {
     pub plan: &'a str,
     pub readings: &'a str,
@@ -23,7 +23,7 @@ pub struct RunFiles<'a> {
 }
 
 /// `run PLAN READINGS REPORT TRANSCRIPT [WORKERS]`.
-#[derive(Clone, Copy, Debug)]
+#[derive(Clone, Copy)]
 pub struct RunWords<'a> {
     pub files: RunFiles<'a>,
     /// 1 to 16.
@@ -31,14 +31,14 @@ pub struct RunWords<'a> {
 }
 
 /// The names of the files of `audit`.
-#[derive(Clone, Copy, Debug)]
+#[derive(Clone, Copy)]
 pub struct AuditFiles<'a> {
     pub transcript: &'a str,
     pub report: &'a str,
 }
 
 /// The names of the files of `twin`.
-#[derive(Clone, Copy, Debug)]
+#[derive(Clone, Copy)]
 pub struct TwinFiles<'a> {
     pub plan: &'a str,
     pub readings: &'a str,
@@ -48,7 +48,7 @@ pub struct TwinFiles<'a> {
 }
 
 /// A size of made files.
-#[derive(Clone, Copy, Debug)]
+#[derive(Clone, Copy)]
 pub struct Size {
     pub seed: u64,
     /// 1 to 256.
@@ -60,7 +60,7 @@ pub struct Size {
 }
 
 /// `make SEED GROUPS METERS ROUNDS PLAN READINGS`.
-#[derive(Clone, Copy, Debug)]
+#[derive(Clone, Copy)]
 pub struct MakeWords<'a> {
     pub size: Size,
     pub plan: &'a str,
@@ -68,7 +68,7 @@ pub struct MakeWords<'a> {
 }
 
 /// `load SEED GROUPS METERS ROUNDS WORKERS [TRANSCRIPT]`.
-#[derive(Clone, Copy, Debug)]
+#[derive(Clone, Copy)]
 pub struct LoadWords<'a> {
     pub size: Size,
     /// 1 to 16.
@@ -77,14 +77,14 @@ pub struct LoadWords<'a> {
 }
 
 /// The names of the files of `convert`.
-#[derive(Clone, Copy, Debug)]
+#[derive(Clone, Copy)]
 pub struct ConvertFiles<'a> {
     pub old: &'a str,
     pub transcript: &'a str,
 }
 
 /// What the words ask for.
-#[derive(Clone, Copy, Debug)]
+#[derive(Clone, Copy)]
 pub enum Command<'a> {
     /// Runs the values of the plan file and the readings file.
     Run(RunWords<'a>),

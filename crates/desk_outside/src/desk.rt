@@ -10,7 +10,7 @@ use std::marker::Model;
 use thiserror::Error;
 
 /// A desk's four kinds of calls.
-#[derive(Clone, Copy, Debug, PartialEq, Eq)]
+#[derive(Clone, Copy)]
 pub enum DeskKind {
     /// The bytes under a name were asked for.
     Fetch,
@@ -23,7 +23,7 @@ pub enum DeskKind {
 }
 
 /// The name in a call, which is empty for say and complain.
-#[derive(Debug, Drop)]
+#[derive(Drop)]
 pub struct CallName {
     text: String,
 }
@@ -55,7 +55,7 @@ impl CallName {
 }
 
 /// A call in a desk's list of calls.
-#[derive(Debug, Drop)]
+#[derive(Drop)]
 pub struct DeskCall {
     pub kind: DeskKind,
     pub name: CallName,

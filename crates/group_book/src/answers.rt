@@ -4,7 +4,7 @@ use meter_frames::Frame;
 use missing_round::MeterSet;
 
 /// What became of a Send.
-#[derive(Clone, Copy, Debug, PartialEq, Eq)]
+#[derive(Clone, Copy, PartialEq, Eq)]
 pub enum SendAnswer {
     /// The tag is outside the plan.
     Unknown,
@@ -28,7 +28,7 @@ pub enum TakeError {
 }
 
 /// What a round comes to.
-#[derive(Clone, Copy, Debug, PartialEq, Eq)]
+#[derive(Clone, Copy, PartialEq, Eq)]
 pub enum OutcomeState {
     /// It has not ended.
     Running,
@@ -41,7 +41,7 @@ pub enum OutcomeState {
 }
 
 /// The survivors of a round, those so far where it is running, and what it comes to.
-#[derive(Clone, Copy, Debug, PartialEq, Eq)]
+#[derive(Clone, Copy, PartialEq, Eq)]
 pub struct Outcome {
     pub survivors: MeterSet,
     pub state: OutcomeState,

@@ -14,7 +14,7 @@ use round_machine::{Closing, Ending, Round, Verdict};
 use std::marker::Model;
 
 /// The round, who took its announcement, and what was announced and has come of it.
-#[derive(Clone, Copy, Debug)]
+#[derive(Clone, Copy)]
 pub(crate) struct Page {
     round: Round,
     told: MeterSet,

@@ -7,7 +7,7 @@ ghost use Rattle.group_plan.specs.Names.{is_name, is_name_byte, MakesName};
 use std::marker::Model;
 
 /// The name of a group: 1 to 16 bytes, each a letter, a digit, `_` or `-` of ASCII.
-#[derive(Clone, Copy, Debug)]
+#[derive(Clone, Copy)]
 pub struct Name {
     bytes: [u8; 16],
     len: usize,

@@ -15,7 +15,7 @@ use std::alloc::{AllocError, Global};
 use std::marker::Model;
 
 /// A group as a plan states it.
-#[derive(Clone, Copy, Debug, PartialEq, Eq)]
+#[derive(Clone, Copy)]
 pub struct GroupPlan {
     pub name: Name,
     /// How many meters the group has, 2 to 256, numbered from 0.
@@ -74,7 +74,7 @@ impl From<AllocError> for PlanError {
 }
 
 /// The rounds in which a meter is a member: from `from` up to below `until`.
-#[derive(Clone, Copy, Debug)]
+#[derive(Clone, Copy)]
 struct Rounds {
     from: u32,
     until: u32,
@@ -100,7 +100,7 @@ impl Rounds {
 }
 
 /// The groups of meters, the rounds in which each meter is a member, and the windows, all within the limits.
-#[derive(Debug, Drop)]
+#[derive(Drop)]
 pub struct Plan {
     groups: Vec<GroupPlan>,
     /// Where the meters of each group begin.

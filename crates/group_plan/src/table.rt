@@ -10,7 +10,7 @@ use std::alloc::{AllocError, Global};
 use std::marker::Model;
 
 /// The readings of a plan: at each place a number of watt-hours below 2^40, or none. Only members have one.
-#[derive(Debug, Drop)]
+#[derive(Drop)]
 pub struct Readings {
     plan: Plan,
     values: Vec<Option<u64>>,
@@ -77,7 +77,7 @@ impl Readings {
 }
 
 /// Who has a reading.
-#[derive(Debug, Drop)]
+#[derive(Drop)]
 pub struct Presence {
     plan: Plan,
     present: Vec<bool>,

@@ -11,7 +11,7 @@ use group_plan::{Kind, Tag};
 use missing_round::MeterSet;
 
 /// An announced round: its survivors, those of them that sent their answer, and the least of the others.
-#[derive(Clone, Copy, Debug)]
+#[derive(Clone, Copy)]
 pub(crate) struct Chain {
     pub survivors: MeterSet,
     pub answered: MeterSet,
@@ -19,7 +19,7 @@ pub(crate) struct Chain {
 }
 
 /// A pair word that moves, by its higher meter.
-#[derive(Clone, Copy, Debug)]
+#[derive(Clone, Copy)]
 pub(crate) struct Link {
     pub high: u8,
     pub by: u64,

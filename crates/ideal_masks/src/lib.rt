@@ -24,7 +24,7 @@ use std::alloc::AllocError;
 pub use worlds::offsets;
 
 /// How much the mask word of a key moves in a round, added modulo 2^64.
-#[derive(Clone, Copy, Debug, PartialEq, Eq)]
+#[derive(Clone, Copy)]
 pub struct Offset {
     pub id: KeyId,
     pub round: u32,
@@ -32,7 +32,7 @@ pub struct Offset {
 }
 
 /// Why tables of readings don't agree for the events of a transcript. Groups, rounds and meters are counted from 0.
-#[derive(Clone, Copy, Debug, PartialEq, Eq)]
+#[derive(Clone, Copy, PartialEq, Eq)]
 pub enum Differ {
     /// One table alone has a reading at this place, the first such by group, round and meter.
     Presence {

@@ -19,7 +19,7 @@ use pair_keys::KeyId;
 use std::alloc::AllocError;
 
 /// A walk along the meters of a group: those that answered and are still ahead, and the sum of the deltas of those passed.
-#[derive(Clone, Copy, Debug)]
+#[derive(Clone, Copy)]
 struct Walk {
     ahead: MeterSet,
     sum: u64,

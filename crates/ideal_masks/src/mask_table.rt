@@ -17,7 +17,7 @@ use std::alloc::{AllocError, Global};
 use std::marker::Model;
 
 /// The words of a meter in a round.
-#[derive(Debug, Drop)]
+#[derive(Drop)]
 struct MeterWords {
     own: Word,
     /// Those of its pairs with the meters above it, ascending.
@@ -33,7 +33,7 @@ impl Model for MeterWords {
 }
 
 /// The words of a group in a round, by meter.
-#[derive(Debug, Drop)]
+#[derive(Drop)]
 struct RoundWords {
     meters: Vec<MeterWords>,
 }
@@ -48,7 +48,7 @@ impl Model for RoundWords {
 }
 
 /// The words of a group, by round.
-#[derive(Debug, Drop)]
+#[derive(Drop)]
 struct GroupWords {
     rounds: Vec<RoundWords>,
 }
@@ -63,7 +63,7 @@ impl Model for GroupWords {
 }
 
 /// A mask word for each place of a plan and for each pair of meters in a round of it.
-#[derive(Debug, Drop)]
+#[derive(Drop)]
 pub struct MaskTable {
     plan: Plan,
     groups: Vec<GroupWords>,

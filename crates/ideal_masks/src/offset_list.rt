@@ -7,7 +7,7 @@ use std::marker::Model;
 
 /// The mask words that move between two tables of readings, in the order of the masks file: by group, by round, own words
 /// by meter, and then pair words by the lower meter and the higher. None moves by 0.
-#[derive(Debug, Drop)]
+#[derive(Drop)]
 pub struct Offsets {
     moves: Vec<Offset>,
 }

@@ -20,7 +20,7 @@ pub enum RackCause {
 }
 
 /// The row that was refused, by its number in the file, and why.
-#[derive(Clone, Copy, Debug, PartialEq, Eq)]
+#[derive(Clone, Copy, Debug)]
 pub struct RackError {
     pub row: u32,
     pub cause: RackCause,

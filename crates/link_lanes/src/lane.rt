@@ -9,7 +9,7 @@ use group_plan::Tag;
 use std::alloc::{AllocError, Global};
 
 /// Why a lane did not take an argument.
-#[derive(Clone, Copy, Debug, PartialEq, Eq)]
+#[derive(Clone, Copy, Debug)]
 pub enum LaneError {
     /// The lane's own test of the argument is false.
     Refused,

@@ -30,7 +30,7 @@ pub use seeded::Seeded;
 use std::marker::Model;
 
 /// The copies of a posted frame, seen as the list of their delays: 0 to 3 of them, each 1 to 16 ticks, none below the one before it.
-#[derive(Clone, Copy, Debug, PartialEq, Eq)]
+#[derive(Clone, Copy, PartialEq, Eq)]
 pub struct Fate {
     count: u8,
     delays: [u8; 3],
@@ -109,7 +109,7 @@ impl Fate {
 }
 
 /// A post: the tick at which it is made, the frame's tag, and the fate that it got.
-#[derive(Clone, Copy, Debug, PartialEq, Eq)]
+#[derive(Clone, Copy)]
 pub struct Post {
     pub tick: u32,
     pub tag: Tag,

@@ -10,7 +10,7 @@ use std::alloc::{AllocError, Global};
 use std::marker::Model;
 
 /// A lane's argument, seen as its bytes: a text of bytes 0x21 to 0x7e, empty or not.
-#[derive(Debug, Drop)]
+#[derive(Drop)]
 pub struct Arg {
     text: String,
 }
@@ -87,7 +87,7 @@ impl Arg {
 
 /// A row of a plan file that asks for a lane: the row's number in the file, the lane's name and
 /// argument, and the ticks from which and to which it hangs, both included.
-#[derive(Debug, Drop)]
+#[derive(Drop)]
 pub struct LaneRow {
     pub row: u32,
     pub name: Name,

@@ -25,7 +25,7 @@ pub struct Made {
 }
 
 /// Why no files are made.
-#[derive(Clone, Copy, Debug, PartialEq, Eq)]
+#[derive(Clone, Copy)]
 pub enum MakeError {
     /// The groups aren't 1 to 256, the meters of each not 2 to 256 or the rounds not 1 to 4096; or there are more than
     /// 131,072 readings or 1,048,576 pairs.

@@ -51,7 +51,7 @@ pub enum Ending {
 }
 
 /// One round of one group. It keeps two sums of words and no word.
-#[derive(Clone, Copy, Debug, PartialEq, Eq)]
+#[derive(Clone, Copy)]
 pub struct Round {
     members: MeterSet,
     floor: u16,

@@ -8,7 +8,7 @@ use meter_frames::{Frame, FrameError, decode};
 use round_machine::{Closing, Ending, Verdict};
 
 /// What a collector brings to the book: the bytes of a frame to be taken, or a round to be closed or ended.
-#[derive(Clone, Copy, Debug, PartialEq, Eq)]
+#[derive(Clone, Copy, PartialEq, Eq)]
 pub enum Parcel {
     /// The bytes of a frame.
     Bytes([u8; 52]),

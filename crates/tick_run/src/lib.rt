@@ -27,7 +27,7 @@ pub use run::{Finished, run_plan};
 use std::alloc::AllocError;
 
 /// Why there is no run.
-#[derive(Clone, Copy, Debug, PartialEq, Eq)]
+#[derive(Clone, Copy)]
 pub enum RunError {
     /// There was no memory.
     Memory,

@@ -10,7 +10,7 @@ use std::marker::Model;
 pub(crate) const HEADING: &[u8] = b"group,round,survivors,missing,outcome,total";
 
 /// How a round ended.
-#[derive(Clone, Copy, Debug, PartialEq, Eq)]
+#[derive(Clone, Copy, PartialEq, Eq)]
 pub enum RowOutcome {
     /// The round was published with this total, in watt-hours.
     Total(u64),
@@ -23,7 +23,7 @@ pub enum RowOutcome {
 }
 
 /// A row of a report: what became of one round of one group.
-#[derive(Clone, Copy, Debug, PartialEq, Eq)]
+#[derive(Clone, Copy, PartialEq, Eq)]
 pub struct ReportRow {
     /// The name of the group.
     pub name: Name,
@@ -38,7 +38,7 @@ pub struct ReportRow {
 }
 
 /// A report: its rows.
-#[derive(Debug, Drop)]
+#[derive(Drop)]
 pub struct Report {
     rows: Vec<ReportRow>,
 }
@@ -69,7 +69,7 @@ impl Report {
 }
 
 /// Why a text is read as no report.
-#[derive(Clone, Copy, Debug, PartialEq, Eq)]
+#[derive(Clone, Copy, Debug)]
 pub enum ReportError {
     /// This line, counted from 1, is the first that is not of a report's form.
     Line(u64),

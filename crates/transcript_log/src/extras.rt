@@ -13,14 +13,14 @@ use std::mem::size_of;
 const MOST_EXTRAS: usize = 0xffff_ffff;
 
 /// What a line has beside its 12 bytes: a set of meters and a word.
-#[derive(Clone, Copy, Debug)]
+#[derive(Clone, Copy)]
 pub(crate) struct Extra {
     pub set: MeterSet,
     pub word: Word,
 }
 
 /// An extra, with the place of its set. The word stands in two halves: with a number of 64 bits this would take 16 bytes.
-#[derive(Clone, Copy, Debug)]
+#[derive(Clone, Copy)]
 struct SmallExtra {
     set: u32,
     low: u32,
@@ -31,7 +31,7 @@ struct SmallExtra {
 const _: () = prove!(size_of::<SmallExtra>() <= 12);
 
 /// A list of extras. Those one after another that have the same set of meters keep it once.
-#[derive(Debug, Drop)]
+#[derive(Drop)]
 pub(crate) struct Extras {
     extras: Vec<SmallExtra>,
     sets: Vec<MeterSet>,

@@ -22,7 +22,7 @@ pub use round_members::{floor_of, members};
 pub use transcript::Transcript;
 
 /// One step of the protocol: a frame is sent under its tag, one of its copies is taken, or a round is closed or ended.
-#[derive(Clone, Copy, Debug, PartialEq, Eq)]
+#[derive(Clone, Copy)]
 pub enum Event {
     Send(Tag),
     Take(Tag),
@@ -54,7 +54,7 @@ pub enum Line {
 }
 
 /// A line at its tick, with the fate of its frame; the fate is empty where the line has no frame.
-#[derive(Clone, Copy, Debug, PartialEq, Eq)]
+#[derive(Clone, Copy)]
 pub struct Entry {
     pub tick: u32,
     pub fate: Fate,

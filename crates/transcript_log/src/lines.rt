@@ -18,7 +18,7 @@ use std::alloc::{AllocError, Global};
 use std::marker::Model;
 
 /// A list of lines. The sets of meters and the words that some of them have stand in a list of their own.
-#[derive(Debug, Drop)]
+#[derive(Drop)]
 pub struct Lines {
     lines: Vec<SmallLine>,
     extras: Extras,

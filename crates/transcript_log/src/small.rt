@@ -20,7 +20,7 @@ use std::mem::size_of;
 
 /// A line. Where it has a set of meters or a word, `at` is their place in a list of extras. A line that was sent has the
 /// frame's kind in its variant: a field more would not fit.
-#[derive(Clone, Copy, Debug, PartialEq, Eq)]
+#[derive(Clone, Copy)]
 pub(crate) enum SmallLine {
     SentReading {
         meter: u8,

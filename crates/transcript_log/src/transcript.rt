@@ -16,14 +16,14 @@ use std::alloc::{AllocError, Global};
 use std::marker::Model;
 
 /// When a line was written, and the fate of its frame.
-#[derive(Clone, Copy, Debug, PartialEq, Eq)]
+#[derive(Clone, Copy, PartialEq, Eq)]
 pub(crate) struct Stamp {
     pub tick: u32,
     pub fate: Fate,
 }
 
 /// A plan, and the entries of a run of it. Their ticks never fall.
-#[derive(Debug, Drop)]
+#[derive(Drop)]
 pub struct Transcript {
     pub(crate) plan: Plan,
     pub(crate) stamps: Vec<Stamp>,

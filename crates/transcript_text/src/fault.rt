@@ -45,7 +45,7 @@ impl<T: Drop> From<AllocFailed<T>> for ReadError {
 }
 
 /// A line after the head.
-#[derive(Clone, Copy, Debug, PartialEq, Eq)]
+#[derive(Clone, Copy)]
 pub(crate) enum Row {
     Entry(Entry),
     /// The `end` line, with its number.
@@ -53,7 +53,7 @@ pub(crate) enum Row {
 }
 
 /// What is wrong with a line after the head.
-#[derive(Clone, Copy, Debug, PartialEq, Eq)]
+#[derive(Clone, Copy)]
 pub(crate) enum RowFault {
     /// It is no entry and no `end`.
     Form,

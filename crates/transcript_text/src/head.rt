@@ -19,7 +19,7 @@ use group_plan::{GroupPlan, Name, Plan, PlanError, Span, SpanError};
 use std::alloc::Global;
 
 /// What the first three lines say.
-#[derive(Clone, Copy, Debug, PartialEq, Eq)]
+#[derive(Clone, Copy)]
 pub(crate) struct Start {
     pub(crate) rounds: u32,
     pub(crate) w1: u32,
@@ -27,7 +27,7 @@ pub(crate) struct Start {
 }
 
 /// A line after the first three.
-#[derive(Clone, Copy, Debug, PartialEq, Eq)]
+#[derive(Clone, Copy)]
 pub(crate) enum HeadRow {
     Group(GroupPlan),
     Member(Span),

@@ -3,7 +3,7 @@
 use std::collections::VecDeque;
 
 /// What comes next of a text.
-#[derive(Clone, Copy, Debug)]
+#[derive(Clone, Copy)]
 pub(crate) enum Place {
     /// The head.
     Head,
@@ -14,7 +14,7 @@ pub(crate) enum Place {
 }
 
 /// How far a text goes.
-#[derive(Clone, Copy, Debug)]
+#[derive(Clone, Copy)]
 pub(crate) enum Until {
     /// As far as the last entry.
     LastEntry,

@@ -1,7 +1,7 @@
 //! The versions of a transcript's text.
 
 /// The version of a transcript's text.
-#[derive(Clone, Copy, Debug, PartialEq, Eq)]
+#[derive(Clone, Copy)]
 pub enum Version {
     /// Frames of 28 bytes, for groups of up to 64 meters. It is only read.
     One,

@@ -7,7 +7,7 @@ use transcript_log::Line;
 use transcript_text::ReadError;
 
 /// Why `twin` finds no moved words. The first cause in this order is answered.
-#[derive(Clone, Copy, Debug, PartialEq, Eq)]
+#[derive(Clone, Copy, PartialEq, Eq)]
 pub enum TwinError {
     /// The text is refused as a transcript's, for another cause than memory.
     Transcript(ReadError),

@@ -7,7 +7,7 @@ use pair_keys::KeyId;
 use std::marker::Model;
 
 /// A mask word that moves: its key and its round, counted from 0, the word of the key's stream, and the moved word.
-#[derive(Clone, Copy, Debug, PartialEq, Eq)]
+#[derive(Clone, Copy)]
 pub struct MovedRow {
     pub id: KeyId,
     pub round: u32,
@@ -16,7 +16,7 @@ pub struct MovedRow {
 }
 
 /// The mask words that move between two worlds, in the order of the masks file.
-#[derive(Debug, Drop)]
+#[derive(Drop)]
 pub struct MovedWords {
     rows: Vec<MovedRow>,
 }

@@ -9,7 +9,7 @@ use super::{Plan, Rounds, copy_of_groups, copy_of_starts, whole_spans};
 use std::alloc::AllocError;
 
 /// A meter of a group, and the rounds in which it is a member: from `from` up to below `until`.
-#[derive(Clone, Copy, Debug, PartialEq, Eq)]
+#[derive(Clone, Copy)]
 pub struct Span {
     pub group: u32,
     pub meter: u32,
