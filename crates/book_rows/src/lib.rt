@@ -1,7 +1,6 @@
 //! Worked rows of the book, of what feeds it and of what is made of it: sets, frames, rounds, meters, mask words, the link,
-//! workers, whole runs, the report of a book, and the plain program that the book is compared with. They are tests alone, in
-//! modules that are named after the crates below; those of `twin_worlds` are in `twin_rows`, and those of plans, lanes, texts
-//! and files in `file_rows`.
+//! workers, whole runs, the report of a book, the plain program that the book is compared with, and the worlds of a twin. They
+//! are tests alone, in modules that are named after the crates below; those of plans, lanes, texts and files are in `file_rows`.
 //! They stand here because a crate that has tests is proved twice, so those crates have none of their own.
 #![tactic(auto)]
 
@@ -35,3 +34,11 @@ mod shared_book_rows;
 mod tick_run_rows;
 #[cfg(test)]
 mod totals_report_book_rows;
+#[cfg(test)]
+mod transcripts;
+#[cfg(test)]
+mod twin_worlds_rows;
+#[cfg(test)]
+mod twin_worlds_schedule_rows;
+#[cfg(test)]
+mod twin_worlds_table_rows;

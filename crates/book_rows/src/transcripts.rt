@@ -1,5 +1,4 @@
-//! What several modules share: a transcript, what is asked of a line before it is written, and the one assertion that all
-//! rows make, since every assertion of a body is proved by itself.
+//! A transcript, and what is asked of a line before it is written.
 
 ghost use Rattle.std.specs.Prelude.{◌≡◌, true};
 ghost use Rattle.transcript_text.specs.Writing.{IsWritable};
@@ -7,7 +6,6 @@ ghost use Rattle.transcript_text.specs.Writing.{IsWritable};
 use group_plan::Kind;
 use missing_round::MeterSet;
 use mod_word::Word;
-use std::process::Abort;
 use transcript_log::Line;
 
 /// As `PLAIN`, but the reading of meter 2 comes after the Close.
@@ -34,11 +32,6 @@ begin\n\
 3,t,0,0,a,1,fresh\n\
 3,e,0,0,total,30\n\
 end,16\n";
-
-/// Asks whether a fact is so.
-pub(crate) fn check(rt: &impl Abort, is_so: bool, row: &str) {
-    assert!(rt; is_so, "at {row}");
-}
 
 /// Whether a frame of the line is the line's, and one that is written.
 pub(crate) fn is_writable(line: &Line) -> bool

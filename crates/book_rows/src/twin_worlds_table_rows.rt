@@ -5,7 +5,8 @@ ghost use Rattle.group_plan.specs.Plans.{is_place};
 ghost use Rattle.blind_core.specs.Blind.{are_places};
 ghost use Rattle.ideal_masks.specs.Order.{AreOfPlan};
 
-use crate::fixtures::{LATE, check};
+use crate::fixtures::check;
+use crate::transcripts::LATE;
 use blind_core::{answer, masked};
 use group_plan::{Plan, Readings};
 use ideal_masks::{MaskTable, Offsets, offsets, shift};

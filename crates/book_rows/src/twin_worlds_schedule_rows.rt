@@ -5,7 +5,7 @@ ghost use Rattle.std.specs.Prelude.{◌≡◌, ◌+◌, ◌*◌, ◌%◌, ◌<�
 ghost use Rattle.missing_round.specs.Sets.{block_at};
 ghost use Rattle.transcript_log.specs.Rows.{three};
 
-use crate::fixtures::is_writable;
+use crate::transcripts::is_writable;
 use group_plan::{Kind, Plan, Readings, Tag};
 use ideal_masks::Differ;
 use link_lanes::Fate;

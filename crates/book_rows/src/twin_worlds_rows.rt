@@ -1,6 +1,7 @@
 //! Masks files of the plain case, the first lines that differ, and the causes that come first.
 
-use crate::fixtures::{LATE, check, is_writable};
+use crate::fixtures::check;
+use crate::transcripts::{LATE, is_writable};
 use group_plan::{Plan, Span};
 use ideal_masks::Differ;
 use link_lanes::Fate;
