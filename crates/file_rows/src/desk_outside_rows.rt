@@ -378,47 +378,6 @@ fn bytes_of_groups(alloc: Global) -> Result<Vec<u8>, AllocError> {
     Ok(bytes)
 }
 
-// Puts a short file and then a long one under a name.
-fn put_groups(rt: &impl Abort, desk: &mut impl Desk, name: &str, bytes: &[u8]) {
-    check_puts(rt, desk, &[(name, b"old", Ok(())), (name, bytes, Ok(()))]);
-}
-
-// Looks for what the one file of a folder holds, and removes the folder.
-fn check_end(
-    rt: &(impl Files + AllocGlobal + Abort + Clone),
-    (folder, name): (&str, &str),
-    bytes: &[u8],
-) -> io::Result<()> {
-    check_file(rt, (folder, name), bytes, 1)?;
-    fs::remove_dir_all(rt, folder)
-}
-
-#[test]
-fn file_desk_puts_a_file_of_several_groups(rt: HostRuntime) -> Result<(), Fail> {
-    empty_folder(&rt, "group_test")?;
-    let bytes = bytes_of_groups(rt.alloc())?;
-    put_groups(&rt, &mut FileDesk::new(&rt), "group_test/a", &bytes);
-    check_end(&rt, ("group_test", "group_test/a"), &bytes)?;
-    Ok(())
-}
-
-// Puts a short file, and then pieces after which there is no memory.
-fn put_broken(rt: &impl Abort, alloc: Global, desk: &mut impl Desk) -> Result<(), AllocError> {
-    let bytes = bytes_of_groups(alloc)?;
-    check_puts(rt, desk, &[("broken_test/a", b"old", Ok(()))]);
-    let put = desk.put_pieces("broken_test/a", &mut broken(&bytes));
-    check_same(rt, &put, &Err(DeskError::Memory), "the pieces");
-    Ok(())
-}
-
-#[test]
-fn file_desk_keeps_a_file_where_pieces_fail_after_a_group(rt: HostRuntime) -> Result<(), Fail> {
-    empty_folder(&rt, "broken_test")?;
-    put_broken(&rt, rt.alloc(), &mut FileDesk::new(&rt))?;
-    check_end(&rt, ("broken_test", "broken_test/a"), b"old")?;
-    Ok(())
-}
-
 // Appends a part to a file, and has it on the disk where the file gives what does that.
 fn append_and_flush<B: BegunFile>(
     file: &mut B,
@@ -471,6 +430,17 @@ fn check_file(
 ) -> io::Result<()> {
     check_bytes(rt, &fs::read(rt, name)?, bytes, name);
     check_count(rt, folder, count)
+}
+
+// The same, and removes the folder.
+fn check_end(
+    rt: &(impl Files + AllocGlobal + Abort + Clone),
+    (folder, name): (&str, &str),
+    bytes: &[u8],
+    count: usize,
+) -> io::Result<()> {
+    check_file(rt, (folder, name), bytes, count)?;
+    fs::remove_dir_all(rt, folder)
 }
 
 // Puts a file in parts.
@@ -542,40 +512,61 @@ fn file_desk_begins_no_file_where_a_put_makes_none(rt: HostRuntime) -> Result<()
     Ok(())
 }
 
-// Puts these bytes in halves.
-fn put_halves(rt: &impl Abort, desk: &mut impl Desk, bytes: &[u8]) {
+// Puts a short file and then these bytes under a name, and the bytes in halves under another.
+fn put_groups(rt: &impl Abort, desk: &mut impl Desk, bytes: &[u8]) {
+    let name = "group_test/whole";
+    check_puts(rt, desk, &[(name, b"old", Ok(())), (name, bytes, Ok(()))]);
     let (front, after) = bytes.split_at(bytes.len() / 2);
-    let name = "append_test/a";
+    let name = "group_test/halves";
     let put = put_in_parts(desk, name, &[front, b""], &mut whole(after));
     check_same(rt, &put, &Some(Ok(())), "several groups");
 }
 
 #[test]
-fn file_desk_appends_several_groups(rt: HostRuntime) -> Result<(), Fail> {
-    empty_folder(&rt, "append_test")?;
+fn file_desk_puts_and_appends_several_groups(rt: HostRuntime) -> Result<(), Fail> {
+    empty_folder(&rt, "group_test")?;
     let bytes = bytes_of_groups(rt.alloc())?;
-    put_halves(&rt, &mut FileDesk::new(&rt), &bytes);
-    check_end(&rt, ("append_test", "append_test/a"), &bytes)?;
+    put_groups(&rt, &mut FileDesk::new(&rt), &bytes);
+    check_file(&rt, ("group_test", "group_test/whole"), &bytes, 2)?;
+    check_end(&rt, ("group_test", "group_test/halves"), &bytes, 2)?;
     Ok(())
 }
 
-// Puts a short file, begins one that is let go, and begins one whose last pieces fail.
-fn put_and_let_go(rt: &impl Abort, alloc: Global, desk: &mut impl Desk) -> Result<(), AllocError> {
-    let bytes = bytes_of_groups(alloc)?;
-    let name = "let_go_test/a";
-    check_puts(rt, desk, &[(name, b"old", Ok(()))]);
-    let gone = let_go(desk, name, &mut whole(&bytes));
+// The one file of its folder, which is kept.
+const KEPT: (&str, &str) = ("kept_test", "kept_test/a");
+
+// Puts a short file, and then pieces after which there is no memory.
+fn put_broken(rt: &impl Abort, desk: &mut impl Desk, bytes: &[u8]) {
+    check_puts(rt, desk, &[(KEPT.1, b"old", Ok(()))]);
+    let put = desk.put_pieces(KEPT.1, &mut broken(bytes));
+    check_same(rt, &put, &Err(DeskError::Memory), "the pieces");
+}
+
+// Begins a file that is let go, and begins one whose last pieces fail.
+fn begin_and_let_go(rt: &impl Abort, desk: &mut impl Desk, bytes: &[u8]) {
+    let gone = let_go(desk, KEPT.1, &mut whole(bytes));
     check_same(rt, &gone, &Some(Ok(())), "let go");
-    let put = put_in_parts(desk, name, &[&bytes], &mut broken(&bytes));
+    let put = put_in_parts(desk, KEPT.1, &[bytes], &mut broken(bytes));
     check_same(rt, &put, &Some(Err(DeskError::Memory)), "the pieces");
-    Ok(())
+}
+
+// The file is kept each time.
+fn check_kept(
+    rt: &(impl Files + AllocGlobal + Abort + Clone),
+    desk: &mut impl Desk,
+    bytes: &[u8],
+) -> io::Result<()> {
+    put_broken(rt, desk, bytes);
+    check_file(rt, KEPT, b"old", 1)?;
+    begin_and_let_go(rt, desk, bytes);
+    check_end(rt, KEPT, b"old", 1)
 }
 
 #[test]
-fn file_desk_keeps_a_file_where_a_begun_one_is_let_go(rt: HostRuntime) -> Result<(), Fail> {
-    empty_folder(&rt, "let_go_test")?;
-    put_and_let_go(&rt, rt.alloc(), &mut FileDesk::new(&rt))?;
-    check_end(&rt, ("let_go_test", "let_go_test/a"), b"old")?;
+fn file_desk_keeps_a_file_where_pieces_fail_or_one_is_let_go(rt: HostRuntime) -> Result<(), Fail> {
+    empty_folder(&rt, KEPT.0)?;
+    let bytes = bytes_of_groups(rt.alloc())?;
+    check_kept(&rt, &mut FileDesk::new(&rt), &bytes)?;
     Ok(())
 }
 

@@ -10,10 +10,13 @@ use std::test::Fail;
 /// A group's name, meters and floor.
 type Row<'a> = (&'a [u8], u32, u32);
 
-fn groups(alloc: Global, rows: &[Row]) -> Result<Vec<GroupPlan>, Fail> {
+// The groups of these rows, so many times.
+fn groups(alloc: Global, rows: &[Row], times: u32) -> Result<Vec<GroupPlan>, Fail> {
     let mut groups = Vec::new(alloc);
-    for (name, meters, floor) in rows {
-        groups.push(group(name, *meters, *floor)?)?;
+    for _ in 0..times {
+        for (name, meters, floor) in rows {
+            groups.push(group(name, *meters, *floor)?)?;
+        }
     }
     Ok(groups)
 }
@@ -21,19 +24,11 @@ fn groups(alloc: Global, rows: &[Row]) -> Result<Vec<GroupPlan>, Fail> {
 fn refusal(
     alloc: Global,
     rows: &[Row],
+    times: u32,
     (rounds, w1, w2): Numbers,
 ) -> Result<Option<PlanError>, Fail> {
-    match Plan::new(alloc, &groups(alloc, rows)?, rounds, w1, w2) {
-        Ok(_) => Ok(None),
-        Err(error) => Ok(Some(error)),
-    }
-}
-
-fn span_refusal(plan: &Plan, spans: &[Span]) -> Option<SpanError> {
-    match plan.with_members(spans) {
-        Ok(_) => None,
-        Err(error) => Some(error),
-    }
+    let groups = groups(alloc, rows, times)?;
+    Ok(Plan::new(alloc, &groups, rounds, w1, w2).err())
 }
 
 // Texts, and whether they are names.
@@ -75,36 +70,40 @@ const WIDE: Row = (b"wide", 256, 256);
 /// Rounds and windows.
 type Numbers = (u32, u32, u32);
 
-// Groups with rounds and windows, and how their plan is refused: without a group and with one too many, with a fault in their
-// groups, and of a group of 256 meters. The last is accepted.
-static PLANS: [(&[Row], Numbers, Option<PlanError>); 9] = [
-    (&[], (0, 0, 0), Some(PlanError::NoGroup)),
+// Groups, how many times they come, rounds and windows, and how their plan is refused: without a group and with one too many,
+// with a fault in their groups, and of a group of 256 meters. The last is accepted.
+static PLANS: [(&[Row], u32, Numbers, Option<PlanError>); 9] = [
+    (&[], 1, (0, 0, 0), Some(PlanError::NoGroup)),
     (
-        &[NORTH; 257],
+        &[NORTH],
+        257,
         (0, 0, 0),
         Some(PlanError::TooManyGroups(257)),
     ),
     (
         &[LOW, NORTH, SOUTH, SOUTH, NORTH],
+        1,
         (0, 0, 0),
         Some(PlanError::SameName(2, 3)),
     ),
-    (&[LOW, SOUTH], (0, 0, 0), Some(PlanError::Meters(1))),
-    (&[NORTH, LOW], (0, 0, 0), Some(PlanError::Floor(1))),
-    (&[WIDE], (4097, 0, 0), Some(PlanError::Rounds)),
-    (&[WIDE], (4096, 16, 33), Some(PlanError::Window)),
+    (&[LOW, SOUTH], 1, (0, 0, 0), Some(PlanError::Meters(1))),
+    (&[NORTH, LOW], 1, (0, 0, 0), Some(PlanError::Floor(1))),
+    (&[WIDE], 1, (4097, 0, 0), Some(PlanError::Rounds)),
+    (&[WIDE], 1, (4096, 16, 33), Some(PlanError::Window)),
     (
         &[WIDE],
+        1,
         (513, 16, 32),
         Some(PlanError::TooManyReadings(131_328)),
     ),
-    (&[WIDE], (512, 16, 32), None),
+    (&[WIDE], 1, (512, 16, 32), None),
 ];
 
 #[test]
 fn plans_in_the_order_of_refusals(rt: HostRuntime) -> Result<(), Fail> {
-    for (rows, numbers, error) in PLANS.iter() {
-        check_same(&rt, &refusal(rt.alloc(), rows, *numbers)?, error, "a plan");
+    for (rows, times, numbers, error) in PLANS.iter() {
+        let refusal = refusal(rt.alloc(), rows, *times, *numbers)?;
+        check_same(&rt, &refusal, error, "a plan");
     }
     Ok(())
 }
@@ -134,31 +133,32 @@ fn check_spans(rt: &impl Abort, plan: &Plan) {
         until: 1,
         ..JOINS
     };
-    let refusal = span_refusal(plan, &[JOINS, empty]);
+    let refusal = plan.with_members(&[JOINS, empty]).err();
     check_same(rt, &refusal, &Some(SpanError::Range(1)), "an empty span");
-    let refusal = span_refusal(plan, &[JOINS, Span { from: 0, ..JOINS }]);
+    let again = Span { from: 0, ..JOINS };
+    let refusal = plan.with_members(&[JOINS, again]).err();
     check_same(rt, &refusal, &Some(SpanError::Twice(1)), "a second span");
 }
 
-// The plan in which a meter joins, copied.
-fn joined(plan: &Plan) -> Result<Plan, Fail> {
-    Ok(plan.with_members(&[JOINS])?.try_copy()?)
+// Looks for who is a member in a copy of the plan in which a meter joins.
+fn check_joined(rt: &impl Abort, plan: &Plan) -> Result<(), Fail> {
+    check_members(rt, &plan.with_members(&[JOINS])?.try_copy()?);
+    Ok(())
 }
 
 #[test]
 fn meter_joins_in_round_1(rt: HostRuntime) -> Result<(), Fail> {
     let plan = plan_of_north(rt.alloc(), 2)?;
-    check_members(&rt, &joined(&plan)?);
     check_spans(&rt, &plan);
-    Ok(())
+    check_joined(&rt, &plan)
 }
 
-// The reading of a meter of the first group in round 1.
-fn reading_of(readings: &Readings, meter: u8) -> Result<Option<u64>, Fail> {
+// The reading of a meter of the first group in round 1. None where there is no such place.
+fn reading_of(readings: &Readings, meter: u8) -> Option<Option<u64>> {
     if !readings.plan().holds(reading_tag(0, 1, meter)) {
-        return Err(Fail::new("no place of the plan"));
+        return None;
     }
-    Ok(readings.get(0, 1, meter))
+    Some(readings.get(0, 1, meter))
 }
 
 // Takes out the reading of a meter of the first group in round 1.
@@ -170,12 +170,12 @@ fn take_out(readings: &mut Readings, meter: u8) -> Result<(), Fail> {
     Ok(())
 }
 
-// Whether a meter of the first group has a reading in round 1.
-fn is_present(presence: &Presence, meter: u8) -> Result<bool, Fail> {
+// Whether a meter of the first group has a reading in round 1. None where there is no such place.
+fn is_present(presence: &Presence, meter: u8) -> Option<bool> {
     if !presence.plan().holds(reading_tag(0, 1, meter)) {
-        return Err(Fail::new("no place of the plan"));
+        return None;
     }
-    Ok(presence.has(0, 1, meter))
+    Some(presence.has(0, 1, meter))
 }
 
 // Whether the meter of the first group is a member in round 1.
@@ -185,7 +185,7 @@ fn is_member(plan: &Plan, meter: u8) -> bool {
 
 // Puts the readings 20 and 30 of meters 1 and 2 in round 1, of which the first is taken out again.
 fn fill(readings: &mut Readings) -> Result<(), Fail> {
-    if reading_of(readings, 2)?.is_some() {
+    if !matches!(reading_of(readings, 2), Some(None)) {
         return Err(Fail::new("a reading before the first"));
     }
     put(readings, 1, 2, 30)?;
@@ -200,17 +200,20 @@ fn small_table(alloc: Global, plan: &Plan) -> Result<Readings, Fail> {
     Ok(readings)
 }
 
-fn check_presence(rt: &impl Abort, alloc: Global, readings: &Readings) -> Result<(), Fail> {
-    let presence = Presence::of(alloc, readings)?;
-    check(rt, is_present(&presence, 2)?, "the reading of meter 2");
-    check(rt, !is_present(&presence, 1)?, "the reading of meter 1");
-    Ok(())
+// Looks for the reading of meter 2, and for none of meter 1.
+fn check_present(rt: &impl Abort, readings: &Readings, presence: &Presence) {
+    let reading = reading_of(readings, 2);
+    check_same(rt, &reading, &Some(Some(30)), "a reading");
+    let has_reading = [is_present(presence, 1), is_present(presence, 2)];
+    let is_so = [Some(false), Some(true)];
+    check_same(rt, &has_reading, &is_so, "who has a reading");
 }
 
+// Looks for what is in a small table.
 fn check_small_table(rt: &impl Abort, alloc: Global, plan: &Plan) -> Result<(), Fail> {
     let readings = small_table(alloc, plan)?;
-    check_same(rt, &reading_of(&readings, 2)?, &Some(30), "a reading");
-    check_presence(rt, alloc, &readings)
+    check_present(rt, &readings, &Presence::of(alloc, &readings)?);
+    Ok(())
 }
 
 #[test]

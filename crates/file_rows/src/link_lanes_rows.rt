@@ -1,6 +1,6 @@
 //! Fates and lanes: arguments by their forms, fates by lanes, rows that are refused, and lanes that are hung by hand.
 
-ghost use Rattle.std.specs.Prelude.{◌≡◌, ◌<◌, ◌≤◌, ◌+◌, ◌^◌, length};
+ghost use Rattle.std.specs.Prelude.{◌≡◌, ◌<◌, ◌≤◌, ◌+◌, ◌^◌, length, IfOk};
 ghost use Rattle.link_lanes.specs.Racks.{posts_of, spare_of, HasRoom};
 
 use crate::fixtures::{check, check_bytes, check_same};
@@ -10,29 +10,31 @@ use link_lanes::{
     RackCause, Rules, Seeded,
 };
 use row_fixtures::reading_tag;
-use std::alloc::Global;
+use std::alloc::{AllocError, Global};
 use std::cell::Cell;
 use std::process::Abort;
 use std::rc::Rc;
 use std::test::Fail;
 
-// Whether these delays are refused so.
-fn fails(delays: &[u8], error: FateError) -> bool {
-    Fate::new(delays) == Err(error)
-}
+// Delays, and why they are no fate.
+static DELAYS: [(&[u8], Option<FateError>, &str); 6] = [
+    (&[1, 16, 16], None, "first to last"),
+    (&[], None, "no delay"),
+    (&[0, 17, 1, 1], Some(FateError::Copies), "copies"),
+    (&[3, 0], Some(FateError::Delay), "delay 0"),
+    (&[17], Some(FateError::Delay), "delay 17"),
+    (&[2, 4, 3], Some(FateError::Order), "order"),
+];
 
 #[test]
 fn fates_by_delays(rt: HostRuntime) {
-    let first_to_last = Fate::new(&[1, 16, 16]);
-    check(&rt, first_to_last.is_ok(), "first to last");
-    if let Ok(fate) = first_to_last {
-        check_bytes(&rt, fate.delays(), &[1, 16, 16], "first to last");
+    for (delays, error, row) in DELAYS.iter() {
+        let fate = Fate::new(delays);
+        if let Ok(fate) = fate {
+            check_bytes(&rt, fate.delays(), delays, row);
+        }
+        check_same(&rt, &fate.err(), error, row);
     }
-    check(&rt, Fate::new(&[]).is_ok(), "no delay");
-    check(&rt, fails(&[0, 17, 1, 1], FateError::Copies), "copies");
-    check(&rt, fails(&[3, 0], FateError::Delay), "delay 0");
-    check(&rt, fails(&[17], FateError::Delay), "delay 17");
-    check(&rt, fails(&[2, 4, 3], FateError::Order), "order");
 }
 
 fn takes<L: Lane>(alloc: Global, lane: &mut L, arg: &str) -> Result<bool, LaneError> {
@@ -135,84 +137,73 @@ static BURST: [(&str, bool); 10] = [
     ("01:1", false),
 ];
 
-// Looks for whether a lane takes an argument.
-fn check_fits(rt: &impl Abort, takes: bool, fits: bool, lane: &str, arg: &str) {
-    check_same(rt, &(lane, takes), &(lane, fits), arg);
-}
-
-fn check_clear(rt: &impl Abort, alloc: Global) -> Result<(), Fail> {
-    for (arg, fits) in CLEAR.iter() {
-        let takes = takes(alloc, &mut Clear::new(), arg)?;
-        check_fits(rt, takes, *fits, "clear", arg);
+// Looks for whether a new lane takes each argument.
+fn check_args<L: Lane, F: Fn() -> L>(
+    rt: &impl Abort,
+    alloc: Global,
+    lane: &str,
+    new: F,
+    args: &[(&str, bool)],
+) -> Result<(), Fail>
+    requires { F.IsAlwaysCallable new }
+{
+    for (arg, fits) in args {
+        let takes = takes(alloc, &mut new(), arg)?;
+        check_same(rt, &(lane, takes), &(lane, *fits), arg);
     }
     Ok(())
 }
 
-fn check_rules(rt: &impl Abort, alloc: Global) -> Result<(), Fail> {
-    for (arg, fits) in RULES.iter() {
-        let takes = takes(alloc, &mut Rules::new(), arg)?;
-        check_fits(rt, takes, *fits, "rules", arg);
-    }
-    Ok(())
-}
+// So many rules, and whether a lane takes them.
+static MOST_RULES: [(usize, bool); 2] = [(64, true), (65, false)];
 
-fn check_seeded(rt: &impl Abort, alloc: Global) -> Result<(), Fail> {
-    for (arg, fits) in SEEDED.iter() {
-        let takes = takes(alloc, &mut Seeded::new(), arg)?;
-        check_fits(rt, takes, *fits, "seeded", arg);
-    }
-    Ok(())
-}
-
-fn check_every(rt: &impl Abort, alloc: Global) -> Result<(), Fail> {
-    for (arg, fits) in EVERY.iter() {
-        let takes = takes(alloc, &mut EveryNth::new(), arg)?;
-        check_fits(rt, takes, *fits, "every", arg);
-    }
-    Ok(())
-}
-
-fn check_burst(rt: &impl Abort, alloc: Global) -> Result<(), Fail> {
-    for (arg, fits) in BURST.iter() {
-        let takes = takes(alloc, &mut Burst::new(), arg)?;
-        check_fits(rt, takes, *fits, "burst", arg);
-    }
-    Ok(())
-}
-
-// A lane takes 64 rules and no more.
+// Looks for whether a lane takes so many rules.
 fn check_most_rules(rt: &impl Abort, alloc: Global) -> Result<(), Fail> {
-    for (count, fits) in [(64, true), (65, false)] {
-        let arg = many_rules(alloc, count)?;
-        let takes = takes(alloc, &mut Rules::new(), &arg)?;
-        check_fits(rt, takes, fits, "rules", &arg);
+    for (count, fits) in MOST_RULES.iter() {
+        let arg = many_rules(alloc, *count)?;
+        check_args(rt, alloc, "rules", Rules::new, &[(&arg, *fits)])?;
     }
     Ok(())
+}
+
+// Texts, and why they are no arguments.
+static TEXTS: [(&str, Option<ArgError>); 4] = [
+    ("a b", Some(ArgError::Byte(1))),
+    ("!~\x7f", Some(ArgError::Byte(2))),
+    ("!,\"~", None),
+    ("", None),
+];
+
+// Looks for the text of an argument.
+fn check_arg(rt: &impl Abort, arg: &Arg, text: &str) {
+    check_same(rt, &arg.text(), &text, "a plain text");
 }
 
 // The texts that are arguments at all.
-fn check_texts(rt: &impl Abort, alloc: Global) -> Result<(), Fail> {
-    for (text, byte) in [(b"a b", 1), (b"!~\x7f", 2)] {
-        let error = Arg::new(alloc, text).err();
-        check_same(rt, &error, &Some(ArgError::Byte(byte)), "another byte");
+fn check_texts(rt: &impl Abort, alloc: Global) {
+    for (text, error) in TEXTS.iter() {
+        let came = match Arg::new(alloc, text.as_bytes()) {
+            Ok(arg) => {
+                check_arg(rt, &arg, text);
+                None
+            }
+            Err(error) => Some(error),
+        };
+        check_same(rt, &came, error, text);
     }
-    for text in ["!,\"~", ""] {
-        let arg = Arg::new(alloc, text.as_bytes())?;
-        check_same(rt, &arg.text(), &text, "a plain text");
-    }
-    Ok(())
 }
 
 #[test]
 fn arguments_by_form(rt: HostRuntime) -> Result<(), Fail> {
     let alloc = rt.alloc();
-    check_clear(&rt, alloc)?;
-    check_rules(&rt, alloc)?;
+    check_args(&rt, alloc, "clear", Clear::new, &CLEAR)?;
+    check_args(&rt, alloc, "rules", Rules::new, &RULES)?;
     check_most_rules(&rt, alloc)?;
-    check_seeded(&rt, alloc)?;
-    check_every(&rt, alloc)?;
-    check_burst(&rt, alloc)?;
-    check_texts(&rt, alloc)
+    check_args(&rt, alloc, "seeded", Seeded::new, &SEEDED)?;
+    check_args(&rt, alloc, "every", EveryNth::new, &EVERY)?;
+    check_args(&rt, alloc, "burst", Burst::new, &BURST)?;
+    check_texts(&rt, alloc);
+    Ok(())
 }
 
 // Makes these posts.
@@ -239,11 +230,13 @@ fn row(alloc: Global, row: u32, name: &str, arg: &str, span: (u32, u32)) -> Resu
     })
 }
 
-// The lane rows of a table, each as if it stood in row 11 of a file.
+// The lane rows of a table, as if they stood in row 11 of a file and those after it.
 fn lane_rows(alloc: Global, rows: &[(&str, &str, (u32, u32))]) -> Result<Vec<LaneRow>, Fail> {
     let mut lane_rows = Vec::new(alloc);
+    let mut number = 11u32;
     for (name, arg, span) in rows {
-        lane_rows.push(row(alloc, 11, name, arg, *span)?)?;
+        lane_rows.push(row(alloc, number, name, arg, *span)?)?;
+        number = number.wrapping_add(1);
     }
     Ok(lane_rows)
 }
@@ -276,6 +269,21 @@ fn check_passed(
     Ok(())
 }
 
+// Adds two lanes to a cupboard.
+fn add_two(alloc: Global, cupboard: &mut Vec<Box<dyn Lane>>) -> Result<(), AllocError> {
+    cupboard.push(Box::new(alloc, Burst::new())?)?;
+    cupboard.push(Box::new(alloc, EveryNth::new())?)?;
+    Ok(())
+}
+
+// Adds a lane of each other kind.
+fn add_others(alloc: Global, cupboard: &mut Vec<Box<dyn Lane>>) -> Result<(), AllocError> {
+    cupboard.push(Box::new(alloc, Clear::new())?)?;
+    cupboard.push(Box::new(alloc, Rules::new())?)?;
+    cupboard.push(Box::new(alloc, Seeded::new())?)?;
+    Ok(())
+}
+
 // Lanes out of a cupboard with one of each kind, hung by these rows, give the posts these fates.
 fn check_hung(
     rt: &impl Abort,
@@ -284,12 +292,9 @@ fn check_hung(
     posts: &[(u32, Tag)],
     fates: &[&[u8]],
 ) -> Result<(), Fail> {
-    let mut cupboard: Vec<Box<dyn Lane>> = Vec::new(alloc);
-    cupboard.push(Box::new(alloc, Clear::new())?)?;
-    cupboard.push(Box::new(alloc, Rules::new())?)?;
-    cupboard.push(Box::new(alloc, Seeded::new())?)?;
-    cupboard.push(Box::new(alloc, EveryNth::new())?)?;
-    cupboard.push(Box::new(alloc, Burst::new())?)?;
+    let mut cupboard = Vec::new(alloc);
+    add_two(alloc, &mut cupboard)?;
+    add_others(alloc, &mut cupboard)?;
     match Rack::fit(alloc, cupboard, rows) {
         Ok(rack) => {
             let mut rack = rack;
@@ -412,6 +417,9 @@ static TWENTY: [&[u8]; 20] = [
     &[],
 ];
 
+// The lanes that give them.
+static TWENTY_LANES: [Hanging; 2] = [("burst", "1:1", (0, 0)), ("seeded", "7:300:500:16", (0, 0))];
+
 #[test]
 fn fates_by_lanes(rt: HostRuntime) -> Result<(), Fail> {
     let alloc = rt.alloc();
@@ -419,29 +427,13 @@ fn fates_by_lanes(rt: HostRuntime) -> Result<(), Fail> {
         check_six(&rt, alloc, rows, fates)?;
     }
     let many = [(0, reading_tag(0, 0, 0)); 20];
-    check_fates(
-        &rt,
-        alloc,
-        &[("burst", "1:1", (0, 0)), ("seeded", "7:300:500:16", (0, 0))],
-        &many,
-        &TWENTY,
-    )
-}
-
-// The rows 11 to 13 of a file, of which row 12 has this name and argument.
-fn rows_around(alloc: Global, name: &str, arg: &str) -> Result<Vec<LaneRow>, Fail> {
-    let mut rows = Vec::new(alloc);
-    rows.push(row(alloc, 11, "every", "2:1", (0, 9))?)?;
-    rows.push(row(alloc, 12, name, arg, (0, 9))?)?;
-    rows.push(row(alloc, 13, "none", "", (0, 9))?)?;
-    Ok(rows)
+    check_fates(&rt, alloc, &TWENTY_LANES, &many, &TWENTY)
 }
 
 // The row that a cupboard of two lanes doesn't fit, and the cause.
 fn refusal(alloc: Global, rows: &[LaneRow]) -> Result<(u32, RackCause), Fail> {
-    let mut cupboard: Vec<Box<dyn Lane>> = Vec::new(alloc);
-    cupboard.push(Box::new(alloc, Burst::new())?)?;
-    cupboard.push(Box::new(alloc, EveryNth::new())?)?;
+    let mut cupboard = Vec::new(alloc);
+    add_two(alloc, &mut cupboard)?;
     match Rack::fit(alloc, cupboard, rows) {
         Ok(_rack) => Err(Fail::new("fitted")),
         Err(error) => Ok((error.row, error.cause)),
@@ -471,32 +463,54 @@ static REFUSED: [(&str, &str, RackCause); 4] = [
 fn rows_refused(rt: HostRuntime) -> Result<(), Fail> {
     let alloc = rt.alloc();
     for (name, arg, cause) in REFUSED.iter() {
-        let rows = rows_around(alloc, name, arg)?;
+        let around = [
+            ("every", "2:1", (0, 9)),
+            (*name, *arg, (0, 9)),
+            ("none", "", (0, 9)),
+        ];
+        let rows = lane_rows(alloc, &around)?;
         check_refusal(&rt, refusal(alloc, &rows)?, (12, *cause), name, arg);
     }
     Ok(())
 }
 
-#[test]
-fn lane_hung_by_hand(rt: HostRuntime) -> Result<(), Fail> {
-    let alloc = rt.alloc();
+// A rack with this lane alone, which hangs for tick 0.
+fn hung(alloc: Global, lane: Box<dyn Lane>) -> Result<Rack, Fail>
+    requires { (meaning lane).count < 2 ^ 62 }
+    ensures room { IfOk result (HasRoom (λ b. meaning b)) }
+    ensures none { IfOk result (λ rack. length (posts_of rack) ≡ 0) }
+{
     let Ok(rack) = Rack::fit(alloc, Vec::new(alloc), &[]) else {
         return Err(Fail::new("an empty rack"));
     };
     let mut rack = rack;
-    let mut lane = Rules::new();
-    lane.load(alloc, "0.0.r.2=2")?;
-    if rack.hang(Box::new(alloc, lane)?, 0, 0).is_err() {
-        return Err(Fail::new("want of memory"));
+    match rack.hang(lane, 0, 0) {
+        Ok(()) => Ok(rack),
+        Err(_lane) => Err(Fail::new("want of memory")),
     }
+}
+
+// Looks for the fates of three readings, the last of which comes after 2 ticks.
+fn check_readings(rt: &impl Abort, rack: &mut Rack) -> Result<(), Fail>
+    requires room { HasRoom (λ b. meaning (b.vtable, b.value)) rack.old }
+    requires none { length (posts_of rack.old) ≡ 0 }
+{
     rack.reserve(3)?;
     let fate = rack.pass(0, reading_tag(0, 0, 0));
-    check_bytes(&rt, fate.delays(), &[1], "meter 0");
+    check_bytes(rt, fate.delays(), &[1], "meter 0");
     let fate = rack.pass(0, reading_tag(0, 0, 1));
-    check_bytes(&rt, fate.delays(), &[1], "meter 1");
+    check_bytes(rt, fate.delays(), &[1], "meter 1");
     let fate = rack.pass(0, reading_tag(0, 0, 2));
-    check_bytes(&rt, fate.delays(), &[2], "meter 2");
+    check_bytes(rt, fate.delays(), &[2], "meter 2");
     Ok(())
+}
+
+#[test]
+fn lane_hung_by_hand(rt: HostRuntime) -> Result<(), Fail> {
+    let mut lane = Rules::new();
+    lane.load(rt.alloc(), "0.0.r.2=2")?;
+    let mut rack = hung(rt.alloc(), Box::new(rt.alloc(), lane)?)?;
+    check_readings(&rt, &mut rack)
 }
 
 // A lane that counts its drops where others can read them.
@@ -531,26 +545,24 @@ impl Lane for Counted {
     }
 }
 
+// Looks for the number of drops before and after the end of the lane's tick.
+fn check_retired(rt: &impl Abort, rack: &mut Rack, drops: &Cell<u32>) {
+    rack.retire(0);
+    check_same(rt, &drops.get(), &0, "tick 0");
+    rack.retire(1);
+    check_same(rt, &drops.get(), &1, "tick 1");
+    rack.retire(2);
+}
+
 #[test]
 fn retired_lane_dropped_once(rt: HostRuntime) -> Result<(), Fail> {
-    let alloc = rt.alloc();
-    let drops = Rc::new(alloc, Cell::new(0))?;
-    let Ok(rack) = Rack::fit(alloc, Vec::new(alloc), &[]) else {
-        return Err(Fail::new("an empty rack"));
-    };
-    let mut rack = rack;
+    let drops = Rc::new(rt.alloc(), Cell::new(0))?;
     let lane = Counted {
         count: 0,
         drops: Rc::clone(&drops)?,
     };
-    if rack.hang(Box::new(alloc, lane)?, 0, 0).is_err() {
-        return Err(Fail::new("want of memory"));
-    }
-    rack.retire(0);
-    check_same(&rt, &drops.get(), &0, "tick 0");
-    rack.retire(1);
-    check_same(&rt, &drops.get(), &1, "tick 1");
-    rack.retire(2);
+    let mut rack = hung(rt.alloc(), Box::new(rt.alloc(), lane)?)?;
+    check_retired(&rt, &mut rack, &drops);
     drop(rack);
     check_same(&rt, &drops.get(), &1, "the end");
     Ok(())

@@ -8,25 +8,29 @@ use std::alloc::Global;
 use std::process::Abort;
 use std::test::Fail;
 
-// Puts own keys: one of the plan, the same again, and others outside the plan.
-fn check_own(rt: &impl Abort, pile: &mut KeyPile) {
-    let own = KeyId::Own { group: 0, meter: 0 };
-    for (group, meter, expected) in [
-        (0, 0, Ok(())),
-        (0, 0, Err(KeyError::Twice(own))),
-        (0, 2, Err(KeyError::Range)),
-        (0, 256, Err(KeyError::Range)),
-        (1, 0, Err(KeyError::Range)),
-        (65536, 0, Err(KeyError::Range)),
-    ] {
-        check_same(rt, &pile.put_own(group, meter, [7; 32]), &expected, "own");
-    }
-}
+const TWICE: KeyError = KeyError::Twice(KeyId::Own { group: 0, meter: 0 });
 
-// Puts keys of pairs outside the plan.
-fn check_pairs(rt: &impl Abort, pile: &mut KeyPile) {
-    for (low, high) in [(0, 0), (1, 0), (1, 1), (0, 2)] {
-        let put = pile.put_pair(0, low, high, [7; 32]);
+// Groups and meters of own keys: one of the plan, the same again, and others outside the plan.
+static OWN_KEYS: [(u32, u32, Result<(), KeyError>); 6] = [
+    (0, 0, Ok(())),
+    (0, 0, Err(TWICE)),
+    (0, 2, Err(KeyError::Range)),
+    (0, 256, Err(KeyError::Range)),
+    (1, 0, Err(KeyError::Range)),
+    (65536, 0, Err(KeyError::Range)),
+];
+
+// Pairs of the first group that are outside the plan.
+static PAIRS: [(u32, u32); 4] = [(0, 0), (1, 0), (1, 1), (0, 2)];
+
+// Puts these keys.
+fn check_puts(rt: &impl Abort, pile: &mut KeyPile) {
+    for (group, meter, expected) in OWN_KEYS.iter() {
+        let put = pile.put_own(*group, *meter, [7; 32]);
+        check_same(rt, &put, expected, "own");
+    }
+    for (low, high) in PAIRS.iter() {
+        let put = pile.put_pair(0, *low, *high, [7; 32]);
         check_same(rt, &put, &Err(KeyError::Range), "a pair");
     }
 }
@@ -68,8 +72,7 @@ const PAIR: KeyId = KeyId::Pair {
 #[test]
 fn keys_of_two_meters(rt: HostRuntime) -> Result<(), Fail> {
     let mut pile = empty_pile(rt.alloc())?;
-    check_own(&rt, &mut pile);
-    check_pairs(&rt, &mut pile);
+    check_puts(&rt, &mut pile);
     let pile = with_missing(&rt, pile, OWN)?;
     let pile = with_missing(&rt, pile, PAIR)?;
     check(&rt, pile.finish().is_ok(), "the end");

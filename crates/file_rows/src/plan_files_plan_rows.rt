@@ -71,16 +71,6 @@ fn read(alloc: Global, bytes: &[u8]) -> Result<PlanFile, FileError> {
     read_plan(alloc, bytes)
 }
 
-fn fault_of(alloc: Global, bytes: &[u8]) -> FileError {
-    match read(alloc, bytes) {
-        Ok(_) => FileError {
-            row: 0,
-            cause: FileCause::Extra,
-        },
-        Err(error) => error,
-    }
-}
-
 const OWN_0: KeyId = KeyId::Own { group: 0, meter: 0 };
 
 const OWN_1: KeyId = KeyId::Own { group: 0, meter: 1 };
@@ -336,9 +326,17 @@ static FAULTS: [(usize, usize, &str, &str, u32, FileCause); 103] = [
     ),
 ];
 
-// Looks for this fault.
-fn check_fault(rt: &impl Abort, came: &FileError, fault: &FileError, text: &str, more: &str) {
-    check_same(rt, &(more, came), &(more, fault), text);
+// Looks for this fault of a file.
+fn check_fault(
+    rt: &impl Abort,
+    alloc: Global,
+    file: &[u8],
+    fault: FileError,
+    text: &str,
+    more: &str,
+) {
+    let came = read(alloc, file).err();
+    check_same(rt, &(more, came), &(more, Some(fault)), text);
 }
 
 #[test]
@@ -346,8 +344,8 @@ fn first_faults_of_plans(rt: HostRuntime) -> Result<(), Fail> {
     for case in FAULTS.iter() {
         let (from, until, text, more, row, cause) = *case;
         let file = plan_file(rt.alloc(), from, until, text, more)?;
-        let fault = fault_of(rt.alloc(), &file);
-        check_fault(&rt, &fault, &FileError { row, cause }, text, more);
+        let fault = FileError { row, cause };
+        check_fault(&rt, rt.alloc(), &file, fault, text, more);
     }
     Ok(())
 }
@@ -449,18 +447,23 @@ const QUOTED_HEAD: &str = "rounds,\"3\"\nwindows,4,5\n\"group\",east,2,\"2\"\nme
 const EXCHANGED_REST: &str =
     "lane,seeded,1:2:3:4,0,43\npair,0,0,1,0300000000000000000000000000000000000000000000000000000000000000\nown,0,1,00000000000000000000000000000000000000000000000000000000000000F2\nown,0,0,00000000000000000000000000000000000000000000000000000000000000f1\nlane,clear,,2,2";
 
-// Spellings of this plan: the first rows, those behind them, and a byte of the file with what stands in its place.
-static SPELLINGS: [(&str, &str, u8, &str); 10] = [
-    (HEAD, REST, b'\n', "\n"),
-    (HEAD, REST, b'\n', "\n\n"),
-    (HEAD, REST, b'\n', "\r\n"),
-    (HEAD, REST, b'\n', "\r"),
-    (HEAD, REST, b'f', "F"),
-    (HEAD, REST, b'F', "f"),
-    (QUOTED_HEAD, REST, b'\n', "\n"),
-    (QUOTED_HEAD, REST, b'\n', "\r\n"),
-    (HEAD, EXCHANGED_REST, b'\n', "\n"),
-    (QUOTED_HEAD, EXCHANGED_REST, b'\n', "\n"),
+// Spellings of this plan: the first rows, those behind them, and bytes of the file, each with what stands in its place.
+static SPELLINGS: [(&str, &str, &[(u8, &str)]); 4] = [
+    (
+        HEAD,
+        REST,
+        &[
+            (b'\n', "\n"),
+            (b'\n', "\n\n"),
+            (b'\n', "\r\n"),
+            (b'\n', "\r"),
+            (b'f', "F"),
+            (b'F', "f"),
+        ],
+    ),
+    (QUOTED_HEAD, REST, &[(b'\n', "\n"), (b'\n', "\r\n")]),
+    (HEAD, EXCHANGED_REST, &[(b'\n', "\n")]),
+    (QUOTED_HEAD, EXCHANGED_REST, &[(b'\n', "\n")]),
 ];
 
 // The file with a text in place of each such byte.
@@ -476,26 +479,27 @@ fn respelled(alloc: Global, file: &[u8], old: u8, new: &str) -> Result<Vec<u8>, 
     Ok(out)
 }
 
-// A spelling of the plan, without the end of its last line.
-fn spelling(
+// Reads a file in these spellings, each without and with the end of its last line.
+fn check_spellings(
+    rt: &impl Abort,
     alloc: Global,
-    head: &str,
-    rest: &str,
-    old: u8,
-    new: &str,
-) -> Result<Vec<u8>, AllocError> {
-    let file = plan_file(alloc, 2, 10, head, rest)?;
-    respelled(alloc, file.as_slice(), old, new)
+    file: &[u8],
+    spellings: &[(u8, &str)],
+) -> Result<(), AllocError> {
+    for (old, new) in spellings {
+        let mut file = respelled(alloc, file, *old, new)?;
+        check_value(rt, alloc, &file);
+        file.push(b'\n')?;
+        check_value(rt, alloc, &file);
+    }
+    Ok(())
 }
 
 #[test]
 fn spellings_of_a_plan(rt: HostRuntime) -> Result<(), Fail> {
-    for case in SPELLINGS.iter() {
-        let (head, rest, old, new) = *case;
-        let mut file = spelling(rt.alloc(), head, rest, old, new)?;
-        check_value(&rt, rt.alloc(), file.as_slice());
-        file.push(b'\n')?;
-        check_value(&rt, rt.alloc(), file.as_slice());
+    for (head, rest, spellings) in SPELLINGS.iter() {
+        let file = plan_file(rt.alloc(), 2, 10, head, rest)?;
+        check_spellings(&rt, rt.alloc(), &file, spellings)?;
     }
     Ok(())
 }
@@ -566,8 +570,8 @@ fn plans_of_many_keys(rt: HostRuntime) -> Result<(), Fail> {
         let (first, second, row) = *case;
         let file = long_plan(rt.alloc(), [first, second])?;
         let cause = FileCause::Hex;
-        let fault = fault_of(rt.alloc(), &file);
-        check_fault(&rt, &fault, &FileError { row, cause }, "a long plan", "");
+        let fault = FileError { row, cause };
+        check_fault(&rt, rt.alloc(), &file, fault, "a long plan", "");
     }
     let file = long_plan(rt.alloc(), [(0, 0), (0, 0)])?;
     check(&rt, read(rt.alloc(), &file).is_ok(), "a long plan");

@@ -25,10 +25,7 @@ fn fault_of_readings(alloc: Global, plan: &Plan, text: &[u8]) -> Option<FileErro
     if text.len() > 1 << 28 {
         return None;
     }
-    match read_readings(alloc, plan, text) {
-        Ok(_) => None,
-        Err(error) => Some(error),
-    }
+    read_readings(alloc, plan, text).err()
 }
 
 fn reading_at(readings: &Readings, group: u16, round: u32, meter: u8) -> Option<u64> {

@@ -7,9 +7,11 @@ use std::process::Abort;
 use std::test::Fail;
 use totals_report::{ReportError, ReportRow, RowOutcome, read_report, row_text};
 
-// A report with these lines below its heading.
-fn with_heading(alloc: Global, lines: &str) -> Result<Vec<u8>, Fail> {
-    let mut text = Vec::from_slice(alloc, b"group,round,survivors,missing,outcome,total\n")?;
+const HEADING: &str = "group,round,survivors,missing,outcome,total\n";
+
+// A report with these lines below this heading.
+fn with_heading(alloc: Global, heading: &str, lines: &str) -> Result<Vec<u8>, Fail> {
+    let mut text = Vec::from_slice(alloc, heading.as_bytes())?;
     text.extend_from_slice(lines.as_bytes())?;
     Ok(text)
 }
@@ -58,7 +60,7 @@ fn check_one_row(
 
 // Reads a report of one line.
 fn check_line(rt: &impl Abort, alloc: Global, line: &str, expected: Expected) -> Result<(), Fail> {
-    let mut text = with_heading(alloc, line)?;
+    let mut text = with_heading(alloc, HEADING, line)?;
     text.push(b'\n')?;
     match read_report(alloc, text.as_slice()) {
         Ok(report) => check_one_row(rt, alloc, report.rows(), line, expected),
@@ -136,15 +138,22 @@ static LINES: [(&str, Option<u64>); 30] = [
     ("north,0,3,-,lacking,\n", Some(2)),
 ];
 
-#[test]
-fn first_faulty_lines(rt: HostRuntime) -> Result<(), Fail> {
-    let alloc = rt.alloc();
-    for (text, line) in TEXTS.iter() {
-        check_same(&rt, &fault_of(alloc, text.as_bytes())?, line, text);
-    }
-    for (lines, line) in LINES.iter() {
-        let text = with_heading(alloc, lines)?;
-        check_same(&rt, &fault_of(alloc, &text)?, line, lines);
+// Looks for the first faulty line of each text below a heading.
+fn check_faults(
+    rt: &impl Abort,
+    alloc: Global,
+    heading: &str,
+    texts: &[(&str, Option<u64>)],
+) -> Result<(), Fail> {
+    for (lines, line) in texts {
+        let text = with_heading(alloc, heading, lines)?;
+        check_same(rt, &fault_of(alloc, &text)?, line, lines);
     }
     Ok(())
+}
+
+#[test]
+fn first_faulty_lines(rt: HostRuntime) -> Result<(), Fail> {
+    check_faults(&rt, rt.alloc(), "", &TEXTS)?;
+    check_faults(&rt, rt.alloc(), HEADING, &LINES)
 }

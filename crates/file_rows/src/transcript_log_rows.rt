@@ -100,10 +100,18 @@ fn check_tail(rt: &impl Abort, tail: &Transcript) {
     }
 }
 
-// Looks for two entries, of which the tail has the second.
-fn check_draft(rt: &impl Abort, draft: &Draft, journal: &Lines) -> Result<(), AllocError>
-    requires { journal.now.items ≡ lines_of draft.now.entries }
+// Adds the two entries, and looks for both in the draft, and for the second in its tail.
+fn check_draft(
+    rt: &impl Abort,
+    plan: &Plan,
+    draft: &mut Draft,
+    journal: &mut Lines,
+) -> Result<(), Fail>
+    requires plan { draft.old.plan ≡ plan.now }
+    requires entries { draft.old.entries ≡ [] }
+    requires lines { journal.old.items ≡ [] }
 {
+    fill(plan, draft, journal)?;
     check_same(rt, &draft.len(), &2, "the draft");
     if draft.len() == 2 {
         check_tail(rt, &draft.tail(journal, 1)?);
@@ -111,15 +119,22 @@ fn check_draft(rt: &impl Abort, draft: &Draft, journal: &Lines) -> Result<(), Al
     Ok(())
 }
 
-fn check_drafted(rt: &impl Abort, alloc: Global, plan: &Plan) -> Result<(), Fail> {
-    let mut journal = Lines::new(alloc);
+// The same of a new draft.
+fn check_drafted(
+    rt: &impl Abort,
+    alloc: Global,
+    plan: &Plan,
+    journal: &mut Lines,
+) -> Result<(), Fail>
+    requires { journal.old.items ≡ [] }
+{
     let mut draft = Draft::with_room(alloc, plan, 2)?;
-    fill(plan, &mut draft, &mut journal)?;
-    check_draft(rt, &draft, &journal)?;
-    Ok(())
+    check_draft(rt, plan, &mut draft, journal)
 }
 
 #[test]
 fn second_entry(rt: HostRuntime) -> Result<(), Fail> {
-    check_drafted(&rt, rt.alloc(), &plan_of_north(rt.alloc(), 1)?)
+    let plan = plan_of_north(rt.alloc(), 1)?;
+    let mut journal = Lines::new(rt.alloc());
+    check_drafted(&rt, rt.alloc(), &plan, &mut journal)
 }

@@ -5,14 +5,14 @@ use group_plan::{Kind, Plan, Span, Tag};
 use link_lanes::Fate;
 use round_machine::Verdict;
 use row_fixtures::{PLAIN, plan_of_north, reading_tag, with_line};
-use std::alloc::Global;
+use std::alloc::{AllocError, Global};
 use std::process::Abort;
 use std::test::Fail;
 use transcript_log::{Entry, Line, Transcript, members};
 use transcript_text::{ReadError, line_text, read, read_old, write};
 
 /// The plain case in version 1.
-const OLD: &str = "\
+static OLD: &str = "\
 meteragg transcript 1\n\
 rounds,1\n\
 windows,1,2\n\
@@ -42,13 +42,6 @@ end,20\n";
 
 const WHOLE: Option<ReadError> = None;
 
-fn fault_of(alloc: Global, bytes: &[u8]) -> Option<ReadError> {
-    match read(alloc, bytes) {
-        Ok(_) => None,
-        Err(error) => Some(error),
-    }
-}
-
 // The plain case, as it is read in this version or in the old one.
 fn plain_case(alloc: Global, old: bool) -> Result<Transcript, Fail> {
     let read_back = if old {
@@ -62,25 +55,28 @@ fn plain_case(alloc: Global, old: bool) -> Result<Transcript, Fail> {
     }
 }
 
-// Looks for the text of a transcript.
+// Looks for the number of lines of a transcript, and for its text.
 fn check_text(
     rt: &impl Abort,
     alloc: Global,
     transcript: &Transcript,
+    lines: usize,
     text: &str,
 ) -> Result<(), Fail> {
+    check_same(rt, &transcript.len(), &lines, "the length");
     check_bytes(rt, &write(alloc, transcript)?, text.as_bytes(), "the text");
     Ok(())
 }
 
+// Looks for the text of the plain case.
+fn check_plain(rt: &impl Abort, alloc: Global, old: bool) -> Result<(), Fail> {
+    check_text(rt, alloc, &plain_case(alloc, old)?, 20, PLAIN)
+}
+
 #[test]
 fn texts_written_again(rt: HostRuntime) -> Result<(), Fail> {
-    for old in [false, true] {
-        let transcript = plain_case(rt.alloc(), old)?;
-        check_same(&rt, &transcript.len(), &20, "the length");
-        check_text(&rt, rt.alloc(), &transcript, PLAIN)?;
-    }
-    Ok(())
+    check_plain(&rt, rt.alloc(), false)?;
+    check_plain(&rt, rt.alloc(), true)
 }
 
 #[test]
@@ -93,7 +89,7 @@ fn cut_before_each_byte(rt: HostRuntime) {
         } else {
             ReadError::NoEnd(lines)
         };
-        let fault = fault_of(rt.alloc(), &bytes[..cut]);
+        let fault = read(rt.alloc(), &bytes[..cut]).err();
         check_same(&rt, &(cut, fault), &(cut, Some(expected)), "a cut");
         if bytes[cut] == b'\n' {
             lines = lines.wrapping_add(1);
@@ -157,7 +153,8 @@ static FAULTS: [(usize, &str, Option<ReadError>); 40] = [
 fn first_faults(rt: HostRuntime) -> Result<(), Fail> {
     for (number, line, expected) in FAULTS.iter() {
         let text = with_line(rt.alloc(), PLAIN, *number, line)?;
-        check_same(&rt, &fault_of(rt.alloc(), text.as_bytes()), expected, line);
+        let fault = read(rt.alloc(), text.as_bytes()).err();
+        check_same(&rt, &fault, expected, line);
     }
     Ok(())
 }
@@ -184,7 +181,7 @@ fn members_of_a_round(rt: HostRuntime) -> Result<(), Fail> {
     Ok(())
 }
 
-const SMALL: &str = "\
+static SMALL: &str = "\
 meteragg transcript 2\n\
 rounds,2\n\
 windows,1,2\n\
@@ -205,8 +202,8 @@ const LATE: Line = Line::Take {
     verdict: Verdict::Late,
 };
 
-fn check_late_line(rt: &impl Abort, alloc: Global) -> Result<(), Fail> {
-    let fate = Fate::new(&[]).ok().ok_or("no fate")?;
+// Looks for the line of this fate at tick 7.
+fn check_late_line(rt: &impl Abort, alloc: Global, fate: Fate) -> Result<(), Fail> {
     let entry = Entry {
         tick: 7,
         fate,
@@ -217,9 +214,8 @@ fn check_late_line(rt: &impl Abort, alloc: Global) -> Result<(), Fail> {
     Ok(())
 }
 
-// The transcript of this entry.
-fn late_transcript(alloc: Global, plan: &Plan) -> Result<Transcript, Fail> {
-    let fate = Fate::new(&[]).ok().ok_or("no fate")?;
+// The transcript of that line.
+fn late_transcript(alloc: Global, plan: &Plan, fate: Fate) -> Result<Transcript, AllocError> {
     let entry = Entry {
         tick: 7,
         fate,
@@ -232,14 +228,15 @@ fn late_transcript(alloc: Global, plan: &Plan) -> Result<Transcript, Fail> {
     Ok(transcript)
 }
 
-fn check_late_transcript(rt: &impl Abort, alloc: Global, plan: &Plan) -> Result<(), Fail> {
-    let transcript = late_transcript(alloc, plan)?;
-    check_text(rt, alloc, &transcript, SMALL)
+// Looks for the text of that transcript.
+fn check_late_text(rt: &impl Abort, alloc: Global, fate: Fate) -> Result<(), Fail> {
+    let transcript = late_transcript(alloc, &small_plan(alloc)?, fate)?;
+    check_text(rt, alloc, &transcript, 1, SMALL)
 }
 
 #[test]
 fn entry_pushed(rt: HostRuntime) -> Result<(), Fail> {
-    let plan = small_plan(rt.alloc())?;
-    check_late_line(&rt, rt.alloc())?;
-    check_late_transcript(&rt, rt.alloc(), &plan)
+    let fate = Fate::new(&[]).ok().ok_or("no fate")?;
+    check_late_line(&rt, rt.alloc(), fate)?;
+    check_late_text(&rt, rt.alloc(), fate)
 }
