@@ -1,8 +1,8 @@
 -- How commands end, from how their parts do.
-use Rattle.std.proofs.Common.{◌≡◌, List, [], ◌∷◌, ℕ, Bool, true, false, length, inl, inr, subst, sym, ap, ◌∙◌, refl, Result, Ok, Err}
+use Rattle.std.proofs.Common.{◌≡◌, List, [], ◌∷◌, ◌++◌, ℕ, Bool, true, false, length, inl, inr, subst, sym, ap, ◌∙◌, refl, Result, Ok, Err}
 use Rattle.std.specs.Borrow.{Bor}
 use Rattle.std.specs.Prelude.{Option}
-use Rattle.desk_outside.specs.Desk.{View, IsLonger, after_step}
+use Rattle.desk_outside.specs.Desk.{View, IsLonger, Fetched, after_step}
 use Rattle.link_lanes.specs.Lanes.{Meaning}
 use Rattle.link_lanes.specs.declared.cupboard.RackError.{RackError}
 use Rattle.transcript_text.specs.declared.version.Version.TheVariants.{One}
@@ -29,6 +29,60 @@ use Rattle.load_maker.specs.MadeFiles.{AreRead}
 use Rattle.commands.specs.Audits.{Audited, AuditRefuses}
 use Rattle.commands.specs.Runs.{Texts, Makes}
 use Rattle.commands.proofs.RunLemmas.{is_only}
+
+-- ---- fetches
+
+-- fetches leave what the names hold
+held_after : (names : List (List ℕ)) (v : View) → (after_fetches names v).held ≡ v.held
+unfolding after_step
+held_after [] v = refl
+held_after (name ∷ names) v = held_after names (after_step v (Fetched name false))
+
+read_after : (names : List (List ℕ)) (name bytes : List ℕ) (v u : View) → u ≡ after_fetches names v → IsRead (u.held name) bytes → IsRead (v.held name) bytes
+read_after names name bytes v u after is = subst (λ held. IsRead (held name) bytes) (ap (λ v. v.held) after ∙ held_after names v) is
+
+-- what ends the later fetches, ends them all
+some_after : (names more : List (List ℕ)) (v w : View) → HasFetched more (after_fetches names v) w → HasFetched (names ++ more) v w
+some_after [] more v w some = some
+some_after (name ∷ names) more v w some = inr (some_after names more (after_step v (Fetched name false)) w some)
+
+last_after : (names more : List (List ℕ)) (failed : Bool) (v w : View) (last : List ℕ) → EndsAtFetch more failed (after_fetches names v) w last
+    → EndsAtFetch (names ++ more) failed v w last
+last_after [] more failed v w last ends = ends
+last_after (name ∷ names) more failed v w last ends = inr (last_after names more failed (after_step v (Fetched name false)) w last ends)
+
+pub then_unread : (names more : List (List ℕ)) (v u w : View) (outcome : Outcome) → u ≡ after_fetches names v → Unread more u w outcome
+    → Unread (names ++ more) v w outcome
+then_unread names more v u w Done after ends = absurd ends
+then_unread names more v u w NoMemory after ends = some_after names more v w (subst (λ u. HasFetched more u w) after ends)
+then_unread names more v u w BadWords after ends = absurd ends
+then_unread names more v u w (CannotRead name) after ends = last_after names more true v w name.now (subst (λ u. EndsAtFetch more true u w name.now) after ends)
+then_unread names more v u w (TooLong name) after ends = (
+  last_after names more false v w name.now (subst (λ u. EndsAtFetch more false u w name.now) after ends.0),
+  subst (λ held. IsLonger (held name.now) most_bytes) (ap (λ v. v.held) after ∙ held_after names v) ends.1,
+)
+then_unread names more v u w (CannotWrite name) after ends = absurd ends
+then_unread names more v u w CannotPrint after ends = absurd ends
+then_unread names more v u w (BadPlan name fault) after ends = absurd ends
+then_unread names more v u w (BadReadings name fault) after ends = absurd ends
+then_unread names more v u w (BadTranscript name fault) after ends = absurd ends
+then_unread names more v u w (BadReport name line) after ends = absurd ends
+then_unread names more v u w (Impossible name line) after ends = absurd ends
+then_unread names more v u w (OtherRow at from_frames reported) after ends = absurd ends
+then_unread names more v u w (OtherPlan name) after ends = absurd ends
+then_unread names more v u w (OtherLine name line expected) after ends = absurd ends
+then_unread names more v u w (OtherPresence group round meter) after ends = absurd ends
+then_unread names more v u w (OtherTotal group round first second) after ends = absurd ends
+then_unread names more v u w (BadLane fault) after ends = absurd ends
+
+-- two files were read, one after the other
+pub two_read : (first second : List ℕ) (v u w : View) (one two : List ℕ) → IsRead (v.held first) one → u ≡ after_fetches (first ∷ []) v
+    → IsRead (u.held second) two → w ≡ after_fetches (second ∷ []) u
+    → IsRead (v.held first) one × IsRead (v.held second) two × (w ≡ after_fetches (first ∷ second ∷ []) v)
+two_read first second v u w one two first_read after second_read end =
+    (first_read, read_after (first ∷ []) second two v u after second_read, end ∙ ap (after_fetches (second ∷ [])) after)
+
+-- ---- `run`, `convert`, `audit` and `load`
 
 -- the texts of a run are put and said
 pub run_ends : (cupboard : List Meaning) (names : RunNames) (v u w : View) (texts : Texts) (outcome : Outcome) (plan readings p r transcript report summary : List ℕ)
@@ -166,70 +220,6 @@ load_from cupboard size name u v w outcome same = subst (λ v. LoadEnds cupboard
 
 -- ---- `twin`
 
--- a fetch leaves what the names hold
-held_after_two : (a b : List ℕ) (v u : View) → u ≡ after_fetches (a ∷ b ∷ []) v → u.held ≡ v.held
-unfolding after_step
-held_after_two a b v u after = ap (λ v. v.held) after
-
-read_after_two : (a b name bytes : List ℕ) (v u : View) → u ≡ after_fetches (a ∷ b ∷ []) v → IsRead (u.held name) bytes → IsRead (v.held name) bytes
-read_after_two a b name bytes v u after is = subst (λ held. IsRead (held name) bytes) (held_after_two a b v u after) is
-
--- what ends the fetch of two files, ends that of four
-some_of_two : (a b c d : List ℕ) (v w : View) → HasFetched (a ∷ b ∷ []) v w → HasFetched (a ∷ b ∷ c ∷ d ∷ []) v w
-some_of_two a b c d v w (inl none) = inl none
-some_of_two a b c d v w (inr (inl one)) = inr (inl one)
-some_of_two a b c d v w (inr (inr two)) = inr (inr (inl two))
-
-last_of_two : (a b c d last : List ℕ) (failed : Bool) (v w : View) → EndsAtFetch (a ∷ b ∷ []) failed v w last → EndsAtFetch (a ∷ b ∷ c ∷ d ∷ []) failed v w last
-last_of_two a b c d last failed v w (inl here) = inl here
-last_of_two a b c d last failed v w (inr (inl here)) = inr (inl here)
-last_of_two a b c d last failed v w (inr (inr none)) = absurd none
-
-pub first_unread : (a b c d : List ℕ) (v w : View) (outcome : Outcome) → Unread (a ∷ b ∷ []) v w outcome → Unread (a ∷ b ∷ c ∷ d ∷ []) v w outcome
-first_unread a b c d v w Done ends = absurd ends
-first_unread a b c d v w NoMemory ends = some_of_two a b c d v w ends
-first_unread a b c d v w BadWords ends = absurd ends
-first_unread a b c d v w (CannotRead name) ends = last_of_two a b c d name.now true v w ends
-first_unread a b c d v w (TooLong name) ends = (last_of_two a b c d name.now false v w ends.0, ends.1)
-first_unread a b c d v w (CannotWrite name) ends = absurd ends
-first_unread a b c d v w CannotPrint ends = absurd ends
-first_unread a b c d v w (BadPlan name fault) ends = absurd ends
-first_unread a b c d v w (BadReadings name fault) ends = absurd ends
-first_unread a b c d v w (BadTranscript name fault) ends = absurd ends
-first_unread a b c d v w (BadReport name line) ends = absurd ends
-first_unread a b c d v w (Impossible name line) ends = absurd ends
-first_unread a b c d v w (OtherRow at from_frames reported) ends = absurd ends
-first_unread a b c d v w (OtherPlan name) ends = absurd ends
-first_unread a b c d v w (OtherLine name line expected) ends = absurd ends
-first_unread a b c d v w (OtherPresence group round meter) ends = absurd ends
-first_unread a b c d v w (OtherTotal group round first second) ends = absurd ends
-first_unread a b c d v w (BadLane fault) ends = absurd ends
-
--- and so does what ends the fetch of the other two
-pub then_unread : (a b c d : List ℕ) (v u w : View) (outcome : Outcome) → u ≡ after_fetches (a ∷ b ∷ []) v → Unread (c ∷ d ∷ []) u w outcome
-    → Unread (a ∷ b ∷ c ∷ d ∷ []) v w outcome
-then_unread a b c d v u w Done after ends = absurd ends
-then_unread a b c d v u w NoMemory after ends = inr (inr (subst (λ u. HasFetched (c ∷ d ∷ []) u w) after ends))
-then_unread a b c d v u w BadWords after ends = absurd ends
-then_unread a b c d v u w (CannotRead name) after ends = inr (inr (subst (λ u. EndsAtFetch (c ∷ d ∷ []) true u w name.now) after ends))
-then_unread a b c d v u w (TooLong name) after ends = (
-  inr (inr (subst (λ u. EndsAtFetch (c ∷ d ∷ []) false u w name.now) after ends.0)),
-  subst (λ held. IsLonger (held name.now) most_bytes) (held_after_two a b v u after) ends.1,
-)
-then_unread a b c d v u w (CannotWrite name) after ends = absurd ends
-then_unread a b c d v u w CannotPrint after ends = absurd ends
-then_unread a b c d v u w (BadPlan name fault) after ends = absurd ends
-then_unread a b c d v u w (BadReadings name fault) after ends = absurd ends
-then_unread a b c d v u w (BadTranscript name fault) after ends = absurd ends
-then_unread a b c d v u w (BadReport name line) after ends = absurd ends
-then_unread a b c d v u w (Impossible name line) after ends = absurd ends
-then_unread a b c d v u w (OtherRow at from_frames reported) after ends = absurd ends
-then_unread a b c d v u w (OtherPlan name) after ends = absurd ends
-then_unread a b c d v u w (OtherLine name line expected) after ends = absurd ends
-then_unread a b c d v u w (OtherPresence group round meter) after ends = absurd ends
-then_unread a b c d v u w (OtherTotal group round first second) after ends = absurd ends
-then_unread a b c d v u w (BadLane fault) after ends = absurd ends
-
 -- the bytes of four files that were read one after the other
 four_read : (names : TwinNames) (v u : View) (p r o t : List ℕ) → IsRead (v.held names.plan) p → IsRead (v.held names.readings) r
     → u ≡ after_fetches (names.plan ∷ names.readings ∷ []) v → IsRead (u.held names.other) o → IsRead (u.held names.transcript) t
@@ -237,8 +227,8 @@ four_read : (names : TwinNames) (v u : View) (p r o t : List ℕ) → IsRead (v.
 four_read names v u p r o t p_read r_read after o_read t_read = record {
   plan = p_read;
   readings = r_read;
-  other = read_after_two names.plan names.readings names.other o v u after o_read;
-  transcript = read_after_two names.plan names.readings names.transcript t v u after t_read;
+  other = read_after (names.plan ∷ names.readings ∷ []) names.other o v u after o_read;
+  transcript = read_after (names.plan ∷ names.readings ∷ []) names.transcript t v u after t_read;
 }
 
 four_after : (names : TwinNames) (v u w : View) → u ≡ after_fetches (names.plan ∷ names.readings ∷ []) v → w ≡ after_fetches (names.other ∷ names.transcript ∷ []) u

@@ -1,10 +1,14 @@
 //! The command `audit`.
 
-ghost use Rattle.std.specs.Prelude.{◌≡◌, ◌≤◌, IfOk, IfErr, string_bytes};
+ghost use Rattle.std.specs.Prelude.{◌≡◌, ◌≤◌, ℕ, List, Ok, IfOk, IfErr, string_bytes};
 ghost use Rattle.desk_outside.specs.Desk.{Rose};
+ghost use Rattle.transcript_text.specs.declared.version.Version.TheVariants.{Two};
+ghost use Rattle.transcript_text.specs.Heads.{read_of};
+ghost use Rattle.transcript_log.specs.Transcripts.{TranscriptView, IsTranscript};
+ghost use Rattle.totals_report.specs.Reading.{rows_of_text};
 ghost use Rattle.commands.specs.Ends.{audited_line, AuditCommandEnds};
 ghost use Rattle.commands.specs.Outcomes.{IsFault};
-ghost use Rattle.commands.specs.Audits.{TextsAudited};
+ghost use Rattle.commands.specs.Audits.{AreAuditTexts, AuditRefuses, TextsAudited};
 
 use crate::desk_calls::{fetch_two, say};
 use crate::outcome::Outcome;
@@ -12,32 +16,50 @@ use crate::words::AuditFiles;
 use audit_check::{AuditCounts, AuditError, audit as audit_lines};
 use desk_outside::Desk;
 use std::alloc::{AllocError, Global};
-use totals_report::{ReportError, read_report};
+use totals_report::{Report, ReportError, read_report};
+use transcript_log::Transcript;
 use transcript_text::{ReadError, read};
 
-// The audit of the bytes of a transcript and a report.
-fn audit_texts<'a>(
-    alloc: Global,
-    files: AuditFiles<'a>,
-    transcript: &[u8],
-    report: &[u8],
-) -> Result<AuditCounts, Outcome<'a>>
-    ensures ends { TextsAudited files.entry.transcript.now files.entry.report.now transcript.now report.now result }
+// The transcript of this name's bytes, or how the command ends.
+fn transcript_of<'a>(alloc: Global, name: &'a str, bytes: &[u8]) -> Result<Transcript, Outcome<'a>>
+    ensures sound { IfOk result (λ transcript. IsTranscript transcript) }
+    ensures value { IfOk result (λ transcript. read_of Two bytes.now ≡ Ok transcript) }
+    ensures refused { (report rb : List ℕ) → IfErr result (λ outcome. AuditRefuses name.now report bytes.now rb outcome) }
     ensures no_fault { IfErr result (λ outcome. ¬ IsFault outcome) }
 {
-    let transcript = match read(alloc, transcript) {
-        Ok(transcript) => transcript,
-        Err(ReadError::Memory) => return Err(Outcome::NoMemory),
-        Err(fault) => return Err(Outcome::BadTranscript(files.transcript, fault)),
-    };
-    let report = match read_report(alloc, report) {
-        Ok(report) => report,
-        Err(ReportError::Memory) => return Err(Outcome::NoMemory),
-        Err(ReportError::Line(line)) => return Err(Outcome::BadReport(files.report, line)),
-    };
-    match audit_lines(alloc, &transcript, &report) {
+    match read(alloc, bytes) {
+        Ok(transcript) => Ok(transcript),
+        Err(ReadError::Memory) => Err(Outcome::NoMemory),
+        Err(fault) => Err(Outcome::BadTranscript(name, fault)),
+    }
+}
+
+// The report of this name's bytes, or how the command ends where the transcript's bytes are read.
+fn report_of<'a>(alloc: Global, name: &'a str, bytes: &[u8]) -> Result<Report, Outcome<'a>>
+    ensures value { IfOk result (λ rows. rows_of_text bytes.now ≡ Ok rows) }
+    ensures refused { (transcript tb : List ℕ) (t : TranscriptView) → read_of Two tb ≡ Ok t → IfErr result (λ outcome. AuditRefuses transcript name.now tb bytes.now outcome) }
+    ensures no_fault { IfErr result (λ outcome. ¬ IsFault outcome) }
+{
+    match read_report(alloc, bytes) {
+        Ok(report) => Ok(report),
+        Err(ReportError::Memory) => Err(Outcome::NoMemory),
+        Err(ReportError::Line(line)) => Err(Outcome::BadReport(name, line)),
+    }
+}
+
+// The audit of a report against the transcript of this name.
+fn audit_values<'a>(
+    alloc: Global,
+    name: &'a str,
+    transcript: &Transcript,
+    report: &Report,
+) -> Result<AuditCounts, Outcome<'a>>
+    ensures ends { (other tb rb : List ℕ) → AreAuditTexts tb rb transcript.now report.now → TextsAudited name.now other tb rb result }
+    ensures no_fault { IfErr result (λ outcome. ¬ IsFault outcome) }
+{
+    match audit_lines(alloc, transcript, report) {
         Ok(counts) => Ok(counts),
-        Err(AuditError::Line(line)) => Err(Outcome::Impossible(files.transcript, line)),
+        Err(AuditError::Line(line)) => Err(Outcome::Impossible(name, line)),
         Err(
             AuditError::Row {
                 at,
@@ -51,6 +73,27 @@ fn audit_texts<'a>(
         }),
         Err(AuditError::Memory) => Err(Outcome::NoMemory),
     }
+}
+
+// The audit of the bytes of a transcript and a report.
+fn audit_texts<'a>(
+    alloc: Global,
+    files: AuditFiles<'a>,
+    transcript: &[u8],
+    report: &[u8],
+) -> Result<AuditCounts, Outcome<'a>>
+    ensures ends { TextsAudited files.entry.transcript.now files.entry.report.now transcript.now report.now result }
+    ensures no_fault { IfErr result (λ outcome. ¬ IsFault outcome) }
+{
+    let transcript = match transcript_of(alloc, files.transcript, transcript) {
+        Ok(transcript) => transcript,
+        Err(outcome) => return Err(outcome),
+    };
+    let report = match report_of(alloc, files.report, report) {
+        Ok(report) => report,
+        Err(outcome) => return Err(outcome),
+    };
+    audit_values(alloc, files.transcript, &transcript, &report)
 }
 
 // The line that says how many rows and totals the report has.

@@ -50,17 +50,13 @@ pub fn fetch_two<'a, D: Desk>(
     ensures later { D.faults desk.old ≤ D.faults desk.new }
     ensures cause { IfErr result (λ outcome. IsFault outcome → Rose (D.faults desk.old) (D.faults desk.new)) }
 {
-    let first_bytes = match desk.fetch(alloc, first, MOST_BYTES) {
+    let first_bytes = match fetch(alloc, first, desk) {
         Ok(bytes) => bytes,
-        Err(FetchError::Failed) => return Err(Outcome::CannotRead(first)),
-        Err(FetchError::TooLong(_)) => return Err(Outcome::TooLong(first)),
-        Err(FetchError::Memory) => return Err(Outcome::NoMemory),
+        Err(outcome) => return Err(outcome),
     };
-    match desk.fetch(alloc, second, MOST_BYTES) {
+    match fetch(alloc, second, desk) {
         Ok(bytes) => Ok((first_bytes, bytes)),
-        Err(FetchError::Failed) => Err(Outcome::CannotRead(second)),
-        Err(FetchError::TooLong(_)) => Err(Outcome::TooLong(second)),
-        Err(FetchError::Memory) => Err(Outcome::NoMemory),
+        Err(outcome) => Err(outcome),
     }
 }
 

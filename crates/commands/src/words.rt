@@ -1,8 +1,8 @@
 //! The words of the command line.
 
 ghost use Rattle.std.specs.Prelude.{◌≡◌, ◌≤◌, ℕ, List, None, Some, IfSome, MatchOption, map, string_bytes};
-ghost use Rattle.commands.specs.Words.{Run, Audit, Twin, Make, Load, Convert, Help, Version, has_name, are_names, names_of, workers_of, run_with, run_of, size_of, audit_of, twin_with, twin_of, make_of, load_with, load_of, convert_of, alone, asks_help, asks_version, command_by, command_of};
-ghost use Rattle.commands.specs.Commands.{twin_names_of, size_in, name_in, asked, IsSize, IsWithin};
+ghost use Rattle.commands.specs.Words.{has_name, are_names, workers_of, run_with, run_of, size_of, audit_of, twin_with, twin_of, make_of, load_with, load_of, convert_of, alone, asks_help, asks_version, command_by, command_of};
+ghost use Rattle.commands.specs.Commands.{size_in, name_in, asked, IsSize, IsWithin};
 
 use field_texts::{read_number, read_number_within};
 use load_maker::is_within;
@@ -141,10 +141,12 @@ fn run_with<'a>(
     report: &'a str,
     transcript: &'a str,
     workers: u32,
-) -> Option<RunWords<'a>>
+) -> Option<Command<'a>>
+    requires least { 1 ≤ workers }
+    requires most { workers ≤ 16 }
     ensures command { MatchOption result (run_with plan.now readings.now report.now transcript.now workers ≡ None)
-        (λ run. run_with plan.now readings.now report.now transcript.now workers ≡ Some (Run (names_of run.files) run.workers)) }
-    ensures workers { IfSome result (λ run. run.workers ≡ workers) }
+        (λ command. run_with plan.now readings.now report.now transcript.now workers ≡ Some (asked command)) }
+    ensures within { IfSome result (λ command. IsWithin command) }
 {
     if are_names(&[plan, readings, report, transcript]) {
         let files = RunFiles {
@@ -153,17 +155,16 @@ fn run_with<'a>(
             report,
             transcript,
         };
-        Some(RunWords { files, workers })
+        Some(Command::Run(RunWords { files, workers }))
     } else {
         None
     }
 }
 
 // `run` by the words behind the verb.
-fn run_words(words: &[String]) -> Option<RunWords<'_>>
-    ensures command { MatchOption result (run_of (map string_bytes words.now) ≡ None)
-        (λ run. run_of (map string_bytes words.now) ≡ Some (Run (names_of run.files) run.workers)) }
-    ensures workers { IfSome result (λ run. (1 ≤ run.workers) × (run.workers ≤ 16)) }
+fn run_words(words: &[String]) -> Option<Command<'_>>
+    ensures command { MatchOption result (run_of (map string_bytes words.now) ≡ None) (λ command. run_of (map string_bytes words.now) ≡ Some (asked command)) }
+    ensures within { IfSome result (λ command. IsWithin command) }
 {
     match words {
         [plan, readings, report, transcript] => {
@@ -179,14 +180,14 @@ fn run_words(words: &[String]) -> Option<RunWords<'_>>
 
 // `audit` by the words behind the verb.
 #[tactic(auto, unfolding(crate::specs::Words::audit_with))]
-fn audit_words(words: &[String]) -> Option<AuditFiles<'_>>
-    ensures { MatchOption result (audit_of (map string_bytes words.now) ≡ None)
-        (λ files. audit_of (map string_bytes words.now) ≡ Some (Audit files.transcript.now files.report.now)) }
+fn audit_words(words: &[String]) -> Option<Command<'_>>
+    ensures command { MatchOption result (audit_of (map string_bytes words.now) ≡ None) (λ command. audit_of (map string_bytes words.now) ≡ Some (asked command)) }
+    ensures within { IfSome result (λ command. IsWithin command) }
 {
     match words {
         [transcript, report] => {
             if are_names(&[transcript, report]) {
-                Some(AuditFiles { transcript, report })
+                Some(Command::Audit(AuditFiles { transcript, report }))
             } else {
                 None
             }
@@ -203,27 +204,28 @@ fn twin_with<'a>(
     other: &'a str,
     transcript: &'a str,
     masks: &'a str,
-) -> Option<TwinFiles<'a>>
-    ensures { MatchOption result (twin_with plan.now readings.now other.now transcript.now masks.now ≡ None)
-        (λ files. twin_with plan.now readings.now other.now transcript.now masks.now ≡ Some (Twin (twin_names_of files))) }
+) -> Option<Command<'a>>
+    ensures command { MatchOption result (twin_with plan.now readings.now other.now transcript.now masks.now ≡ None)
+        (λ command. twin_with plan.now readings.now other.now transcript.now masks.now ≡ Some (asked command)) }
+    ensures within { IfSome result (λ command. IsWithin command) }
 {
     if are_names(&[plan, readings, other, transcript, masks]) {
-        Some(TwinFiles {
+        Some(Command::Twin(TwinFiles {
             plan,
             readings,
             other,
             transcript,
             masks,
-        })
+        }))
     } else {
         None
     }
 }
 
 // `twin` by the words behind the verb.
-fn twin_words(words: &[String]) -> Option<TwinFiles<'_>>
-    ensures { MatchOption result (twin_of (map string_bytes words.now) ≡ None)
-        (λ files. twin_of (map string_bytes words.now) ≡ Some (Twin (twin_names_of files))) }
+fn twin_words(words: &[String]) -> Option<Command<'_>>
+    ensures command { MatchOption result (twin_of (map string_bytes words.now) ≡ None) (λ command. twin_of (map string_bytes words.now) ≡ Some (asked command)) }
+    ensures within { IfSome result (λ command. IsWithin command) }
 {
     match words {
         [plan, readings, other, transcript, masks] => {
@@ -257,20 +259,19 @@ fn read_size(seed: &str, groups: &str, meters: &str, rounds: &str) -> Option<Siz
 
 // `make` by the words behind the verb.
 #[tactic(auto, unfolding(crate::specs::Words::make_with))]
-fn make_words(words: &[String]) -> Option<MakeWords<'_>>
-    ensures command { MatchOption result (make_of (map string_bytes words.now) ≡ None)
-        (λ make. make_of (map string_bytes words.now) ≡ Some (Make (size_in make.size) make.plan.now make.readings.now)) }
-    ensures within { IfSome result (λ make. IsSize make.size) }
+fn make_words(words: &[String]) -> Option<Command<'_>>
+    ensures command { MatchOption result (make_of (map string_bytes words.now) ≡ None) (λ command. make_of (map string_bytes words.now) ≡ Some (asked command)) }
+    ensures within { IfSome result (λ command. IsWithin command) }
 {
     match words {
         [seed, groups, meters, rounds, plan, readings] => {
             let size = read_size(seed, groups, meters, rounds)?;
             if are_names(&[plan, readings]) {
-                Some(MakeWords {
+                Some(Command::Make(MakeWords {
                     size,
                     plan,
                     readings,
-                })
+                }))
             } else {
                 None
             }
@@ -281,27 +282,28 @@ fn make_words(words: &[String]) -> Option<MakeWords<'_>>
 
 // `load` with a size, a number of workers, and the name of a transcript where there is one.
 #[tactic(auto, unfolding(crate::specs::Words::load_with))]
-fn load_with<'a>(size: Size, workers: u32, transcript: Option<&'a str>) -> Option<LoadWords<'a>>
+fn load_with<'a>(size: Size, workers: u32, transcript: Option<&'a str>) -> Option<Command<'a>>
+    requires size { IsSize size }
+    requires least { 1 ≤ workers }
+    requires most { workers ≤ 16 }
     ensures command { MatchOption result (load_with (name_in transcript.entry) (size_in size) workers ≡ None)
-        (λ load. load_with (name_in transcript.entry) (size_in size) workers ≡ Some (Load (size_in load.size) load.workers (name_in load.transcript))) }
-    ensures size { IfSome result (λ load. load.size ≡ size) }
-    ensures workers { IfSome result (λ load. load.workers ≡ workers) }
+        (λ command. load_with (name_in transcript.entry) (size_in size) workers ≡ Some (asked command)) }
+    ensures within { IfSome result (λ command. IsWithin command) }
 {
     match transcript {
         Some(name) if name.is_empty() => None,
-        _ => Some(LoadWords {
+        _ => Some(Command::Load(LoadWords {
             size,
             workers,
             transcript,
-        }),
+        })),
     }
 }
 
 // `load` by the words behind the verb.
-fn load_words(words: &[String]) -> Option<LoadWords<'_>>
-    ensures command { MatchOption result (load_of (map string_bytes words.now) ≡ None)
-        (λ load. load_of (map string_bytes words.now) ≡ Some (Load (size_in load.size) load.workers (name_in load.transcript))) }
-    ensures within { IfSome result (λ load. IsSize load.size × (1 ≤ load.workers) × (load.workers ≤ 16)) }
+fn load_words(words: &[String]) -> Option<Command<'_>>
+    ensures command { MatchOption result (load_of (map string_bytes words.now) ≡ None) (λ command. load_of (map string_bytes words.now) ≡ Some (asked command)) }
+    ensures within { IfSome result (λ command. IsWithin command) }
 {
     match words {
         [seed, groups, meters, rounds, number] => {
@@ -320,14 +322,14 @@ fn load_words(words: &[String]) -> Option<LoadWords<'_>>
 
 // `convert` by the words behind the verb.
 #[tactic(auto, unfolding(crate::specs::Words::convert_with))]
-fn convert_words(words: &[String]) -> Option<ConvertFiles<'_>>
-    ensures { MatchOption result (convert_of (map string_bytes words.now) ≡ None)
-        (λ files. convert_of (map string_bytes words.now) ≡ Some (Convert files.old.now files.transcript.now)) }
+fn convert_words(words: &[String]) -> Option<Command<'_>>
+    ensures command { MatchOption result (convert_of (map string_bytes words.now) ≡ None) (λ command. convert_of (map string_bytes words.now) ≡ Some (asked command)) }
+    ensures within { IfSome result (λ command. IsWithin command) }
 {
     match words {
         [old, transcript] => {
             if are_names(&[old, transcript]) {
-                Some(ConvertFiles { old, transcript })
+                Some(Command::Convert(ConvertFiles { old, transcript }))
             } else {
                 None
             }
@@ -368,17 +370,17 @@ fn command_by<'a>(verb: &str, words: &'a [String]) -> Option<Command<'a>>
     ensures within { IfSome result (λ command. IsWithin command) }
 {
     if verb == "run" {
-        Some(Command::Run(run_words(words)?))
+        run_words(words)
     } else if verb == "audit" {
-        Some(Command::Audit(audit_words(words)?))
+        audit_words(words)
     } else if verb == "twin" {
-        Some(Command::Twin(twin_words(words)?))
+        twin_words(words)
     } else if verb == "make" {
-        Some(Command::Make(make_words(words)?))
+        make_words(words)
     } else if verb == "load" {
-        Some(Command::Load(load_words(words)?))
+        load_words(words)
     } else if verb == "convert" {
-        Some(Command::Convert(convert_words(words)?))
+        convert_words(words)
     } else if asks_help(verb) {
         alone(Command::Help, words)
     } else if asks_version(verb) {

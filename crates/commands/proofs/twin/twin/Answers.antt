@@ -1,11 +1,11 @@
-use Rattle.std.proofs.Common.{ap, length, inl, ◌∙◌}
+use Rattle.std.proofs.Common.{[], ◌∷◌, ap, length, inl, ◌∙◌}
 use Rattle.commands.specs.Commands.{twin_names_of}
 use Rattle.commands.proofs.CommandEndings.{then_unread, twin_refused, twin_ends}
 use Rattle.commands.proofs.twin.twin.Goals as goal
 
 pub returns-in-Err-fetch_two-clause-ends : goal.returns-in-Err-fetch_two-clause-ends
 returns-in-Err-fetch_two-clause-ends g c =
-    inl (then_unread c.args.files.plan.now c.args.files.readings.now c.args.files.other.now c.args.files.transcript.now _ _ _ _
+    inl (then_unread (c.args.files.plan.now ∷ c.args.files.readings.now ∷ []) (c.args.files.other.now ∷ c.args.files.transcript.now ∷ []) _ _ _ _
     c.in-Ok.ensures.ends.2 c.in-Err-fetch_two.ensures.ends)
 
 pub returns-in-Err-compare-clause-ends : goal.returns-in-Err-compare-clause-ends
