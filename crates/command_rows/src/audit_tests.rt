@@ -1,7 +1,7 @@
 //! The command `audit`: what it confirms, and the first line or row that it doesn't.
 
 use crate::fixtures::{
-    NORTH, OLD_TRANSCRIPT, RUN, TRANSCRIPT, check_complained, check_complaint, check_said,
+    NORTH, OLD_TRANSCRIPT, RUN, TRANSCRIPT, check_complained, check_refused, check_said,
     check_status, desk_of as run_desk, held, replaced,
 };
 use collector_workers::Free;
@@ -269,6 +269,21 @@ static AUDITS: [(&str, &str, &str, &str, &str, u8, &str); 27] = [
     ),
 ];
 
+// Audits what a desk holds, of which this is said.
+fn check_confirmed(
+    rt: &(impl Threads + Wait + Abort + Sync),
+    alloc: Global,
+    desk: &mut MemoryDesk,
+    text: &str,
+    name: &str,
+) -> Result<(), Fail> {
+    check_status(rt, alloc, AUDIT, desk, &Free, 0, name)?;
+    let wanted = format!(in alloc; "{text}\n")?;
+    check_said(rt, desk, &wanted, name);
+    check_complained(rt, desk, "", name);
+    Ok(())
+}
+
 // Audits the transcript and the report, with this end: its status, and what is then complained, or said where the status is 0.
 fn check_audit(
     rt: &(impl Threads + Wait + Abort + Sync),
@@ -280,16 +295,13 @@ fn check_audit(
     text: &str,
 ) -> Result<(), Fail> {
     let mut desk = desk_of(alloc, transcript, report, Vec::new(alloc))?;
-    check_status(rt, alloc, AUDIT, &mut desk, &Free, status, name)?;
     if status == 0 {
-        let wanted = format!(in alloc; "{text}\n")?;
-        check_said(rt, &desk, &wanted, name);
-        check_complained(rt, &desk, "", name);
+        check_confirmed(rt, alloc, &mut desk, text, name)
     } else {
-        check_complaint(rt, alloc, &desk, text, name)?;
+        check_refused(rt, alloc, AUDIT, &mut desk, status, text, name)?;
         check_said(rt, &desk, "", name);
+        Ok(())
     }
-    Ok(())
 }
 
 #[test]
@@ -321,38 +333,51 @@ fn explained_and_old(rt: HostRuntime) -> Result<(), Fail> {
     Ok(())
 }
 
+// Each row: the failing call, the status, and the complaint.
+static FAILURES: [(u64, u8, &str); 3] = [
+    (0, 3, "cannot read t.txt"),
+    (1, 3, "cannot read report.csv"),
+    (2, 4, "cannot print"),
+];
+
 #[test]
 fn failing_calls_of_audit(rt: HostRuntime) -> Result<(), Fail> {
     let alloc = rt.alloc();
-    for (failing, status, complaint) in [
-        (0, 3, "meteragg: cannot read t.txt\n"),
-        (1, 3, "meteragg: cannot read report.csv\n"),
-        (2, 4, "meteragg: cannot print\n"),
-    ] {
+    for case in FAILURES.iter() {
+        let (failing, status, complaint) = *case;
         let mut desk = desk_of(alloc, TRANSCRIPT, REPORT, vec![in alloc; failing]?)?;
-        check_status(&rt, alloc, AUDIT, &mut desk, &Free, status, complaint)?;
-        check_complained(&rt, &desk, complaint, complaint);
+        check_refused(&rt, alloc, AUDIT, &mut desk, status, complaint, complaint)?;
     }
     Ok(())
+}
+
+// A transcript of two rounds, with a reading of meter 2 more in the first, of which it is no member.
+fn with_further_frame(alloc: Global, text: &str) -> Result<String, Fail> {
+    let further =
+        "\n0,s,0,0,r,2,1,4d020102000000000000000000000000000000000000000000000000000000000000000000000000000000000000000000000001\n1,t,";
+    let text = replaced(alloc, text, "\n1,t,", further)?;
+    replaced(alloc, &text, "end,34", "end,35")
+}
+
+// The desk of a run of two rounds, of which meter 2 is a member of the second alone.
+fn desk_after_run(
+    rt: &(impl Threads + Wait + Abort + Sync),
+    alloc: Global,
+) -> Result<MemoryDesk, Fail> {
+    let rows = format!(in alloc; "rounds,2\nwindows,1,2\n{NORTH}member,0,2,1,2\n")?;
+    let readings = "north,0,10,20,\nnorth,1,1,2,3\n";
+    let mut desk = run_desk(alloc, &rows, readings, Vec::new(alloc))?;
+    check_status(rt, alloc, RUN, &mut desk, &Free, 0, RUN)?;
+    Ok(desk)
 }
 
 // A reading of a meter that is no member of the round can't be explained, whatever its frame.
 #[test]
 fn frame_of_no_member(rt: HostRuntime) -> Result<(), Fail> {
     let alloc = rt.alloc();
-    let rows = format!(in alloc; "rounds,2\nwindows,1,2\n{NORTH}member,0,2,1,2\n")?;
-    let mut desk = run_desk(
-        alloc,
-        &rows,
-        "north,0,10,20,\nnorth,1,1,2,3\n",
-        Vec::new(alloc),
-    )?;
-    check_status(&rt, alloc, RUN, &mut desk, &Free, 0, RUN)?;
-    let further =
-        "\n0,s,0,0,r,2,1,4d020102000000000000000000000000000000000000000000000000000000000000000000000000000000000000000000000001\n1,t,";
-    let text = replaced(alloc, held(&desk, "t.txt"), "\n1,t,", further)?;
-    let text = replaced(alloc, &text, "end,34", "end,35")?;
+    let mut desk = desk_after_run(&rt, alloc)?;
+    let text = with_further_frame(alloc, held(&desk, "t.txt"))?;
     desk.place("t.txt", text.as_bytes())?;
-    check_status(&rt, alloc, AUDIT, &mut desk, &Free, 7, AUDIT)?;
-    check_complaint(&rt, alloc, &desk, "t.txt line 9: impossible", AUDIT)
+    let complaint = "t.txt line 9: impossible";
+    check_refused(&rt, alloc, AUDIT, &mut desk, 7, complaint, complaint)
 }

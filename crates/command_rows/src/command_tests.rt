@@ -1,7 +1,7 @@
 //! The commands `convert`, `help` and `version`: what they store and say, and what they refuse.
 
 use crate::fixtures::{
-    OLD_TRANSCRIPT, TRANSCRIPT, check_calls, check_complained, check_complaint, check_said,
+    OLD_TRANSCRIPT, TRANSCRIPT, check_calls, check_complained, check_refused, check_said,
     check_status, check_stored, check_text, held, replaced,
 };
 use collector_workers::Free;
@@ -87,32 +87,28 @@ fn old_transcript_refused(rt: HostRuntime) -> Result<(), Fail> {
         let (there, instead, failing, status, complaint, stored) = *case;
         let text = replaced(alloc, OLD_TRANSCRIPT, there, instead)?;
         let mut desk = desk_of(alloc, &text, vec![in alloc; failing]?)?;
-        check_status(&rt, alloc, CONVERT, &mut desk, &Free, status, complaint)?;
-        check_complaint(&rt, alloc, &desk, complaint, complaint)?;
+        check_refused(&rt, alloc, CONVERT, &mut desk, status, complaint, complaint)?;
         check_stored(&rt, &desk, "t.txt", stored, complaint);
         check_said(&rt, &desk, "", complaint);
     }
     Ok(())
 }
 
+static TOLD: [(&str, &str); 6] = [
+    ("help", USAGE),
+    ("--help", USAGE),
+    ("-h", USAGE),
+    ("version", VERSION),
+    ("--version", VERSION),
+    ("-V", VERSION),
+];
+
 #[test]
 fn usage_and_version(rt: HostRuntime) -> Result<(), Fail> {
     let alloc = rt.alloc();
-    for (words, status, said) in [
-        ("help", 0, USAGE),
-        ("--help", 0, USAGE),
-        ("-h", 0, USAGE),
-        ("version", 0, VERSION),
-        ("--version", 0, VERSION),
-        ("-V", 0, VERSION),
-        ("help run", 2, ""),
-        ("version 2", 2, ""),
-        ("convert old.txt", 2, ""),
-        ("convert old.txt old.txt", 2, ""),
-        ("convert old.txt t.txt 4", 2, ""),
-    ] {
+    for (words, said) in TOLD.iter() {
         let mut desk = MemoryDesk::new(Vec::new(alloc));
-        check_status(&rt, alloc, words, &mut desk, &Free, status, words)?;
+        check_status(&rt, alloc, words, &mut desk, &Free, 0, words)?;
         check_said(&rt, &desk, said, words);
         check_calls(&rt, &desk, 1, words);
     }

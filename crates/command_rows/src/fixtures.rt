@@ -1,6 +1,6 @@
 //! Files, desks and calls of the program for tests.
 
-use collector_workers::Gate;
+use collector_workers::{Free, Gate};
 use commands::with_lanes;
 use desk_outside::MemoryDesk;
 use std::alloc::Global;
@@ -175,6 +175,20 @@ pub fn check_complaint(
     let wanted = format!(in alloc; "meteragg: {complaint}\n")?;
     check_complained(rt, desk, &wanted, row);
     Ok(())
+}
+
+/// Runs the program on these words, which have to end with this status and one complaint.
+pub fn check_refused<R: Threads + Wait + Abort + Sync>(
+    rt: &R,
+    alloc: Global,
+    line: &str,
+    desk: &mut MemoryDesk,
+    status: u8,
+    complaint: &str,
+    row: &str,
+) -> Result<(), Fail> {
+    check_status(rt, alloc, line, desk, &Free, status, row)?;
+    check_complaint(rt, alloc, desk, complaint, row)
 }
 
 /// Asks whether a desk holds something under a name.

