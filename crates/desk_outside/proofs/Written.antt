@@ -1,9 +1,6 @@
 -- Bytes that are written piece by piece.
 use Rattle.std.proofs.Common.{◌≡◌, ◌<◌, ◌+◌, ℕ, min, List, [], ◌∷◌, ◌++◌, length, Option, None, Some, refl, ap, arith}
-use Rattle.std.proofs.Common.{append_assoc, append-nil, length-append, sym, ◌∙◌}
-use Rattle.std.specs.Prelude.{⊤, Vec}
-use Rattle.std.specs.declared.alloc.Global.{Global}
-use Rattle.desk_outside.specs.Groups.{bytes_of}
+use Rattle.std.specs.Prelude.{⊤}
 
 -- what is written, where that is known, and what is still to come are what there was and what was to come at first
 abbrev pub Reaches : Option (List ℕ) → Option (List ℕ) → (rest all : List ℕ) → Type 0
@@ -17,13 +14,3 @@ none_left most all front [] some front_is after_is empty = refl
 none_left most all front (x ∷ after) some front_is after_is empty =
     let none = ap length empty in
     absurd (omega (arith, some, front_is, after_is, none))
-
--- a piece more at the end of a group
-pub piece_added : (group : List (Vec ℕ Global)) (piece : Vec ℕ Global) (rest : List ℕ) → bytes_of (group ++ (piece ∷ [])) ++ rest ≡ bytes_of group ++ (piece.items ++ rest)
-piece_added [] piece rest = ap (λ bytes. bytes ++ rest) (append-nil piece.items)
-piece_added (p ∷ group) piece rest =
-    append_assoc p.items (bytes_of (group ++ (piece ∷ []))) rest ∙ ap (λ bytes. p.items ++ bytes) (piece_added group piece rest) ∙ sym (append_assoc p.items (bytes_of group) (piece.items ++ rest))
-
--- two parts are as long as the whole
-pub long : (all front after : List ℕ) → all ≡ front ++ after → length all ≡ length front + length after
-long all front after is = ap length is ∙ length-append front after

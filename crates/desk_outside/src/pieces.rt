@@ -29,8 +29,8 @@ const PIECE_BYTES: usize = 1 << 16;
 
 /// The bytes of a slice, in pieces of 64 KB.
 #[derive(Drop)]
-pub(crate) struct Slice<'a> {
-    pub(crate) rest: &'a [u8],
+pub struct Slice<'a> {
+    pub rest: &'a [u8],
 }
 
 impl Pieces for Slice<'_> {
@@ -48,8 +48,9 @@ impl Pieces for Slice<'_> {
     }
 }
 
-/// Writes all the bytes that are still to come.
-pub(crate) fn write_pieces<W: Write, P: Pieces>(
+/// Writes all the bytes that are still to come, one piece after another. An error is that of a write, or tells that there was no
+/// memory for a piece.
+pub fn write_pieces<W: Write, P: Pieces>(
     alloc: Global,
     out: &mut W,
     pieces: &mut P,

@@ -2,9 +2,9 @@
 
 use crate::fixtures::{check, check_bytes, check_same};
 use desk_outside::{
-    BegunFile, Desk, DeskCall, DeskError, DeskKind, FetchError, FileDesk, FileFlusher, MemoryDesk,
-    Pieces,
+    BegunFile, Desk, DeskCall, DeskError, DeskKind, FetchError, FileFlusher, MemoryDesk, Pieces,
 };
+use file_desk::FileDesk;
 use std::alloc::{AllocError, Global};
 use std::fs::Permissions;
 use std::io::Read;

@@ -3,7 +3,7 @@
 
 use collector_workers::Free;
 use commands::with_lanes;
-use desk_outside::FileDesk;
+use file_desk::FileDesk;
 use std::alloc::{AllocError, Global};
 use std::env;
 use std::env::Args;

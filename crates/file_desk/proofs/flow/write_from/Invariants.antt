@@ -1,7 +1,7 @@
 use Rattle.std.proofs.Common.{◌≡◌, ◌+◌, ◌++◌, [], length, true, if◌then◌else◌}
-use Rattle.desk_outside.specs.Groups.{bytes_of}
+use Rattle.file_desk.specs.Groups.{bytes_of}
 use Rattle.desk_outside.proofs.Written.{Reaches}
-use Rattle.desk_outside.proofs.flow.write_from.Given as goal
+use Rattle.file_desk.proofs.flow.write_from.Given as goal
 
 abbrev pub invariant-loop-group : goal.invariant-loop-group
 invariant-loop-group g l = record {

@@ -5,9 +5,10 @@ ghost use Rattle.desk_outside.specs.Begun.{BegunPutEnds};
 ghost use Rattle.desk_outside.specs.Desk.{FetchEnds, PutEnds, SayEnds, ComplainEnds, Rose, one_more, untold};
 
 use crate::flow::write_groups;
-use crate::pieces::{Slice, write_pieces};
 use crate::whole::{FileId, NewFile, replace, without_link};
-use crate::{BegunFile, Desk, DeskError, FetchError, FileFlusher, Pieces};
+use desk_outside::{
+    BegunFile, Desk, DeskError, FetchError, FileFlusher, Pieces, Slice, write_pieces,
+};
 use std::alloc::Global;
 use std::fs::{File, OpenFile, OpenOptions, Permissions};
 use std::io::{ErrorKind, Read, Write};
@@ -32,7 +33,7 @@ pub struct FileDesk<'r, R> {
 }
 
 impl<'r, R: Files<File = File> + Print + Eprint + AllocGlobal + Threads> FileDesk<'r, R> {
-    ghost use Rattle.desk_outside.specs.Files.{faults_of, Counts};
+    ghost use Rattle.file_desk.specs.Files.{faults_of, Counts};
 
     /// A desk that has fetched nothing and counts no fault.
     pub fn new(rt: &'r R) -> FileDesk<'r, R>
@@ -223,7 +224,7 @@ impl FileFlusher for DiskFlusher {
 impl<'r, R: Files<File = File> + Threads> BegunFile for BegunOnDisk<'r, R> {
     type Flusher = DiskFlusher;
 
-    ghost use Rattle.desk_outside.specs.Files.{begun_name};
+    ghost use Rattle.file_desk.specs.Files.{begun_name};
 
     ghost name = { begun_name };
 
@@ -249,12 +250,12 @@ fn put_error(error: io::Error) -> DeskError {
     }
 }
 
-#[tactic(auto, unfolding(crate::specs::Desk::after_step))]
+#[tactic(auto, unfolding(desk_outside::specs::Desk::after_step))]
 impl<'r, R: Files<File = File> + Print + Eprint + AllocGlobal + Threads + Sync> Desk
     for FileDesk<'r, R> {
     type Begun = BegunOnDisk<'r, R>;
 
-    ghost use Rattle.desk_outside.specs.Files.{faults_of, begun_name, CountsFetch, Counts};
+    ghost use Rattle.file_desk.specs.Files.{faults_of, begun_name, CountsFetch, Counts};
 
     ghost view = { λ _. untold };
 

@@ -5,8 +5,8 @@ use Rattle.desk_outside.specs.declared.desk.FetchError.{FetchError}
 use Rattle.desk_outside.specs.declared.desk.FetchError.TheVariants.{Failed as FetchFailed, TooLong as FetchTooLong, Memory as FetchMemory}
 use Rattle.desk_outside.specs.declared.desk.DeskError.{DeskError}
 use Rattle.desk_outside.specs.declared.desk.DeskError.TheVariants.{Failed, Memory}
-use Rattle.desk_outside.specs.declared.files.BegunOnDisk.{BegunOnDisk}
-use Rattle.desk_outside.specs.declared.files.FileDesk.{FileDesk}
+use Rattle.file_desk.specs.declared.files.BegunOnDisk.{BegunOnDisk}
+use Rattle.file_desk.specs.declared.files.FileDesk.{FileDesk}
 use Rattle.desk_outside.specs.Desk.{one_more}
 
 -- how often its calls have failed

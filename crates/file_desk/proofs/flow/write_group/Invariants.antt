@@ -1,7 +1,7 @@
 use Rattle.std.proofs.Common.{length}
-use Rattle.desk_outside.specs.Groups.{bytes_of}
+use Rattle.file_desk.specs.Groups.{bytes_of}
 use Rattle.desk_outside.proofs.Written.{Reaches}
-use Rattle.desk_outside.proofs.flow.write_group.Given as goal
+use Rattle.file_desk.proofs.flow.write_group.Given as goal
 
 abbrev pub invariant-loop-piece : goal.invariant-loop-piece
 invariant-loop-piece g l = Reaches (g.W.Write.contents l.fn.out) (g.W.Write.contents l.out) (bytes_of l.rest) (bytes_of l.fn.group)

@@ -1,7 +1,7 @@
 use Rattle.std.proofs.Common.{rules, ◌<◌, ◌++◌, length, ap, sym, ◌∙◌, arith}
-use Rattle.desk_outside.specs.Groups.{bytes_of}
-use Rattle.desk_outside.proofs.Written.{piece_added, long}
-use Rattle.desk_outside.proofs.flow.next_group.Goals as goal
+use Rattle.file_desk.specs.Groups.{bytes_of}
+use Rattle.file_desk.proofs.Written.{piece_added, long}
+use Rattle.file_desk.proofs.flow.next_group.Goals as goal
 
 pub loop-bytes-preserved : goal.loop-bytes-preserved
 loop-bytes-preserved g c =

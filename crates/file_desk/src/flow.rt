@@ -2,9 +2,9 @@
 
 ghost use Rattle.std.specs.Prelude.{◌≡◌, ◌<◌, ◌++◌, [], length, false, true, OnOk, IfOk};
 ghost use Rattle.std.specs.Io.KnownBytes.{Appends};
-ghost use Rattle.desk_outside.specs.Groups.{bytes_of};
+ghost use Rattle.file_desk.specs.Groups.{bytes_of};
 
-use crate::Pieces;
+use desk_outside::Pieces;
 use std::alloc::{AllocError, Global};
 use std::fs::OpenFile;
 use std::io;

@@ -1,7 +1,7 @@
 //! Whole files: the bytes go into a new file beside the name, which takes the name once all of them are there.
 
-use crate::Pieces;
 use crate::flow::write_groups;
+use desk_outside::Pieces;
 use std::alloc::Global;
 use std::fs::{Metadata, OpenFile, OpenOptions, Permissions};
 use std::io::{ErrorKind, Write};

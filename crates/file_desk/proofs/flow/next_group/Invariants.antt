@@ -1,6 +1,6 @@
 use Rattle.std.proofs.Common.{◌≡◌, ◌++◌, ◌<◌, ◌≤◌, length}
-use Rattle.desk_outside.specs.Groups.{bytes_of}
-use Rattle.desk_outside.proofs.flow.next_group.Given as goal
+use Rattle.file_desk.specs.Groups.{bytes_of}
+use Rattle.file_desk.proofs.flow.next_group.Given as goal
 
 abbrev pub invariant-loop-bytes : goal.invariant-loop-bytes
 invariant-loop-bytes g l = record {
