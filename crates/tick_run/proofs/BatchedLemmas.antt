@@ -14,8 +14,10 @@ use Rattle.transcript_log.specs.Events.{event_of}
 use Rattle.run_rows.specs.Ticks.{Clock, clock_of, phase, posts_of}
 use Rattle.transcript_log.specs.Transcripts.{TranscriptView, last_tick_from}
 use Rattle.group_book.specs.Books.{BookView}
-use Rattle.tick_run.specs.Running.{Stage, emptied, taken, closed, run_shape, IsRunning, HaveCome, KeepCopies, HaveEvents, quiet, calls_due}
-use Rattle.tick_run.specs.OnTheWay.{frames_in, tags_of, IsOfSend}
+use Rattle.tick_run.specs.Running.{Stage, emptied, taken, closed, IsRunning, HaveCome, KeepCopies, HaveEvents, quiet, calls_due}
+use Rattle.plan_meters.specs.TickFrames.{run_shape}
+use Rattle.plan_meters.specs.Came.{frames_in, tags_of}
+use Rattle.tick_run.specs.OnTheWay.{IsOfSend}
 use Rattle.tick_run.specs.Batches.{Batched}
 use Rattle.tick_run.specs.Sending.{KeepsFates}
 use Rattle.std.proofs.lemmas.List.Elements.{All-weaker}

@@ -18,7 +18,8 @@ use Rattle.transcript_log.specs.Schedule.{Shape, members_of, is_announced, is_re
 use Rattle.transcript_log.specs.Transcript.{Contents, contents_of_tables, set_sent, word_sent, frame}
 use Rattle.run_rows.specs.Ticks.{Clock, tag_of, tags, takes_at, due_of}
 use Rattle.tick_run.specs.Progress.{past_of_entries}
-use Rattle.tick_run.specs.TickFrames.{was_taken, due_after, reading_frame, announcement_frame, answer_frame, frames_due, AreHeard, IsDue}
+use Rattle.plan_meters.specs.TickFrames.{was_taken, reading_frame, answer_frame, AreHeard}
+use Rattle.tick_run.specs.TickFrames.{due_after, announcement_frame, frames_due, IsDue}
 
 -- ---- the tags
 

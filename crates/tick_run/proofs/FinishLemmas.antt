@@ -19,7 +19,8 @@ use Rattle.transcript_log.proofs.JournalLemmas.{journal_is}
 use Rattle.run_rows.specs.Ticks.{Clock, clock_of, last_tick}
 use Rattle.transcript_log.specs.Transcripts.{TranscriptView, no_entries}
 use Rattle.group_book.specs.Books.{BookView, shape_of}
-use Rattle.tick_run.specs.Running.{starting, run_shape, run_contents, IsRunning}
+use Rattle.tick_run.specs.Running.{starting, run_contents, IsRunning}
+use Rattle.plan_meters.specs.TickFrames.{run_shape}
 use Rattle.tick_run.specs.Sending.{KeptFates}
 use Rattle.tick_run.specs.Finished.{IsFinished}
 use Rattle.tick_run.proofs.EndLemmas.{is_tick_run, have_delays}

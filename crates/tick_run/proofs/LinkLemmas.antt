@@ -7,7 +7,8 @@ use Rattle.std.proofs.lemmas.List.Elements.{All-head, All-tail, All-nil, All-con
 use Rattle.std.proofs.lemmas.List.Sums.{sum_by-cons}
 use Rattle.group_plan.specs.declared.Tag.{Tag}
 use Rattle.lossy_link.specs.Arrivals.{Arrival, arrival, placed, posted, due_at, due_elsewhere}
-use Rattle.tick_run.specs.OnTheWay.{same_tag, is_copy, tag_in, frames_in, tags_of}
+use Rattle.plan_meters.specs.Came.{same_tag, tag_in, frames_in, tags_of}
+use Rattle.tick_run.specs.OnTheWay.{is_copy}
 
 count-cons : {X : Type 0} (p : X → Bool) (x : X) (xs : List X) → count_by p (x ∷ xs) ≡ cond (p x) 1 0 + count_by p xs
 count-cons {X} p x xs = sum_by-cons (λ (y : X). cond {A = ℕ} (p y) 1 0) x xs

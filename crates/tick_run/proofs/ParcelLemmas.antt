@@ -16,9 +16,9 @@ use Rattle.transcript_log.specs.declared.Line.{Line}
 use Rattle.transcript_log.specs.declared.Line.TheVariants.{Send as SendLine, Take as TakeLine, Close as CloseLine, End as EndLine}
 use Rattle.transcript_log.specs.Events.{event_of, frame_of}
 use Rattle.transcript_log.proofs.EventLemmas.{is_send-itself}
-use Rattle.tick_run.specs.OnTheWay.{same_tag, tag_in, frames_in, tags_of}
+use Rattle.plan_meters.specs.Came.{same_tag, tag_in, frames_in, tags_of}
 use Rattle.tick_run.specs.Batches.{CanTake}
-use Rattle.tick_run.proofs.SpellingLemmas.{frame_in-is}
+use Rattle.plan_meters.proofs.SpellingLemmas.{frame_in-is}
 use Rattle.transcript_log.specs.Schedule.{Shape, is_closed, is_ended, is_announced, reaches_floor, is_answer_taken, all_taken, survivors, missing, lacking, closing}
 use Rattle.transcript_log.specs.Transcript.{Contents, ending}
 use Rattle.transcript_log.specs.Frames.{contents_of_lines}

@@ -25,7 +25,8 @@ use Rattle.group_book.specs.declared.answers.SendAnswer.{SendAnswer}
 use Rattle.group_book.specs.Books.{BookView, shape_of, past, knows, SendEnds}
 use Rattle.tick_run.specs.Progress.{IsDelay, past_of_entries, sending}
 use Rattle.tick_run.specs.TickFrames.{IsDue}
-use Rattle.tick_run.specs.Running.{Stage, sending_at, run_shape, run_contents, IsRunning}
+use Rattle.tick_run.specs.Running.{Stage, sending_at, run_contents, IsRunning}
+use Rattle.plan_meters.specs.TickFrames.{run_shape}
 use Rattle.tick_run.specs.Sending.{WritesOne, fate_by, post_by, KeepsFates, KeptFates, SendsOn, GoesOn}
 use Rattle.tick_run.proofs.BatchLemmas.{fates-push}
 use Rattle.tick_run.proofs.SendLemmas.{sent_step, due_step, posts-push}

@@ -21,7 +21,8 @@ use Rattle.run_rows.specs.Ticks.{clock_of}
 use Rattle.group_book.specs.Books.{BookView}
 use Rattle.tick_run.specs.Progress.{past_of_entries, sending}
 use Rattle.tick_run.specs.TickFrames.{IsDue}
-use Rattle.tick_run.specs.Running.{run_shape, run_contents, IsRunning, sending_at}
+use Rattle.plan_meters.specs.TickFrames.{run_shape}
+use Rattle.tick_run.specs.Running.{run_contents, IsRunning, sending_at}
 use Rattle.tick_run.specs.Sending.{WritesOne, Writes, fate_by, post_by, CarriesOne, Carries, passed, stamped, KeepsFates, GoesOn, AreDue}
 use Rattle.tick_run.proofs.SendingLemmas.{running-same, goes-one, keeps-one, sends_on-none, sends_on-more}
 

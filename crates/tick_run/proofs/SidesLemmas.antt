@@ -24,22 +24,24 @@ use Rattle.transcript_log.specs.Transcripts.{TranscriptView, last_tick_from}
 use Rattle.transcript_log.proofs.ListLemmas.{sum_by-map}
 use Rattle.run_rows.specs.Ticks.{clock_of}
 use Rattle.group_book.specs.Books.{BookView, past}
-use Rattle.tick_run.specs.declared.group.GroupFrames.{GroupFrames}
-use Rattle.tick_run.specs.declared.meter_side.MetersSent.{MetersSent}
-use Rattle.tick_run.specs.declared.meters.Meters.{Meters}
-use Rattle.tick_run.specs.OnTheWay.{frames_in, tags_of}
+use Rattle.plan_meters.specs.declared.group.GroupFrames.{GroupFrames}
+use Rattle.plan_meters.specs.declared.meter_side.MetersSent.{MetersSent}
+use Rattle.plan_meters.specs.declared.meters.Meters.{Meters}
+use Rattle.plan_meters.specs.Came.{frames_in, tags_of}
 use Rattle.tick_run.specs.Batches.{Batched, TakenAndClosed}
-use Rattle.tick_run.specs.Running.{emptied, taken, closed, run_shape, IsRunning, HaveCome, HaveEvents, quiet}
+use Rattle.tick_run.specs.Running.{emptied, taken, closed, IsRunning, HaveCome, HaveEvents, quiet}
+use Rattle.plan_meters.specs.TickFrames.{run_shape, AreHeard}
 use Rattle.tick_run.specs.Sending.{KeepsFates}
-use Rattle.tick_run.specs.TickFrames.{frames_due, AreHeard}
-use Rattle.tick_run.specs.Jobs.{readings_at, answers_at, AreGroupFrames, HasFrames, merged}
-use Rattle.tick_run.specs.Meters.{announcements, HasSet, AreMeters, AreTold, CanHearNow, book_of}
-use Rattle.tick_run.specs.Sides.{AllSend, MetersEnd}
+use Rattle.tick_run.specs.TickFrames.{frames_due}
+use Rattle.plan_meters.specs.Sent.{readings_at, answers_at, AreGroupFrames, AllSend, MetersEnd}
+use Rattle.tick_run.specs.Jobs.{HasFrames, merged}
+use Rattle.plan_meters.specs.Meters.{announcements, HasSet, AreMeters, AreTold, CanHearNow, book_of}
 use Rattle.tick_run.proofs.BatchedLemmas.{takes-batched, closes-batched, takes-fates, closes-fates}
-use Rattle.tick_run.proofs.CameLemmas.{frames-merged}
+use Rattle.tick_run.proofs.MergedLemmas.{frames-merged}
 use Rattle.tick_run.proofs.FrameSteps.{past_of-lines}
-use Rattle.tick_run.proofs.MetersLemmas.{meters-batched, are-told}
-use Rattle.tick_run.proofs.RangeLemmas.{range_long, range_weaker}
+use Rattle.tick_run.proofs.MetersLemmas.{meters-batched}
+use Rattle.plan_meters.proofs.MetersLemmas.{are-told}
+use Rattle.plan_meters.proofs.RangeLemmas.{range_long, range_weaker}
 use Rattle.tick_run.proofs.StateLemmas.{hears-taken, lines_append}
 use Rattle.tick_run.proofs.TakeLemmas.{sets-come}
 use Rattle.tick_run.proofs.TickLoop.{heard-past}

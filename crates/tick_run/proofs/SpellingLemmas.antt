@@ -1,37 +1,20 @@
--- Bytes on their way, and the frames that they spell.
-use Rattle.std.proofs.Common.{◌≡◌, ℕ, Bool, true, false, cond, ◌&&◌, List, [], ◌∷◌, ◌++◌, get_or, refl, ap, ◌∙◌}
+-- Bytes on their way, and the posted frames that they spell.
+use Rattle.std.proofs.Common.{◌≡◌, ℕ, Bool, true, false, cond, ◌&&◌, List, [], ◌∷◌, ◌++◌, refl, ap, ◌∙◌}
 use Rattle.std.specs.Prelude.{if◌then◌else◌, Option, Some, None, is_some}
 use Rattle.std.proofs.lemmas.Bool.{false≢true, and_parts}
 use Rattle.std.proofs.lemmas.List.{map-append}
 use Rattle.group_plan.specs.declared.Tag.{Tag}
 use Rattle.meter_frames.specs.declared.Frame.{Frame}
-use Rattle.meter_frames.specs.Frames.{spelling, IsFrame, kind_of}
-use Rattle.meter_frames.proofs.FrameLemmas.{frame_at-spelling, kind_of-byte}
+use Rattle.meter_frames.specs.Frames.{spelling, IsFrame}
 use Rattle.transcript_log.specs.declared.Line.{Line}
 use Rattle.transcript_log.specs.declared.Line.TheVariants.{Send as SendLine}
 use Rattle.transcript_log.specs.declared.Entry.{Entry}
 use Rattle.transcript_log.specs.Events.{is_send, event_of, frame_of, lines_of}
 use Rattle.transcript_log.proofs.EventLemmas.{is_send-itself}
 use Rattle.group_book.specs.Books.{posted, posted_in, IsFree}
-use Rattle.tick_run.specs.OnTheWay.{carried, frame_in, IsOfSend}
+use Rattle.tick_run.specs.OnTheWay.{IsOfSend}
 
--- ---- the frame of a spelling
-
-kind-spelling : (f : Frame) → kind_of (get_or (spelling f) 2 0) ≡ Some f.tag.kind
-unfolding spelling
-kind-spelling f = kind_of-byte f.tag.kind
-
-pub frame_in-spelling : (f : Frame) → IsFrame f → frame_in (spelling f) ≡ f
-unfolding frame_in
-frame_in-spelling f is = ap (carried (spelling f)) (kind-spelling f) ∙ frame_at-spelling f is
-
--- the frame of bytes that spell one
-pub frame_in-is : (bytes : List ℕ) (f : Frame) → IsFrame f → bytes ≡ spelling f → frame_in bytes ≡ f
-frame_in-is bytes f is spelled = ap frame_in spelled ∙ frame_in-spelling f is
-
--- ---- the posted frame
-
--- it stays
+-- a posted frame stays
 pub posted-append : (tag : Tag) (f : Frame) (xs ys : List Line) → posted_in tag xs ≡ Some f → posted_in tag (xs ++ ys) ≡ Some f
 unfolding posted
 posted-append tag f [] ys is = absurd (cc is)

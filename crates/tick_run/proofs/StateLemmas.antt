@@ -27,12 +27,15 @@ use Rattle.transcript_log.proofs.ListLemmas.{sum_by-map}
 use Rattle.run_rows.specs.Ticks.{Clock, clock_of, phase, tag_of, takes_at, copies, sent_at, due_of}
 use Rattle.transcript_log.specs.Transcripts.{TranscriptView, no_entries}
 use Rattle.group_book.specs.Books.{BookView}
-use Rattle.tick_run.specs.OnTheWay.{same_tag, is_copy, tag_in, frames_in, tags_of, IsOfSend}
+use Rattle.plan_meters.specs.Came.{same_tag, tag_in, frames_in, tags_of}
+use Rattle.tick_run.specs.OnTheWay.{is_copy, IsOfSend}
 use Rattle.tick_run.specs.Progress.{IsDelay, RunsTo, IsBatch, past_of_entries, sending}
-use Rattle.tick_run.specs.TickFrames.{was_taken, due_after, AreHeard, IsDue}
-use Rattle.tick_run.specs.Running.{Stage, starting, emptied, taken, closed, sending_at, run_shape, run_contents, IsRunning, quiet, AreCopiesDue, HaveCome, KeepCopies, HaveEvents, is_due, calls_of, calls_due}
+use Rattle.plan_meters.specs.TickFrames.{was_taken, AreHeard, run_shape}
+use Rattle.tick_run.specs.TickFrames.{due_after, IsDue}
+use Rattle.tick_run.specs.Running.{Stage, starting, emptied, taken, closed, sending_at, run_contents, IsRunning, quiet, AreCopiesDue, HaveCome, KeepCopies, HaveEvents, is_due, calls_of, calls_due}
 use Rattle.tick_run.proofs.LinkLemmas.{count-posted, count-due, count-elsewhere, all-posted, all-due, all-elsewhere}
-use Rattle.tick_run.proofs.SpellingLemmas.{frame_in-spelling, of_send-append, of_send-push}
+use Rattle.plan_meters.proofs.SpellingLemmas.{frame_in-spelling}
+use Rattle.tick_run.proofs.SpellingLemmas.{of_send-append, of_send-push}
 use Rattle.tick_run.proofs.PostedLemmas.{free-now}
 use Rattle.tick_run.proofs.BatchLemmas.{silent-batch, copies-silent}
 use Rattle.tick_run.proofs.StepLemmas.{takes_step, closes_step}

@@ -22,14 +22,16 @@ use Rattle.transcript_log.proofs.EventLemmas.{is_send-itself}
 use Rattle.run_rows.specs.Ticks.{Clock, clock_of, moment, copies}
 use Rattle.transcript_log.specs.Transcripts.{TranscriptView, last_tick_from}
 use Rattle.group_book.specs.Books.{BookView, knows, past, posted_in}
-use Rattle.tick_run.specs.OnTheWay.{same_tag, frame_in, tag_in, frames_in, tags_of, IsSpelling, IsOfSend}
+use Rattle.plan_meters.specs.Came.{same_tag, frame_in, tag_in, frames_in, tags_of, IsSpelling}
+use Rattle.tick_run.specs.OnTheWay.{IsOfSend}
 use Rattle.tick_run.specs.Progress.{RunsTo}
-use Rattle.tick_run.specs.Running.{Stage, run_shape, run_contents, IsRunning, HaveCome}
-use Rattle.tick_run.specs.Meters.{HasSet}
+use Rattle.tick_run.specs.Running.{Stage, run_contents, IsRunning, HaveCome}
+use Rattle.plan_meters.specs.TickFrames.{run_shape}
+use Rattle.plan_meters.specs.Meters.{HasSet}
 use Rattle.tick_run.specs.Batches.{CanTake}
 use Rattle.tick_run.proofs.StepLemmas.{from_copies}
 use Rattle.tick_run.proofs.EndLemmas.{in_time_of}
-use Rattle.tick_run.proofs.SpellingLemmas.{frame_in-is}
+use Rattle.plan_meters.proofs.SpellingLemmas.{frame_in-is}
 use Rattle.tick_run.proofs.PostedLemmas.{posted-frame, frame-facts}
 use Rattle.meter_frames.specs.declared.Frame.{Frame}
 

@@ -19,8 +19,9 @@ use Rattle.run_rows.specs.Ticks.{Clock, clock_of, sent_at, due_of}
 use Rattle.transcript_log.specs.Transcripts.{TranscriptView, last_tick_from}
 use Rattle.group_book.specs.Books.{BookView, past}
 use Rattle.tick_run.specs.Progress.{past_of_entries}
-use Rattle.tick_run.specs.TickFrames.{frames_due, AreHeard, IsDue}
-use Rattle.tick_run.specs.Running.{closed, starting, run_shape, run_contents, IsRunning, AreCopiesDue}
+use Rattle.tick_run.specs.TickFrames.{frames_due, IsDue}
+use Rattle.plan_meters.specs.TickFrames.{AreHeard, run_shape}
+use Rattle.tick_run.specs.Running.{closed, starting, run_contents, IsRunning, AreCopiesDue}
 use Rattle.tick_run.specs.Sending.{IsOfPlan, GoesOn, AreDue, CanSendAll}
 use Rattle.tick_run.proofs.DueLemmas.{tags-due, all_flat, all-due_now}
 use Rattle.tick_run.proofs.BatchLemmas.{sent-late}

@@ -1,9 +1,8 @@
 -- What a batch leaves of a book and a transcript.
-use Rattle.std.specs.Prelude.{◌≡◌, ℕ, true, List, ◌++◌, map, Some}
+use Rattle.std.specs.Prelude.{◌≡◌, ℕ, true, List, ◌++◌, map, Some, length}
 use Rattle.lossy_link.specs.Arrivals.{Arrival}
 use Rattle.meter_frames.specs.declared.Frame.{Frame}
 use Rattle.meter_frames.specs.Frames.{spelling, IsFrame}
-use Rattle.std.specs.Prelude.{length}
 use Rattle.group_plan.specs.declared.Tag.{Tag}
 use Rattle.transcript_log.specs.declared.Event.{Event}
 use Rattle.transcript_log.specs.declared.Event.TheVariants.{Take}

@@ -3,13 +3,9 @@ pub mod OnTheWay
 pub mod TickFrames
 pub mod Finished
 pub mod Running
-pub mod ByGroup
 pub mod Jobs
 pub mod Sending
 pub mod Batches
-pub mod Meters
-pub mod Hearers
-pub mod Hidden
 pub mod Sides
 pub mod Recorded
 pub mod Stages

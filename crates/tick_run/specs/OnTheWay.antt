@@ -1,41 +1,16 @@
 -- Copies on their way, and the lanes that hang, against the entries of a run.
-use Rattle.std.specs.Prelude.{◌≡◌, ℕ, ◌≤◌, ◌==◌, Bool, ◌&&◌, List, map, filter, sum_by, count_by, All, slice_index, Option, Some, None}
-use Rattle.group_plan.specs.declared.Kind.{Kind}
-use Rattle.group_plan.specs.declared.Kind.TheVariants.{Reading}
+use Rattle.std.specs.Prelude.{◌≡◌, ℕ, ◌≤◌, ◌==◌, Bool, ◌&&◌, List, map, filter, sum_by, count_by, All, Some}
 use Rattle.group_plan.specs.declared.Tag.{Tag}
 use Rattle.link_lanes.specs.Lanes.{Slot, after_posts, lasts}
 use Rattle.link_lanes.specs.declared.Post.{Post}
 use Rattle.lossy_link.specs.Arrivals.{Arrival}
 use Rattle.meter_frames.specs.declared.Frame.{Frame}
-use Rattle.meter_frames.specs.Frames.{spelling, IsFrame, kind_of, frame_at}
+use Rattle.meter_frames.specs.Frames.{spelling, IsFrame}
 use Rattle.transcript_log.specs.declared.Entry.{Entry}
-use Rattle.transcript_log.specs.Events.{is_tag, lines_of}
+use Rattle.transcript_log.specs.Events.{lines_of}
 use Rattle.run_rows.specs.Ticks.{copies}
 use Rattle.group_book.specs.Books.{posted_in}
-
-abbrev pub same_tag : Tag → Tag → Bool
-same_tag z tag = is_tag z.group z.round z.meter z.kind tag
-
--- ---- bytes
-
--- the frame that bytes of this kind carry
-abbrev pub carried : List ℕ → Option Kind → Frame
-carried bytes (Some kind) = frame_at kind bytes
-carried bytes None = frame_at Reading bytes
-
--- the frame that bytes carry which are the spelling of one
-unfoldable pub frame_in : List ℕ → Frame
-frame_in bytes = carried bytes (kind_of (slice_index bytes 2))
-
-abbrev pub tag_in : List ℕ → Tag
-tag_in bytes = (frame_in bytes).tag
-
--- the frames of these copies, and their tags
-abbrev pub frames_in : List (List ℕ) → List Frame
-frames_in copies = map frame_in copies
-
-abbrev pub tags_of : List Frame → List Tag
-tags_of frames = map (λ f. f.tag) frames
+use Rattle.plan_meters.specs.Came.{same_tag, tag_in}
 
 -- bytes are the spelling of the frame that the entries posted under its tag
 pub record IsOfSend (entries : List Entry) (bytes : List ℕ) : Type 0 where
@@ -43,12 +18,6 @@ pub record IsOfSend (entries : List Entry) (bytes : List ℕ) : Type 0 where
   pub is : IsFrame frame
   pub spelled : bytes ≡ spelling frame
   pub posted : posted_in frame.tag (lines_of entries) ≡ Some frame
-
--- bytes are the spelling of a frame
-pub record IsSpelling (bytes : List ℕ) : Type 0 where
-  pub frame : Frame
-  pub is : IsFrame frame
-  pub spelled : bytes ≡ spelling frame
 
 -- ---- copies
 

@@ -10,7 +10,6 @@ use Rattle.transcript_log.specs.declared.Event.TheVariants.{Close, End}
 use Rattle.transcript_log.specs.declared.Line.{Line}
 use Rattle.transcript_log.specs.declared.Entry.{Entry}
 use Rattle.transcript_log.specs.Events.{event_of, lines_of}
-use Rattle.transcript_log.specs.Schedule.{Shape, shape_of_presence}
 use Rattle.transcript_log.specs.Transcript.{Contents, contents_of_tables}
 use Rattle.transcript_log.specs.Journal.{HasFramesOf}
 use Rattle.run_rows.specs.Ticks.{Clock, clock_of, copies}
@@ -20,8 +19,10 @@ use Rattle.group_book.specs.Books.{BookView}
 use Rattle.shared_book.specs.declared.parcel.Parcel.{Parcel}
 use Rattle.shared_book.specs.declared.parcel.Parcel.TheVariants.{Close as CloseParcel, End as EndParcel}
 use Rattle.shared_book.specs.Parcels.{Accepted, judged}
-use Rattle.tick_run.specs.OnTheWay.{same_tag, frames_in, tags_of, IsOfSend, AreOnTheWay}
+use Rattle.plan_meters.specs.Came.{same_tag, frames_in, tags_of}
+use Rattle.tick_run.specs.OnTheWay.{IsOfSend, AreOnTheWay}
 use Rattle.tick_run.specs.Progress.{RunsTo}
+use Rattle.plan_meters.specs.TickFrames.{run_shape}
 
 -- all entries stand before this moment; the ticks below `takes`, `closes` and `sends` have theirs; from tick `onward` on copies are on their way
 pub record Stage : Type 0 where
@@ -51,10 +52,7 @@ closed t = record { moment = 3 * t + 2; takes = t + 1; closes = t + 1; sends = t
 abbrev pub sending_at : ℕ → Stage
 sending_at t = record { moment = 3 * t + 3; takes = t + 1; closes = t + 1; sends = t; onward = t + 1 }
 
--- the shape of these readings, and what their lines say under these masks
-abbrev pub run_shape : ReadingsView → Shape
-run_shape readings = shape_of_presence (presence_of readings)
-
+-- what the lines of these readings say under these masks
 abbrev pub run_contents : ReadingsView → Masks → Contents
 run_contents readings m = contents_of_tables readings.plan.groups (reading readings.table) m
 

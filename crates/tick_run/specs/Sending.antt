@@ -18,7 +18,8 @@ use Rattle.group_book.specs.Books.{BookView, SendEnds}
 use Rattle.tick_run.specs.OnTheWay.{AreLanesAt}
 use Rattle.tick_run.specs.Progress.{IsDelay, KeepSets, past_of_entries, sending}
 use Rattle.tick_run.specs.TickFrames.{IsDue}
-use Rattle.tick_run.specs.Running.{run_shape, run_contents, IsRunning, sending_at}
+use Rattle.plan_meters.specs.TickFrames.{run_shape}
+use Rattle.tick_run.specs.Running.{run_contents, IsRunning, sending_at}
 
 -- a frame of the plan, of its kind, with a set within its group
 pub record IsOfPlan (plan : PlanView) (f : Frame) : Type 0 where

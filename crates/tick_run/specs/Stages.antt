@@ -9,7 +9,7 @@ use Rattle.tick_run.specs.declared.RunError.{RunError}
 use Rattle.tick_run.specs.declared.all_ticks.Stage.{Stage}
 use Rattle.tick_run.specs.Running.{IsRunning, starting}
 use Rattle.tick_run.specs.Sending.{KeptFates}
-use Rattle.tick_run.specs.Meters.{AreMeters}
+use Rattle.plan_meters.specs.Meters.{AreMeters}
 use Rattle.tick_run.specs.Recorded.{IsRecordedUpTo}
 
 -- the ticks before this one are made, and of the entries so many are recorded as the stage says

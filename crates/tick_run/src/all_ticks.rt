@@ -8,7 +8,7 @@ ghost use Rattle.mask_stream.specs.ChaMaskTables.{words_of};
 ghost use Rattle.transcript_log.specs.Events.{lines_of};
 ghost use Rattle.tick_run.specs.Running.{IsRunning, starting};
 ghost use Rattle.tick_run.specs.Sending.{KeptFates};
-ghost use Rattle.tick_run.specs.Hidden.{IsOfOnePlan, HasWordsAt};
+ghost use Rattle.plan_meters.specs.Hidden.{IsOfOnePlan, HasWordsAt};
 ghost use Rattle.tick_run.specs.Recorded.{IsRecorded, IsRecordedUpTo};
 ghost use Rattle.tick_run.specs.Stages.{StandsAt, ComesTo};
 

@@ -4,16 +4,16 @@ ghost use Rattle.std.specs.Prelude.{◌≡◌, ◌++◌, ◌<◌, List, map, len
 ghost use Rattle.std.specs.List.{AllZip, flat_map, range_with_len};
 ghost use Rattle.missing_round.specs.Sets.{less};
 ghost use Rattle.meter_frames.specs.declared.Frame.{Frame};
-ghost use Rattle.tick_run.specs.declared.group.GroupFrames.{GroupFrames};
+ghost use Rattle.plan_meters.specs.declared.group.GroupFrames.{GroupFrames};
 ghost use Rattle.tick_run.specs.TickFrames.{announcement_frame};
 ghost use Rattle.tick_run.specs.Jobs.{announcements_due, HasFrames, merged};
 
-use crate::group::GroupFrames;
 use group_book::Book;
 use group_plan::{Kind, Tag};
 use meter_frames::Frame;
 use missing_round::MeterSet;
 use mod_word::Word;
+use plan_meters::GroupFrames;
 use std::alloc::{AllocError, Global};
 use transcript_log::members;
 

@@ -8,7 +8,7 @@ ghost use Rattle.transcript_log.specs.Drafts.{Begins, quiet};
 ghost use Rattle.transcript_log.specs.Transcripts.{FitsLine, last_tick_from};
 ghost use Rattle.collector_workers.specs.Batch.{Collects};
 ghost use Rattle.tick_run.specs.Batches.{CanTake, Batched, TakenAndClosed};
-ghost use Rattle.tick_run.specs.OnTheWay.{frames_in, tags_of};
+ghost use Rattle.plan_meters.specs.Came.{frames_in, tags_of};
 ghost use Rattle.tick_run.specs.Running.{Ask, is_due, calls_due, parcels_of, parcels_due};
 ghost use Rattle.run_rows.specs.Ticks.{clock_of};
 ghost use Rattle.shared_book.specs.declared.parcel.Parcel.TheVariants.{Bytes, Close as CloseParcel, End as EndParcel};

@@ -1,6 +1,6 @@
 //! What never changes in a run.
 
-use crate::known::Known;
+use plan_meters::Known;
 use std::alloc::Global;
 
 /// Who commits the batches of a run: so many workers, 1 to 16, each through the gate.

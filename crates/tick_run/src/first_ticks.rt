@@ -3,17 +3,17 @@
 ghost use Rattle.std.specs.Prelude.{◌≡◌, ℕ, ◌<◌, ◌≤◌, ◌^◌, IfOk};
 ghost use Rattle.link_lanes.specs.Racks.{slots, posts_of, HasRoom};
 ghost use Rattle.mask_stream.specs.ChaMaskTables.{words_of};
-ghost use Rattle.tick_run.specs.Hidden.{AreRest, IsOfOnePlan, HasWordsAt};
+ghost use Rattle.plan_meters.specs.Hidden.{AreRest, IsOfOnePlan, HasWordsAt};
 ghost use Rattle.tick_run.specs.Stages.{StandsAt, ComesTo, IsHeldAt, HeldComesTo, StaysSame};
 
 use crate::RunError;
 use crate::all_ticks::{Stage, run_ticks};
 use crate::context::Context;
-use crate::known::Known;
 use crate::recorder::Recorder;
 use collector_workers::Gate;
 use link_lanes::{Lane, Rack};
 use mod_word::Word;
+use plan_meters::Known;
 use std::alloc::{AllocError, Global};
 use std::sync::Wait;
 use std::thread;
@@ -133,7 +133,7 @@ pub(crate) fn first_ticks<R: Threads + Wait + Sync, G: Gate, W: Recorder>(
     ensures room { HasRoom (λ b. meaning (b.vtable, b.value)) rack.new }
     ensures same { (first : W) → W.same first recorder.old → W.same first recorder.new }
 {
-    let to = context.known.hidden.rounds();
+    let to = context.known.hidden.rounds;
     if to < context.known.readings.plan().rounds() {
         return ticks_and_words(context, stage, rack, recorder, to);
     }

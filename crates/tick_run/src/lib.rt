@@ -1,20 +1,11 @@
 //! The run over ticks.
 #![tactic(auto)]
 
-mod all_groups;
 mod all_ticks;
 mod announcements;
 mod batches;
-mod by_group;
 mod context;
 mod first_ticks;
-mod frames;
-mod group;
-mod hidden;
-mod known;
-mod meter_side;
-mod meters;
-mod pieces;
 mod recorder;
 mod run;
 mod running;

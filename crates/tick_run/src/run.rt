@@ -15,19 +15,16 @@ ghost use Rattle.transcript_log.specs.Transcripts.{no_entries};
 ghost use Rattle.group_book.specs.Books.{shape_of};
 ghost use Rattle.tick_run.specs.Running.{IsRunning, starting};
 ghost use Rattle.tick_run.specs.Finished.{IsFinished, HasRowsOf};
-ghost use Rattle.tick_run.specs.Hidden.{AreHidden, IsOfOnePlan};
+ghost use Rattle.plan_meters.specs.Hidden.{AreHidden, IsOfOnePlan};
 ghost use Rattle.tick_run.specs.Recorded.{IsRecorded};
 ghost use Rattle.tick_run.specs.Sending.{KeptFates};
 ghost use Rattle.tick_run.specs.Stages.{StandsAt};
-ghost use Rattle.tick_run.specs.Meters.{AreMeters};
+ghost use Rattle.plan_meters.specs.Meters.{AreMeters};
 
 use crate::RunError;
 use crate::all_ticks::{Stage, run_to_end};
 use crate::context::{Context, Crew};
 use crate::first_ticks::{FirstTicks, first_ticks};
-use crate::hidden::HiddenReadings;
-use crate::known::Known;
-use crate::meters::Meters;
 use crate::recorder::Recorder;
 use crate::running::Running;
 use crate::sides::beside;
@@ -39,6 +36,7 @@ use link_lanes::{Lane, Rack};
 use lossy_link::Link;
 use mask_stream::ChaMasks;
 use pair_keys::KeyTable;
+use plan_meters::{HiddenReadings, Known, Meters};
 use std::alloc::{AllocError, Global};
 use std::sync::Wait;
 use std::thread::Threads;
@@ -268,7 +266,7 @@ fn run_first<R: Threads + Wait + Sync, G: Gate, W: Recorder>(
     rack.reserve(sends_about(plan))?;
     let masks = ChaMasks::new(keys);
     let Begun { going, hidden } = begin_and_hide(rt, alloc, plan, readings, &masks)?;
-    let next = hidden.rounds();
+    let next = hidden.rounds;
     let context = Context {
         crew: Crew {
             rt,

@@ -4,7 +4,7 @@ use Rattle.group_plan.specs.Plans.{members}
 use Rattle.group_book.specs.Books.{shape_of, past}
 use Rattle.transcript_log.specs.Schedule.{missing, is_announced}
 use Rattle.tick_run.specs.TickFrames.{announcement_frame}
-use Rattle.tick_run.proofs.GroupLemmas.{announcements-none, announcements-thin, announcements-one}
+use Rattle.tick_run.proofs.DueAnnouncements.{announcements-none, announcements-thin, announcements-one}
 use Rattle.tick_run.proofs.announcements.add_announcement_frames.Goals as goal
 
 pub returns-in_default : goal.returns-in_default

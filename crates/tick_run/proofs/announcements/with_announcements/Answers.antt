@@ -4,8 +4,8 @@ use Rattle.std.proofs.lemmas.List.{length-map}
 use Rattle.group_plan.specs.NewPlans.{stated}
 use Rattle.meter_frames.specs.declared.Frame.{Frame}
 use Rattle.tick_run.specs.Jobs.{HasFrames, merged}
-use Rattle.tick_run.proofs.GroupLemmas.{flat_next}
-use Rattle.tick_run.proofs.RangeLemmas.{range_item}
+use Rattle.plan_meters.proofs.GroupLemmas.{flat_next}
+use Rattle.plan_meters.proofs.RangeLemmas.{range_item}
 use Rattle.tick_run.proofs.announcements.with_announcements.Goals as goal
 
 pub loop-group-preserved : goal.loop-group-preserved

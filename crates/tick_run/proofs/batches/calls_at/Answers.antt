@@ -1,7 +1,7 @@
 use Rattle.std.proofs.Common.{◌++◌, ap, sym, ◌∙◌}
 use Rattle.run_rows.specs.Ticks.{clock_of}
 use Rattle.tick_run.specs.Running.{parcels_of}
-use Rattle.tick_run.proofs.GroupLemmas.{flat_next}
+use Rattle.plan_meters.proofs.GroupLemmas.{flat_next}
 use Rattle.tick_run.proofs.batches.calls_at.Goals as goal
 
 pub loop-group-preserved : goal.loop-group-preserved

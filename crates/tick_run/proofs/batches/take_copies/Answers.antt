@@ -1,7 +1,7 @@
 use Rattle.std.proofs.Common.{sym, subst, List, map}
 use Rattle.transcript_log.specs.declared.Event.TheVariants.{Take}
 use Rattle.shared_book.specs.declared.parcel.Parcel.{Parcel}
-use Rattle.tick_run.specs.OnTheWay.{frames_in, tags_of}
+use Rattle.plan_meters.specs.Came.{frames_in, tags_of}
 use Rattle.tick_run.specs.Running.{Ask}
 use Rattle.tick_run.proofs.ParcelLemmas.{takes-asked}
 use Rattle.tick_run.proofs.batches.take_copies.Goals as goal

@@ -1,6 +1,6 @@
 use Rattle.std.proofs.Common.{subst, sym}
 use Rattle.group_plan.specs.Tables.{PresenceView}
-use Rattle.tick_run.specs.Meters.{AreMeters}
+use Rattle.plan_meters.specs.Meters.{AreMeters}
 use Rattle.tick_run.proofs.run.begin.Goals as goal
 
 pub returns-clause-meters : goal.returns-clause-meters

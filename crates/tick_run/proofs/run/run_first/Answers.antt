@@ -1,14 +1,12 @@
-use Rattle.std.proofs.Common.{ℕ, subst, sym, ◌∙◌, arith}
+use Rattle.std.proofs.Common.{subst, sym, ◌∙◌, arith}
 use Rattle.link_lanes.specs.Racks.{slots}
 use Rattle.mask_stream.specs.ChaMaskTables.{words_of}
-use Rattle.mask_stream.specs.KeyStreams.{streams}
 use Rattle.missing_round.specs.Masks.{Masks}
-use Rattle.pair_keys.specs.Keys.{table_of}
 use Rattle.transcript_log.specs.Transcripts.{TranscriptView}
-use Rattle.tick_run.specs.Hidden.{AreHidden}
+use Rattle.plan_meters.specs.Hidden.{AreHidden}
 use Rattle.tick_run.specs.Recorded.{up_to}
 use Rattle.tick_run.specs.Stages.{StandsAt}
-use Rattle.tick_run.proofs.FinishLemmas.{kept-fresh, kept-at}
+use Rattle.tick_run.proofs.FinishLemmas.{kept-fresh}
 use Rattle.tick_run.proofs.run.run_first.Goals as goal
 
 pub first_ticks-requires-clause-stands : goal.first_ticks-requires-clause-stands
@@ -23,8 +21,7 @@ first_ticks-requires-clause-stands g c κs within = record {
 
 pub returns-clause-stands : goal.returns-clause-stands
 returns-clause-stands g c =
-    subst (λ (n : ℕ). StandsAt c.args.readings.now (streams (table_of c.args.keys.now)) (g.W.Recorder.keeps c.first_ticks.new.recorder) n c.in_ok-stage.field-0.stage) (sym c.rounds-next.ensures)
-    (subst (λ (m : Masks). StandsAt c.args.readings.now m (g.W.Recorder.keeps c.first_ticks.new.recorder) c.in_ok-going.field-0.hidden.rounds c.in_ok-stage.field-0.stage) c.new-masks.ensures.words c.in_ok-stage.ensures.comes.stands)
+    subst (λ (m : Masks). StandsAt c.args.readings.now m (g.W.Recorder.keeps c.first_ticks.new.recorder) c.in_ok-going.field-0.hidden.rounds c.in_ok-stage.field-0.stage) c.new-masks.ensures.words c.in_ok-stage.ensures.comes.stands
 
 pub returns-clause-hidden : goal.returns-clause-hidden
 returns-clause-hidden g c =
@@ -35,4 +32,4 @@ pub returns-clause-fates : goal.returns-clause-fates
 returns-clause-fates g c =
     let hung = slots (λ b. (goal.Lane-dyn g (b.vtable, b.value)).meaning b.value) c.args.rack.now in
     let start = kept-fresh hung _ _ c.args.plan.now c.in_ok-going.field-0.going.run.transcript (c.reserve.ensures.posts ∙ c.requires.posts) c.reserve.ensures.lanes c.in_ok-going.ensures.transcript in
-    kept-at hung c.in_ok-going.field-0.hidden.rounds c.rounds-next.result c.in_ok-stage.field-0.stage.going.run.transcript.entries _ _ (sym c.rounds-next.ensures) (c.in_ok-stage.ensures.comes.fates hung start)
+    c.in_ok-stage.ensures.comes.fates hung start

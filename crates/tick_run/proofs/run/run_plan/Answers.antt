@@ -7,7 +7,7 @@ use Rattle.link_lanes.specs.Lanes.{Slot}
 use Rattle.tick_run.specs.declared.RunError.{RunError}
 use Rattle.tick_run.specs.declared.run.Finished.{Finished}
 use Rattle.tick_run.specs.Finished.{IsFinished, HasRowsOf}
-use Rattle.tick_run.specs.Hidden.{AreHidden}
+use Rattle.plan_meters.specs.Hidden.{AreHidden}
 use Rattle.tick_run.specs.Stages.{StandsAt}
 use Rattle.tick_run.proofs.RowsOf.{rows-are}
 use Rattle.tick_run.proofs.run.run_plan.Goals as goal

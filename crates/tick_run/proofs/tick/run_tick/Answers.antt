@@ -1,11 +1,11 @@
 use Rattle.std.proofs.Common.{◌+◌, sym, subst, ◌∙◌, arith}
 use Rattle.mask_stream.specs.ChaMaskTables.{words_of}
 use Rattle.tick_run.specs.Batches.{TakenAndClosed}
-use Rattle.tick_run.specs.OnTheWay.{frames_in, tags_of}
+use Rattle.plan_meters.specs.Came.{frames_in, tags_of}
 use Rattle.tick_run.specs.Running.{emptied}
-use Rattle.tick_run.specs.Meters.{AreMeters}
-use Rattle.tick_run.specs.declared.meters.Meters.{Meters}
-use Rattle.tick_run.specs.Sides.{AllSend}
+use Rattle.plan_meters.specs.Meters.{AreMeters}
+use Rattle.plan_meters.specs.declared.meters.Meters.{Meters}
+use Rattle.plan_meters.specs.Sent.{AllSend}
 use Rattle.tick_run.proofs.StateLemmas.{emptied-of}
 use Rattle.tick_run.proofs.TakeLemmas.{all-taken, all-spelled}
 use Rattle.tick_run.proofs.SendingLemmas.{keeps-retired, kept-next}

@@ -1,15 +1,15 @@
 use Rattle.std.proofs.Common.{◌≡◌, ◌+◌, length}
 use Rattle.std.specs.Prelude.{IfOk}
 use Rattle.mask_stream.specs.ChaMaskTables.{words_of}
-use Rattle.tick_run.specs.OnTheWay.{frames_in, tags_of}
+use Rattle.plan_meters.specs.Came.{frames_in, tags_of}
 use Rattle.tick_run.specs.Running.{closed, sending_at}
-use Rattle.tick_run.specs.Jobs.{AreGroupFrames}
-use Rattle.tick_run.specs.Meters.{announcements}
+use Rattle.plan_meters.specs.Sent.{AreGroupFrames}
+use Rattle.plan_meters.specs.Meters.{announcements}
 use Rattle.tick_run.proofs.TakeLemmas.{sets-come}
 use Rattle.tick_run.proofs.StateLemmas.{sends-begin}
 use Rattle.tick_run.proofs.TickLoop.{frames_at, frames-due, due-of_plan, frames-can, frames-later, frames-sent, frames-past}
 use Rattle.tick_run.proofs.SendingLoop.{on_ok}
-use Rattle.tick_run.proofs.RangeLemmas.{range_long}
+use Rattle.plan_meters.proofs.RangeLemmas.{range_long}
 use Rattle.tick_run.proofs.MetersLemmas.{meters-running}
 use Rattle.tick_run.proofs.tick.send_tick.Goals as goal
 

@@ -1,0 +1,12 @@
+pub mod RangeLemmas
+pub mod RowLemmas
+pub mod ShapeLemmas
+pub mod GroupLemmas
+pub mod HearerLemmas
+pub mod CameLemmas
+pub mod SpellingLemmas
+pub mod CopyLemmas
+pub mod ByGroupLemmas
+pub mod HiddenLemmas
+pub mod MeterLemmas
+pub mod MetersLemmas

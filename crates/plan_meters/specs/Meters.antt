@@ -1,0 +1,129 @@
+-- The meters of a plan: what each has read, and what it answers.
+use Rattle.meter_frames.specs.declared.Frame.{Frame}
+use Rattle.std.specs.Prelude.{◌≡◌, ℕ, ◌<◌, nat_lt, ◌&&◌, Bool, true, false, List, length, All, filter, Option, Some, None, is_some, slice_index_or, Vec}
+use Rattle.std.specs.declared.alloc.Global.{Global}
+use Rattle.std.specs.List.{AllZip, range_with_len}
+use Rattle.group_plan.specs.Plans.{size}
+use Rattle.group_plan.specs.Tables.{ReadingsView, IsPresenceTable, presence_of}
+use Rattle.group_plan.specs.declared.Kind.TheVariants.{Announcement}
+use Rattle.group_plan.specs.declared.Tag.{Tag}
+use Rattle.meter_core.specs.Meters.{MeterView, note_at, kept_set}
+use Rattle.meter_core.specs.declared.Heard.{Heard}
+use Rattle.meter_core.specs.declared.Heard.TheVariants.{Answer, AnswerAgain, Refused}
+use Rattle.transcript_log.specs.declared.Event.{Event}
+use Rattle.transcript_log.specs.Events.{same_kind}
+use Rattle.transcript_log.specs.Schedule.{Shape, members_of, floor_of, missing, is_announcement_taken}
+use Rattle.group_book.specs.Books.{BookView, shape_of, past}
+use Rattle.run_rows.specs.Ticks.{clock_of}
+use Rattle.plan_meters.specs.Came.{tags_of}
+use Rattle.plan_meters.specs.TickFrames.{run_shape, AreHeard}
+use Rattle.plan_meters.specs.declared.meters.Meters.{Meters}
+
+-- a meter that is marked read is so over the members of the round
+abbrev pub AreMembers : List ℕ → Option (List ℕ) → Type 0
+AreMembers members None = Unit {0}
+AreMembers members (Some set) = set ≡ members
+
+-- a set that meter i keeps for a round is the missing set, and its announcement was taken
+abbrev pub IsKept : Shape → List Event → ℕ → ℕ → ℕ → Option (List ℕ) → Type 0
+IsKept s past g r i None = Unit {0}
+IsKept s past g r i (Some set) = (is_announcement_taken s g r i past ≡ true) × (set ≡ missing s g r past)
+
+-- meter i of group g in a run of n rounds: it has read exactly those rounds below t in which it is present, and keeps announced sets alone
+pub record IsMeter (s : Shape) (n t : ℕ) (past : List Event) (g i : ℕ) (m : MeterView) : Type 0 where
+  pub number : m.meter ≡ i
+  pub floor : m.floor ≡ floor_of s g
+  pub notes : length m.notes ≡ n
+  pub read : (r : ℕ) → r < n → is_some (note_at m r).members ≡ (nat_lt r t && s.present g r i)
+  pub members : (r : ℕ) → AreMembers (members_of s g r) (note_at m r).members
+  pub kept : (r : ℕ) → IsKept s past g r i (kept_set m r)
+
+-- the same of the book's plan after its past, before the readings of tick t are sent
+abbrev pub IsMeterOf : BookView → ℕ → ℕ → ℕ → MeterView → Type 0
+IsMeterOf b t g i m = IsMeter (shape_of b) b.presence.plan.rounds t (past b) g i m
+
+-- the meters of group g, one after another
+abbrev pub AreOfGroup : BookView → ℕ → ℕ → List MeterView → Type 0
+AreOfGroup b t g meters = AllZip (IsMeterOf b t g) (range_with_len 0 (size b.presence.plan.groups g)) meters
+
+abbrev pub IsGroup : BookView → ℕ → ℕ → Vec MeterView Global → Type 0
+IsGroup b t g meters = AreOfGroup b t g meters.items
+
+-- the meters of all groups; only members are present
+pub record AreMeters (b : BookView) (t : ℕ) (m : Meters) : Type 0 where
+  pub table : IsPresenceTable b.presence.plan b.presence.table
+  pub groups : AllZip (IsGroup b t) (range_with_len 0 (length b.presence.plan.groups)) m.groups.items
+
+-- a book, as one of these readings
+abbrev pub book_of : ReadingsView → BookView → BookView
+book_of readings b = record b { presence = presence_of readings }
+
+-- by some book of these readings the meters have read the rounds below t
+pub record CanRead (readings : ReadingsView) (t : ℕ) (m : Meters) : Type 0 where
+  pub book : BookView
+  pub meters : AreMeters (book_of readings book) t m
+
+-- so have those of group g
+pub record CanReadGroup (readings : ReadingsView) (t g : ℕ) (meters : List MeterView) : Type 0 where
+  pub book : BookView
+  pub are : AreOfGroup (book_of readings book) t g meters
+
+-- ---- hearing
+
+-- the meter answers
+abbrev pub is_answer : Heard → Bool
+is_answer Answer = true
+is_answer AnswerAgain = true
+is_answer (Refused why) = false
+
+abbrev pub is_announcement : Tag → Bool
+is_announcement tag = same_kind tag.kind Announcement
+
+-- the announcements among the frames that came
+abbrev pub announcements : List Frame → List Frame
+announcements came = filter (λ f. is_announcement f.tag) came
+
+-- a frame, if it is an announcement, has the missing set
+abbrev pub HasSet : Shape → List Event → Frame → Type 0
+HasSet s past f = is_announcement f.tag ≡ true → f.missing ≡ missing s f.tag.group f.tag.round past
+
+-- an announcement was taken with effect, of a round of the plan below t, and has the missing set
+pub record IsTold (b : BookView) (t : ℕ) (f : Frame) : Type 0 where
+  pub taken : is_announcement_taken (shape_of b) f.tag.group f.tag.round f.tag.meter (past b) ≡ true
+  pub round : f.tag.round < b.presence.plan.rounds
+  pub early : f.tag.round < t
+  pub set : f.missing ≡ missing (shape_of b) f.tag.group f.tag.round (past b)
+
+-- so is each announcement among these frames
+abbrev pub AreTold : BookView → ℕ → List Frame → Type 0
+AreTold b t came = All (λ f. is_announcement f.tag ≡ true → IsTold b t f) came
+
+-- by some book the meters have read the rounds below some t, and the announcement is of one of them
+pub record CanHear (m : Meters) (f : Frame) : Type 0 where
+  pub book : BookView
+  pub until : ℕ
+  pub meters : AreMeters book until m
+  pub told : is_announcement f.tag ≡ true → IsTold book until f
+
+-- the same of each of these frames
+pub record CanHearAll (m : Meters) (came : List Frame) : Type 0 where
+  pub book : BookView
+  pub until : ℕ
+  pub meters : AreMeters book until m
+  pub told : AreTold book until came
+
+-- by some book of these readings the meters have read the rounds below t, and each announcement that came is heard with the missing set
+pub record CanHearNow (readings : ReadingsView) (t : ℕ) (m : Meters) (came : List Frame) : Type 0 where
+  pub book : BookView
+  pub meters : AreMeters (book_of readings book) t m
+  pub heard : AreHeard (run_shape readings) (clock_of readings.plan) (past book) t (tags_of came)
+  pub sets : All (HasSet (run_shape readings) (past book)) came
+
+-- the meter to which the announcement came keeps its set
+abbrev pub HasKept : Meters → Frame → Type 0
+HasKept m f = (group : Vec MeterView Global) (meter : MeterView)
+    → kept_set (slice_index_or (slice_index_or m.groups.items f.tag.group group).items f.tag.meter meter) f.tag.round ≡ Some f.missing
+
+-- so do the meters of the announcements among these frames
+abbrev pub HaveHeard : Meters → List Frame → Type 0
+HaveHeard m came = All (λ f. is_announcement f.tag ≡ true → HasKept m f) came
