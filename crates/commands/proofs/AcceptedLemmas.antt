@@ -8,7 +8,7 @@ use Rattle.totals_report.specs.declared.row.ReportRow.{ReportRow}
 use Rattle.totals_report.specs.Reading.{rows_of_text}
 use Rattle.audit_check.specs.Audits.{lines_in, rows_by_frames, IsFirstImpossible, DifferFirst}
 use Rattle.audit_check.proofs.PossibleLemmas.{possible_up_to}
-use Rattle.commands.specs.declared.usage.TheConstants.{USAGE, VERSION}
+use Rattle.command_words.specs.declared.usage.TheConstants.{USAGE, VERSION}
 use Rattle.commands.specs.Audits.{AreAuditTexts, AuditRefuses}
 use Rattle.desk_outside.specs.Desk.{View, Held, Holds, IsLonger, Rose}
 use Rattle.link_lanes.specs.Lanes.{Meaning}
@@ -31,13 +31,13 @@ use Rattle.twin_worlds.specs.Twins.{TwinEnds}
 use Rattle.twin_worlds.specs.Statements.{FindsTwins, IsHonest}
 use Rattle.twin_worlds.proofs.HonestLemmas.{honest-have-twins}
 use Rattle.commands.specs.Twins.{TwinBytes, AreReadBy, TwinValues, AreTwinValues, Compared, RefusesFirst, RefusesSecond, TwinRefuses}
-use Rattle.commands.specs.declared.outcome.Outcome.{Outcome}
-use Rattle.commands.specs.declared.outcome.Outcome.TheVariants.{Done, NoMemory, BadWords, CannotRead, TooLong, CannotWrite, CannotPrint, BadPlan, BadReadings, BadTranscript, BadReport, Impossible, OtherRow, OtherPlan, OtherLine, OtherPresence, OtherTotal, BadLane}
-use Rattle.commands.specs.Words.{RunNames, TwinNames, Size, Command, Run, Audit, Twin, Make, Load, Convert, Help, Version}
+use Rattle.command_words.specs.declared.outcome.Outcome.{Outcome}
+use Rattle.command_words.specs.declared.outcome.Outcome.TheVariants.{Done, NoMemory, BadWords, CannotRead, TooLong, CannotWrite, CannotPrint, BadPlan, BadReadings, BadTranscript, BadReport, Impossible, OtherRow, OtherPlan, OtherLine, OtherPresence, OtherTotal, BadLane}
+use Rattle.command_words.specs.Words.{RunNames, TwinNames, Size, Command, Run, Audit, Twin, Make, Load, Convert, Help, Version}
 use Rattle.commands.specs.Calls.{most_bytes, EndsAtFetch, IsRead, after_fetches, Unread, Putting, putting, PutsEnd}
 use Rattle.transcript_text.specs.Spelling.{transcript_text}
 use Rattle.commands.specs.Ends.{fetched_by, put_by, converted_line, RefusesLane, RefusesReadings, RunRefuses, RunEnds, audited_line, AuditCommandEnds, compared_by, moved_line, TwinCommandEnds, made_plan_text, made_readings_text, made_line, MakeEnds, put_where, LoadRefuses, LoadEnds, ConvertRefuses, ConvertEnds, Ends}
-use Rattle.commands.specs.Outcomes.{status_of, IsFault}
+use Rattle.command_words.specs.Outcomes.{status_of, IsFault}
 use Rattle.commands.specs.Accepted.{HoldsFile, RunAccepts, AuditAccepts, TwinAccepts, LoadAccepts, ConvertAccepts, Accepts, AcceptedIsDone}
 
 -- ---- what was read

@@ -12,12 +12,12 @@ use Rattle.transcript_text.specs.Spelling.{text_of, transcript_text}
 use Rattle.commands.specs.declared.texts.Refusal.{Refusal}
 use Rattle.commands.specs.declared.texts.Refusal.TheVariants as refusal
 use Rattle.commands.specs.RunTexts.{TextsEnd}
-use Rattle.commands.specs.declared.outcome.Outcome.{Outcome}
-use Rattle.commands.specs.declared.outcome.Outcome.TheVariants.{Done, NoMemory, BadWords, CannotRead, TooLong, CannotWrite, CannotPrint, BadPlan, BadReadings, BadTranscript, BadReport, Impossible, OtherRow, OtherPlan, OtherLine, OtherPresence, OtherTotal, BadLane}
+use Rattle.command_words.specs.declared.outcome.Outcome.{Outcome}
+use Rattle.command_words.specs.declared.outcome.Outcome.TheVariants.{Done, NoMemory, BadWords, CannotRead, TooLong, CannotWrite, CannotPrint, BadPlan, BadReadings, BadTranscript, BadReport, Impossible, OtherRow, OtherPlan, OtherLine, OtherPresence, OtherTotal, BadLane}
 use Rattle.twin_worlds.specs.declared.rows.MovedRow.{MovedRow}
 use Rattle.twin_worlds.specs.MasksText.{masks_text}
 use Rattle.commands.specs.Twins.{TwinBytes, AreReadBy, Compared, TwinRefuses}
-use Rattle.commands.specs.Words.{RunNames, TwinNames, Size}
+use Rattle.command_words.specs.Words.{RunNames, TwinNames, Size}
 use Rattle.commands.specs.Calls.{most_bytes, HasFetched, EndsAtFetch, Unread, IsRead, after_fetches, putting, PutsEnd}
 use Rattle.commands.specs.Ends.{fetched_by, put_by, RunEnds, RefusesLane, RefusesReadings, audited_line, AuditCommandEnds, compared_by, moved_line, TwinCommandEnds, made_file_of, made_plan_text, made_readings_text, put_where, LoadEnds, converted_line, ConvertEnds}
 use Rattle.audit_check.specs.declared.answers.AuditCounts.{AuditCounts}

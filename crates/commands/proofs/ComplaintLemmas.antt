@@ -3,10 +3,10 @@ use Rattle.std.proofs.Common.{refl, ◌≡◌, ℕ, List, subst, sym, inl, inr}
 use Rattle.std.specs.Prelude.{Option, None, Some}
 use Rattle.desk_outside.specs.Desk.{View}
 use Rattle.link_lanes.specs.Lanes.{Meaning}
-use Rattle.commands.specs.declared.outcome.Outcome.{Outcome}
-use Rattle.commands.specs.declared.outcome.Outcome.TheVariants.{Done, NoMemory, BadWords, CannotRead, TooLong, CannotWrite, CannotPrint, BadPlan, BadReadings, BadTranscript, BadReport, Impossible, OtherRow, OtherPlan, OtherLine, OtherPresence, OtherTotal, BadLane}
-use Rattle.commands.specs.Words.{Command, Run, Audit, Twin, Make, Load, Convert, Help, Version}
-use Rattle.commands.specs.Outcomes.{HasComplaint}
+use Rattle.command_words.specs.declared.outcome.Outcome.{Outcome}
+use Rattle.command_words.specs.declared.outcome.Outcome.TheVariants.{Done, NoMemory, BadWords, CannotRead, TooLong, CannotWrite, CannotPrint, BadPlan, BadReadings, BadTranscript, BadReport, Impossible, OtherRow, OtherPlan, OtherLine, OtherPresence, OtherTotal, BadLane}
+use Rattle.command_words.specs.Words.{Command, Run, Audit, Twin, Make, Load, Convert, Help, Version}
+use Rattle.command_words.specs.Outcomes.{HasComplaint}
 use Rattle.commands.specs.Ends.{Ends}
 
 -- an outcome that is no line of a transcript that should be another has one

@@ -8,7 +8,7 @@ use Rattle.link_lanes.specs.declared.lane.Lane.{Ghosts}
 use Rattle.link_lanes.specs.Kinds.{clear_by, rules_by, seeded_by, every_by, burst_by}
 use Rattle.link_lanes.specs.Lanes.{Meaning}
 use Rattle.desk_outside.specs.Desk.{View}
-use Rattle.commands.specs.Words.{Command}
+use Rattle.command_words.specs.Words.{Command}
 use Rattle.commands.specs.Accepted.{AcceptedIsDone}
 use Rattle.commands.specs.Promise.{EndsAndTells}
 use Rattle.commands.specs.Cupboard.{four, full_cupboard}

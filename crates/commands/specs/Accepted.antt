@@ -15,7 +15,7 @@ use Rattle.mask_stream.specs.KeyStreams.{streams}
 use Rattle.transcript_log.specs.Events.{events_of}
 use Rattle.ideal_masks.specs.Offsets.{Agree}
 use Rattle.twin_worlds.specs.Twins.{IsRecord}
-use Rattle.commands.specs.Words.{RunNames, TwinNames, Size, Command, Run, Audit, Twin, Make, Load, Convert, Help, Version}
+use Rattle.command_words.specs.Words.{RunNames, TwinNames, Size, Command, Run, Audit, Twin, Make, Load, Convert, Help, Version}
 use Rattle.commands.specs.Calls.{most_bytes}
 use Rattle.commands.specs.Ends.{made_file_of}
 use Rattle.commands.specs.Audits.{AreAuditTexts}

@@ -11,8 +11,8 @@ use Rattle.audit_check.specs.declared.answers.AuditError.{AuditError}
 use Rattle.audit_check.specs.declared.answers.AuditError.TheVariants as audit
 use Rattle.audit_check.specs.Audits.{AuditEnds}
 use Rattle.audit_check.specs.Statements.{FindsNone}
-use Rattle.commands.specs.declared.outcome.Outcome.{Outcome}
-use Rattle.commands.specs.declared.outcome.Outcome.TheVariants.{NoMemory, BadTranscript, BadReport, Impossible, OtherRow}
+use Rattle.command_words.specs.declared.outcome.Outcome.{Outcome}
+use Rattle.command_words.specs.declared.outcome.Outcome.TheVariants.{NoMemory, BadTranscript, BadReport, Impossible, OtherRow}
 use Rattle.commands.specs.Runs.{Texts, Makes}
 
 -- the bytes are those of a transcript and of a report with these rows

@@ -1,11 +1,7 @@
 pub mod Ahead
 pub mod Parts
-pub mod Words
-pub mod Commands
 pub mod Calls
 pub mod Sources
-pub mod Causes
-pub mod Outcomes
 pub mod Runs
 pub mod RunTexts
 pub mod Audits

@@ -1,11 +1,39 @@
 -- What the program promises of a command, over the desk as it was found and as it is left.
-use Rattle.std.specs.Prelude.{◌≡◌, ℕ, List, Option}
-use Rattle.desk_outside.specs.Desk.{View, Rose}
+use Rattle.std.specs.Prelude.{◌≡◌, ◌⊎◌, ℕ, false, true, List, Option}
+use Rattle.desk_outside.specs.Desk.{View, Complained, IsPrefixOf, after_step, Rose}
 use Rattle.link_lanes.specs.Lanes.{Meaning}
-use Rattle.commands.specs.declared.outcome.Outcome.{Outcome}
-use Rattle.commands.specs.Words.{Command}
+use Rattle.command_words.specs.declared.outcome.Outcome.{Outcome}
+use Rattle.command_words.specs.declared.outcome.Outcome.TheVariants.{Done, NoMemory, BadWords, CannotRead, TooLong, CannotWrite, CannotPrint, BadPlan, BadReadings, BadTranscript, BadReport, Impossible, OtherRow, OtherPlan, OtherLine, OtherPresence, OtherTotal, BadLane}
+use Rattle.command_words.specs.Words.{Command}
 use Rattle.commands.specs.Ends.{Ends}
-use Rattle.commands.specs.Outcomes.{Tells, status_of, IsFault}
+use Rattle.command_words.specs.Outcomes.{status_of, complaint_of, IsFault}
+
+-- the text was complained, or a prefix of it where that call failed, or nothing where no memory was found
+abbrev pub Complains : List ℕ → View → View → Type 0
+Complains text v w =
+    (w ≡ v) ⊎ (w ≡ after_step v (Complained text false))
+    ⊎ ((front : List ℕ) × IsPrefixOf front text × (w ≡ after_step v (Complained front true)))
+
+-- nothing follows a command that was done, and one complaint at most any other end
+abbrev pub Tells : Outcome → View → View → Type 0
+Tells Done v w = w ≡ v
+Tells NoMemory v w = Complains (complaint_of NoMemory) v w
+Tells BadWords v w = Complains (complaint_of BadWords) v w
+Tells (CannotRead name) v w = Complains (complaint_of (CannotRead name)) v w
+Tells (TooLong name) v w = Complains (complaint_of (TooLong name)) v w
+Tells (CannotWrite name) v w = Complains (complaint_of (CannotWrite name)) v w
+Tells CannotPrint v w = Complains (complaint_of CannotPrint) v w
+Tells (BadPlan name fault) v w = Complains (complaint_of (BadPlan name fault)) v w
+Tells (BadReadings name fault) v w = Complains (complaint_of (BadReadings name fault)) v w
+Tells (BadTranscript name fault) v w = Complains (complaint_of (BadTranscript name fault)) v w
+Tells (BadReport name line) v w = Complains (complaint_of (BadReport name line)) v w
+Tells (Impossible name line) v w = Complains (complaint_of (Impossible name line)) v w
+Tells (OtherRow at from_frames reported) v w = Complains (complaint_of (OtherRow at from_frames reported)) v w
+Tells (OtherPlan name) v w = Complains (complaint_of (OtherPlan name)) v w
+Tells (OtherLine name line expected) v w = Complains (complaint_of (OtherLine name line expected)) v w
+Tells (OtherPresence group round meter) v w = Complains (complaint_of (OtherPresence group round meter)) v w
+Tells (OtherTotal group round first second) v w = Complains (complaint_of (OtherTotal group round first second)) v w
+Tells (BadLane fault) v w = Complains (complaint_of (BadLane fault)) v w
 
 -- the command ends with an outcome, which is told and gives the status; an outcome that is a fault comes only where the count of faults rose
 abbrev pub EndsAndTells : List Meaning → Option Command → View → View → (before now status : ℕ) → Type 0

@@ -7,13 +7,12 @@ ghost use Rattle.transcript_text.specs.Heads.{read_of};
 ghost use Rattle.transcript_log.specs.Transcripts.{TranscriptView, IsTranscript};
 ghost use Rattle.totals_report.specs.Reading.{rows_of_text};
 ghost use Rattle.commands.specs.Ends.{audited_line, AuditCommandEnds};
-ghost use Rattle.commands.specs.Outcomes.{IsFault};
+ghost use Rattle.command_words.specs.Outcomes.{IsFault};
 ghost use Rattle.commands.specs.Audits.{AreAuditTexts, AuditRefuses, TextsAudited};
 
 use crate::desk_calls::{fetch_two, say};
-use crate::outcome::Outcome;
-use crate::words::AuditFiles;
 use audit_check::{AuditCounts, AuditError, audit as audit_lines};
+use command_words::{AuditFiles, Outcome};
 use desk_outside::Desk;
 use std::alloc::{AllocError, Global};
 use totals_report::{Report, ReportError, read_report};

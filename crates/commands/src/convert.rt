@@ -3,12 +3,11 @@
 ghost use Rattle.std.specs.Prelude.{◌≡◌, ◌≤◌, IfOk, string_bytes};
 ghost use Rattle.desk_outside.specs.Desk.{Rose};
 ghost use Rattle.commands.specs.Ends.{converted_line, ConvertEnds};
-ghost use Rattle.commands.specs.Outcomes.{IsFault};
+ghost use Rattle.command_words.specs.Outcomes.{IsFault};
 
 use crate::desk_calls::{NewFile, fetch, put_one};
-use crate::outcome::Outcome;
 use crate::source::Source;
-use crate::words::ConvertFiles;
+use command_words::{ConvertFiles, Outcome};
 use desk_outside::Desk;
 use std::alloc::{AllocError, Global};
 use std::thread::Threads;

@@ -1,7 +1,7 @@
 //! The program with the lanes that it has.
 
 ghost use Rattle.std.specs.Prelude.{◌≡◌, ◌↔◌, None, map, string_bytes, IfOk, OnErr};
-ghost use Rattle.commands.specs.Words.{command_of};
+ghost use Rattle.command_words.specs.Words.{command_of};
 ghost use Rattle.commands.specs.Accepted.{AcceptedIsDone};
 ghost use Rattle.commands.specs.Promise.{EndsAndTells};
 ghost use Rattle.commands.specs.Cupboard.{full_cupboard};

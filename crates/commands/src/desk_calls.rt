@@ -6,12 +6,12 @@ ghost use Rattle.transcript_text.specs.Spelling.{transcript_text};
 ghost use Rattle.tick_run.specs.Recorded.{IsRecorded};
 ghost use Rattle.commands.specs.Ahead.{IsAhead};
 ghost use Rattle.commands.specs.Calls.{OneFetched, TwoFetched, putting, PutsEnd};
-ghost use Rattle.commands.specs.Outcomes.{IsFault};
+ghost use Rattle.command_words.specs.Outcomes.{IsFault};
 ghost use Rattle.commands.specs.Sources.{source_bytes};
 
 use crate::ahead::{Ahead, put_transcript};
-use crate::outcome::Outcome;
 use crate::source::{Source, TranscriptPieces};
+use command_words::Outcome;
 use desk_outside::{BegunFile, Desk, DeskError, FetchError};
 use std::alloc::Global;
 use std::thread::Threads;

@@ -3,13 +3,11 @@
 
 mod ahead;
 mod audit;
-mod complaints;
 mod convert;
 mod cupboard;
 mod desk_calls;
 mod load;
 mod make;
-mod outcome;
 mod parts;
 mod program;
 mod run;
@@ -17,9 +15,7 @@ mod run_ahead;
 mod source;
 mod texts;
 mod twin;
-mod usage;
-mod words;
 
+pub use command_words::{USAGE, VERSION};
 pub use cupboard::with_lanes;
 pub use program::meteragg;
-pub use usage::{USAGE, VERSION};

@@ -3,17 +3,16 @@
 ghost use Rattle.std.specs.Prelude.{◌≤◌, IsTrue, map};
 ghost use Rattle.desk_outside.specs.Desk.{Rose};
 ghost use Rattle.load_maker.specs.Sizes.{is_within};
-ghost use Rattle.commands.specs.Commands.{size_in, name_in};
+ghost use Rattle.command_words.specs.Commands.{size_in, name_in};
 ghost use Rattle.commands.specs.Ends.{LoadEnds};
-ghost use Rattle.commands.specs.Outcomes.{IsFault};
+ghost use Rattle.command_words.specs.Outcomes.{IsFault};
 
 use crate::ahead::Ahead;
 use crate::desk_calls::{put_ahead, say};
-use crate::outcome::Outcome;
 use crate::run_ahead::{RunAhead, run_ahead};
 use crate::texts::{Refusal, RunInput};
-use crate::words::LoadWords;
 use collector_workers::Gate;
+use command_words::{LoadWords, Outcome};
 use desk_outside::Desk;
 use link_lanes::Lane;
 use load_maker::{Made, MakeError, make};

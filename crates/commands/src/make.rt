@@ -3,14 +3,13 @@
 ghost use Rattle.std.specs.Prelude.{◌≡◌, ◌≤◌, IsTrue, IfOk, string_bytes};
 ghost use Rattle.desk_outside.specs.Desk.{Rose};
 ghost use Rattle.load_maker.specs.Sizes.{is_within};
-ghost use Rattle.commands.specs.Commands.{size_in};
+ghost use Rattle.command_words.specs.Commands.{size_in};
 ghost use Rattle.commands.specs.Ends.{made_line, MakeEnds};
-ghost use Rattle.commands.specs.Outcomes.{IsFault};
+ghost use Rattle.command_words.specs.Outcomes.{IsFault};
 
 use crate::desk_calls::{NewFile, put_two};
-use crate::outcome::Outcome;
 use crate::source::Source;
-use crate::words::MakeWords;
+use command_words::{MakeWords, Outcome};
 use desk_outside::Desk;
 use load_maker::{MakeError, make as make_files};
 use std::alloc::{AllocError, Global};

@@ -2,26 +2,23 @@
 
 ghost use Rattle.std.specs.Prelude.{◌≡◌, ◌↔◌, None, ◌≤◌, List, map, string_bytes};
 ghost use Rattle.desk_outside.specs.Desk.{Rose};
-ghost use Rattle.commands.specs.Words.{command_of};
+ghost use Rattle.command_words.specs.Words.{command_of};
 ghost use Rattle.commands.specs.Ends.{Ends};
 ghost use Rattle.commands.specs.Accepted.{AcceptedIsDone};
 ghost use Rattle.commands.specs.Audits.{RunsAreConfirmed};
 ghost use Rattle.commands.specs.Twins.{RunsAreRecorded};
-ghost use Rattle.commands.specs.Outcomes.{HasComplaint, Tells, status_of, IsFault};
-ghost use Rattle.commands.specs.Promise.{EndsAndTells};
+ghost use Rattle.command_words.specs.Outcomes.{HasComplaint, status_of, IsFault};
+ghost use Rattle.commands.specs.Promise.{Tells, EndsAndTells};
 
 use crate::audit::audit;
-use crate::complaints::complaint;
 use crate::convert::convert;
 use crate::desk_calls::say;
 use crate::load::load;
 use crate::make::make;
-use crate::outcome::Outcome;
 use crate::run::run;
 use crate::twin::twin;
-use crate::usage::{USAGE, VERSION};
-use crate::words::{Command, parse};
 use collector_workers::Gate;
+use command_words::{Command, Outcome, USAGE, VERSION, complaint, parse};
 use desk_outside::Desk;
 use link_lanes::Lane;
 use std::alloc::Global;

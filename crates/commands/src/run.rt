@@ -2,18 +2,17 @@
 
 ghost use Rattle.std.specs.Prelude.{◌≤◌, map};
 ghost use Rattle.desk_outside.specs.Desk.{Rose};
-ghost use Rattle.commands.specs.Words.{names_of};
+ghost use Rattle.command_words.specs.Words.{names_of};
 ghost use Rattle.commands.specs.Ends.{RunEnds};
-ghost use Rattle.commands.specs.Outcomes.{IsFault};
+ghost use Rattle.command_words.specs.Outcomes.{IsFault};
 
 use crate::ahead::Ahead;
 use crate::desk_calls::{NewFile, fetch_two, put_run};
-use crate::outcome::Outcome;
 use crate::run_ahead::{RunAhead, run_ahead};
 use crate::source::Source;
 use crate::texts::{Refusal, RunInput};
-use crate::words::RunWords;
 use collector_workers::Gate;
+use command_words::{Outcome, RunWords};
 use desk_outside::Desk;
 use link_lanes::Lane;
 use std::alloc::Global;

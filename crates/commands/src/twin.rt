@@ -2,17 +2,16 @@
 
 ghost use Rattle.std.specs.Prelude.{◌≡◌, ◌≤◌, IfOk, IfErr, Err, string_bytes};
 ghost use Rattle.desk_outside.specs.Desk.{Rose};
-ghost use Rattle.commands.specs.Commands.{twin_names_of};
+ghost use Rattle.command_words.specs.Commands.{twin_names_of};
 ghost use Rattle.commands.specs.Ends.{moved_line, TwinCommandEnds};
-ghost use Rattle.commands.specs.Outcomes.{IsFault};
+ghost use Rattle.command_words.specs.Outcomes.{IsFault};
 ghost use Rattle.commands.specs.TwinTexts.{AreShort, bytes_of};
 ghost use Rattle.commands.specs.Twins.{TwinBytes, Compared, TwinRefuses, BytesCompared};
-ghost use Rattle.commands.specs.Words.{TwinNames};
+ghost use Rattle.command_words.specs.Words.{TwinNames};
 
 use crate::desk_calls::{NewFile, fetch_two, put_one};
-use crate::outcome::Outcome;
 use crate::source::Source;
-use crate::words::TwinFiles;
+use command_words::{Outcome, TwinFiles};
 use desk_outside::Desk;
 use ideal_masks::Differ;
 use plan_files::{FileCause, read_plan, read_readings};

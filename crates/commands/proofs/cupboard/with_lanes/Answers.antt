@@ -3,7 +3,7 @@ use Rattle.std.specs.Prelude.{string_bytes}
 use Rattle.link_lanes.specs.Kinds.{clear_by, rules_by, seeded_by, every_by, burst_by}
 use Rattle.link_lanes.specs.MadeLanes.{clear_lane, rules_lane, seeded_lane, every_lane, burst_lane}
 use Rattle.commands.specs.Cupboard.{four}
-use Rattle.commands.specs.Words.{command_of}
+use Rattle.command_words.specs.Words.{command_of}
 use Rattle.commands.proofs.CupboardLemmas.{boxed, one_more, ends_with_full, done_with_full}
 use Rattle.commands.proofs.cupboard.with_lanes.OwnLists.{own-1}
 use Rattle.commands.proofs.cupboard.with_lanes.Goals as goal

@@ -1,6 +1,6 @@
 use Rattle.std.proofs.Common.{◌≡◌, ap, sym, subst, ◌∙◌, refl}
 use Rattle.std.specs.Prelude.{None, Some, IfSome}
-use Rattle.commands.specs.Commands.{name_in}
+use Rattle.command_words.specs.Commands.{name_in}
 use Rattle.commands.specs.RunTexts.{texts_of, TextsEnd}
 use Rattle.commands.proofs.CommandEndings.{made_plan_is_read, made_readings_are_read, load_ends, load_from}
 use Rattle.commands.proofs.load.load.Goals as goal

@@ -1,7 +1,7 @@
 use Rattle.std.proofs.Common.{◌∙◌, refl, subst}
 use Rattle.commands.proofs.CommandEndings.{run_ends, first_named, run_refuses_lane, run_refuses_readings}
 use Rattle.commands.specs.RunTexts.{texts_of, TextsEnd}
-use Rattle.commands.specs.Words.{names_of}
+use Rattle.command_words.specs.Words.{names_of}
 use Rattle.commands.proofs.run.run.Goals as goal
 
 pub returns-clause-ends : goal.returns-clause-ends

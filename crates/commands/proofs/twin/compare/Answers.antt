@@ -1,6 +1,6 @@
 use Rattle.std.proofs.Common.{refl, inr, Ok, Err}
 use Rattle.plan_files.specs.PlanFiles.{view_of}
-use Rattle.commands.specs.Commands.{twin_names_of}
+use Rattle.command_words.specs.Commands.{twin_names_of}
 use Rattle.commands.specs.TwinTexts.{bytes_of}
 use Rattle.commands.proofs.RunLemmas.{plan_of_readings}
 use Rattle.commands.proofs.TwinLemmas.{second_refused, compared}

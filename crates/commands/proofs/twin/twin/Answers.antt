@@ -1,5 +1,5 @@
 use Rattle.std.proofs.Common.{[], ◌∷◌, ap, length, inl, ◌∙◌}
-use Rattle.commands.specs.Commands.{twin_names_of}
+use Rattle.command_words.specs.Commands.{twin_names_of}
 use Rattle.commands.proofs.CommandEndings.{then_unread, twin_refused, twin_ends}
 use Rattle.commands.proofs.twin.twin.Goals as goal
 

@@ -3,7 +3,7 @@ use Rattle.std.specs.Prelude.{ℕ, Bool, true, false, ◌&&◌, ◌||◌, not, L
 use Rattle.std.specs.Str.{bytes_eq}
 use Rattle.field_texts.specs.Numbers.{number_of, within}
 use Rattle.load_maker.specs.Sizes.{is_within}
-use Rattle.commands.specs.declared.words.RunFiles.{RunFiles}
+use Rattle.command_words.specs.declared.words.RunFiles.{RunFiles}
 
 -- the names of the files of `run`
 pub record RunNames : Type 0 where

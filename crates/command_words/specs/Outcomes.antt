@@ -1,11 +1,10 @@
 -- How a command ends: its status and its complaint.
-use Rattle.std.specs.Prelude.{◌≡◌, ◌⊎◌, ℕ, false, true, List, [], ◌++◌, codes, Option, Some, None, ⊤}
+use Rattle.std.specs.Prelude.{ℕ, List, [], ◌++◌, codes, Option, Some, None, ⊤}
 use Rattle.std.specs.Fmt.{decimal}
-use Rattle.desk_outside.specs.Desk.{View, Complained, IsPrefixOf, after_step}
 use Rattle.plan_files.specs.declared.fault.FileError.{FileError}
-use Rattle.commands.specs.declared.outcome.Outcome.{Outcome}
-use Rattle.commands.specs.declared.outcome.Outcome.TheVariants.{Done, NoMemory, BadWords, CannotRead, TooLong, CannotWrite, CannotPrint, BadPlan, BadReadings, BadTranscript, BadReport, Impossible, OtherRow, OtherPlan, OtherLine, OtherPresence, OtherTotal, BadLane}
-use Rattle.commands.specs.Causes.{cause_text, rack_cause_name, read_error_name}
+use Rattle.command_words.specs.declared.outcome.Outcome.{Outcome}
+use Rattle.command_words.specs.declared.outcome.Outcome.TheVariants.{Done, NoMemory, BadWords, CannotRead, TooLong, CannotWrite, CannotPrint, BadPlan, BadReadings, BadTranscript, BadReport, Impossible, OtherRow, OtherPlan, OtherLine, OtherPresence, OtherTotal, BadLane}
+use Rattle.command_words.specs.Causes.{cause_text, rack_cause_name, read_error_name}
 use Rattle.transcript_text.specs.Faults.{fault_line}
 use Rattle.transcript_text.specs.declared.version.Version.TheVariants.{Two}
 use Rattle.transcript_text.specs.Spelling.{entry_text}
@@ -101,33 +100,6 @@ IsText (BadLane fault) = ⊤
 abbrev pub HasComplaint : Outcome → Type 0
 HasComplaint (OtherLine name line expected) = IsWritable expected.line
 HasComplaint _ = ⊤
-
--- the text was complained, or a prefix of it where that call failed, or nothing where no memory was found
-abbrev pub Complains : List ℕ → View → View → Type 0
-Complains text v w =
-    (w ≡ v) ⊎ (w ≡ after_step v (Complained text false))
-    ⊎ ((front : List ℕ) × IsPrefixOf front text × (w ≡ after_step v (Complained front true)))
-
--- nothing follows a command that was done, and one complaint at most any other end
-abbrev pub Tells : Outcome → View → View → Type 0
-Tells Done v w = w ≡ v
-Tells NoMemory v w = Complains (complaint_of NoMemory) v w
-Tells BadWords v w = Complains (complaint_of BadWords) v w
-Tells (CannotRead name) v w = Complains (complaint_of (CannotRead name)) v w
-Tells (TooLong name) v w = Complains (complaint_of (TooLong name)) v w
-Tells (CannotWrite name) v w = Complains (complaint_of (CannotWrite name)) v w
-Tells CannotPrint v w = Complains (complaint_of CannotPrint) v w
-Tells (BadPlan name fault) v w = Complains (complaint_of (BadPlan name fault)) v w
-Tells (BadReadings name fault) v w = Complains (complaint_of (BadReadings name fault)) v w
-Tells (BadTranscript name fault) v w = Complains (complaint_of (BadTranscript name fault)) v w
-Tells (BadReport name line) v w = Complains (complaint_of (BadReport name line)) v w
-Tells (Impossible name line) v w = Complains (complaint_of (Impossible name line)) v w
-Tells (OtherRow at from_frames reported) v w = Complains (complaint_of (OtherRow at from_frames reported)) v w
-Tells (OtherPlan name) v w = Complains (complaint_of (OtherPlan name)) v w
-Tells (OtherLine name line expected) v w = Complains (complaint_of (OtherLine name line expected)) v w
-Tells (OtherPresence group round meter) v w = Complains (complaint_of (OtherPresence group round meter)) v w
-Tells (OtherTotal group round first second) v w = Complains (complaint_of (OtherTotal group round first second)) v w
-Tells (BadLane fault) v w = Complains (complaint_of (BadLane fault)) v w
 
 -- the ends that come only of a fault of the desk
 abbrev pub IsFault : Outcome → Type 0

@@ -1,9 +1,9 @@
 //! The texts of complaints.
 
 ghost use Rattle.std.specs.Prelude.{◌≡◌, ◌++◌, IfOk, codes, string_bytes};
-ghost use Rattle.commands.specs.Causes.{key_text, plan_error_name, span_error_name, key_error_text, cause_text, rack_cause_name, read_error_name};
+ghost use Rattle.command_words.specs.Causes.{key_text, plan_error_name, span_error_name, key_error_text, cause_text, rack_cause_name, read_error_name};
 ghost use Rattle.transcript_text.specs.Faults.{fault_line};
-ghost use Rattle.commands.specs.Outcomes.{file_complaint, line_complaint, row_or_nothing, row_complaint, IsText, HasComplaint, complaint_of};
+ghost use Rattle.command_words.specs.Outcomes.{file_complaint, line_complaint, row_or_nothing, row_complaint, IsText, HasComplaint, complaint_of};
 ghost use Rattle.transcript_text.specs.declared.version.Version.TheVariants.{Two};
 ghost use Rattle.transcript_text.specs.Spelling.{entry_text};
 ghost use Rattle.transcript_text.specs.Writing.{IsWritable};

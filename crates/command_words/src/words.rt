@@ -1,8 +1,8 @@
 //! The words of the command line.
 
 ghost use Rattle.std.specs.Prelude.{◌≡◌, ◌≤◌, ℕ, List, None, Some, IfSome, MatchOption, map, string_bytes};
-ghost use Rattle.commands.specs.Words.{has_name, are_names, workers_of, run_with, run_of, size_of, audit_of, twin_with, twin_of, make_of, load_with, load_of, convert_of, alone, asks_help, asks_version, command_by, command_of};
-ghost use Rattle.commands.specs.Commands.{size_in, name_in, asked, IsSize, IsWithin};
+ghost use Rattle.command_words.specs.Words.{has_name, are_names, workers_of, run_with, run_of, size_of, audit_of, twin_with, twin_of, make_of, load_with, load_of, convert_of, alone, asks_help, asks_version, command_by, command_of};
+ghost use Rattle.command_words.specs.Commands.{size_in, name_in, asked, IsSize, IsWithin};
 
 use field_texts::{read_number, read_number_within};
 use load_maker::is_within;

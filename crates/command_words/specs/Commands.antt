@@ -3,11 +3,11 @@ use Rattle.std.specs.Prelude.{◌≡◌, ◌≤◌, ℕ, true, List, Option}
 use Rattle.std.specs.Option.{option_map}
 use Rattle.std.specs.Borrow.{Bor}
 use Rattle.load_maker.specs.Sizes.{is_within}
-use Rattle.commands.specs.declared.words.Size.{Size as KeptSize}
-use Rattle.commands.specs.declared.words.TwinFiles.{TwinFiles}
-use Rattle.commands.specs.declared.words.Command.{Command as Kept}
-use Rattle.commands.specs.declared.words.Command.TheVariants as kept
-use Rattle.commands.specs.Words.{TwinNames, Size, Command, Run, Audit, Twin, Make, Load, Convert, Help, Version, names_of}
+use Rattle.command_words.specs.declared.words.Size.{Size as KeptSize}
+use Rattle.command_words.specs.declared.words.TwinFiles.{TwinFiles}
+use Rattle.command_words.specs.declared.words.Command.{Command as Kept}
+use Rattle.command_words.specs.declared.words.Command.TheVariants as kept
+use Rattle.command_words.specs.Words.{TwinNames, Size, Command, Run, Audit, Twin, Make, Load, Convert, Help, Version, names_of}
 
 -- the names of the files of `twin`
 abbrev pub twin_names_of : TwinFiles → TwinNames

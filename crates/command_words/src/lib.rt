@@ -1,0 +1,15 @@
+//! The words of the command line, what a command comes to, and the texts that are said of it: usage, version and complaints.
+#![tactic(auto)]
+
+mod complaints;
+mod outcome;
+mod usage;
+mod words;
+
+pub use complaints::complaint;
+pub use outcome::Outcome;
+pub use usage::{USAGE, VERSION};
+pub use words::{
+    AuditFiles, Command, ConvertFiles, LoadWords, MakeWords, RunFiles, RunWords, Size, TwinFiles,
+    parse,
+};
