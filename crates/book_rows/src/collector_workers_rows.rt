@@ -1,12 +1,12 @@
 //! Worked rows. The book of the plain case has one group of three meters with floor 2, and one round, in which each has a
 //! reading; the words are those of the readings 10, 20 and 30 under keys of zeros.
 
-ghost use Rattle.std.specs.Prelude.{◌≡◌, ◌≤◌, IfOk, [], length};
+ghost use Rattle.std.specs.Prelude.{◌≡◌, ◌≤◌, [], length};
 ghost use Rattle.shared_book.specs.Passes.{new_pass, SamePass};
 ghost use Rattle.shared_book.specs.Ends.{view, opening, IsPassOf};
 
 use crate::fixtures::{
-    begin, book_of_north, check, check_all, check_same, parcel, reading_frame, send_reading,
+    begun, book_of_north, check, check_all, check_same, parcel, reading_frame, sent_book,
 };
 use collector_workers::{Collected, Free, Gate, Mark, collect, gather};
 use group_book::{Book, TakeError};
@@ -22,6 +22,8 @@ use std::test::Fail;
 use std::thread::Threads;
 use transcript_log::{Event, Line, Lines};
 
+const READINGS: [u64; 3] = [10, 20, 30];
+
 const WORDS: [u64; 3] = [
     0xb0b9_d4e2_09a2_296c,
     0x903d_f1a0_ade0_b88a,
@@ -31,19 +33,7 @@ const WORDS: [u64; 3] = [
 const FRESH: Mark = Mark::Made(Reply::Took(Verdict::Fresh));
 
 fn new_book(alloc: Global) -> Result<Book, Fail> {
-    book_of_north(alloc, &[10, 20, 30], 0)
-}
-
-// The book after its three reading Sends, with room for four lines.
-fn sent_book(alloc: Global) -> Result<Book, Fail>
-    ensures { IfOk result (λ book. 4 ≤ book.spare) }
-{
-    let mut book = new_book(alloc)?;
-    for meter in 0..3u8 {
-        send_reading(&mut book, meter, WORDS[usize::from(meter)])?;
-    }
-    book.reserve(4)?;
-    Ok(book)
+    book_of_north(alloc, &READINGS, 0)
 }
 
 // What so many workers make of a copy of the book by a batch.
@@ -65,38 +55,45 @@ fn collected(
     }
 }
 
-// A shared book of the three readings, with room for these parcels, and its first pass.
-fn begun(alloc: Global, batch: &[Parcel]) -> Result<(SharedBook, Pass), Fail>
-    requires { length batch.now ≤ 4 }
-    ensures pass { IfOk result (λ r. IsPassOf r.0 r.1 × (view r.1 ≡ new_pass 0 [])) }
-    ensures parcels { IfOk result (λ r. (opening r.0).parcels ≡ batch.now) }
-{
-    let parcels = Vec::from_slice(alloc, batch)?;
-    begin(alloc, sent_book(alloc)?, parcels)
-}
-
 // What a batch comes to, where so many workers commit it.
 fn gathered(
     rt: &(impl Threads + Wait + Sync),
     alloc: Global,
     batch: &[Parcel],
     workers: u32,
-    gate: &impl Gate,
+    gate: &Watch,
 ) -> Result<Shut, Fail> {
     if batch.len() > 4 || workers < 1 || workers > 16 {
         return Err(Fail::new("too many"));
     }
-    let (shared, mut first) = begun(alloc, batch)?;
+    let (shared, mut first) = begun(alloc, &READINGS, &WORDS, batch)?;
     let _marks = gather(rt, alloc, &shared, &mut first, batch, workers, gate)?;
     Ok(shared.shut(first))
 }
 
-// Lets each worker through; each parcel is enough for one.
-struct Each;
-
-impl Gate for Each {
-    fn at(&self, _worker: u32) {}
+// Lets each worker through.
+struct Open {
+    enough: usize,
+    block: u32,
 }
+
+impl Gate for Open {
+    fn at(&self, _worker: u32) {}
+
+    fn enough(&self) -> usize {
+        self.enough
+    }
+
+    fn block(&self) -> u32 {
+        self.block
+    }
+}
+
+// Each parcel is enough for a thread.
+static EACH: Open = Open {
+    enough: 1,
+    block: 1,
+};
 
 // Looks for the marks of a batch that was collected, and for the number of lines that the book then has.
 fn check_marks(rt: &impl Abort, row: &str, collected: &Collected, marks: &[Mark], lines: usize) {
@@ -116,7 +113,7 @@ fn check_batch(
     lines: usize,
 ) -> Result<(), Fail> {
     for workers in [16, 1] {
-        let collected = collected(rt, alloc, book, batch, workers, &Each)?;
+        let collected = collected(rt, alloc, book, batch, workers, &EACH)?;
         check_marks(rt, row, &collected, marks, lines);
     }
     Ok(())
@@ -153,7 +150,7 @@ fn forged_mark() -> Mark {
 
 fn check_forged(rt: &(impl Threads + Wait + Abort + Sync), alloc: Global) -> Result<(), Fail> {
     let marks = [FRESH, FRESH, forged_mark(), FRESH];
-    let book = sent_book(alloc)?;
+    let book = sent_book(alloc, &READINGS, &WORDS)?;
     check_batch(
         rt,
         alloc,
@@ -189,7 +186,13 @@ fn batches_by_rows(rt: HostRuntime) -> Result<(), Fail> {
 // How many marks are of Closes that ended so.
 fn times(marks: &[Mark], closing: Closing) -> usize {
     let closed = Mark::Made(Reply::Closed(closing));
-    marks.iter().filter(|mark| **mark == closed).count()
+    let mut count = 0usize;
+    for mark in marks {
+        if *mark == closed {
+            count = count.wrapping_add(1);
+        }
+    }
+    count
 }
 
 // Looks for so many marks, of which one is of a Close that is thin, and for so many lines.
@@ -203,51 +206,48 @@ fn check_closings(rt: &impl Abort, collected: &Collected, count: usize) {
     check_same(rt, &collected.book.journal().len(), &count, "the lines");
 }
 
-// Collects so many Closes of one round through a gate.
-fn check_closes<G: Gate>(
+// Collects Closes of one round through a gate.
+fn collect_closes(
+    rt: &(impl Threads + Wait + Abort + Sync),
+    alloc: Global,
+    batch: &[Parcel],
+    workers: u32,
+    gate: &impl Gate,
+) -> Result<(), Fail> {
+    let book = new_book(alloc)?;
+    let collected = collected(rt, alloc, &book, batch, workers, gate)?;
+    check_closings(rt, &collected, batch.len());
+    Ok(())
+}
+
+// The same with so many of them.
+fn check_closes(
     rt: &(impl Threads + Wait + Abort + Sync),
     alloc: Global,
     count: usize,
     workers: u32,
-    gate: &G,
+    gate: &impl Gate,
 ) -> Result<(), Fail> {
     let batch = vec![in alloc; Parcel::Close { group: 0, round: 0 }; count]?;
-    let book = new_book(alloc)?;
-    let collected = collected(rt, alloc, &book, &batch, workers, gate)?;
-    check_closings(rt, &collected, count);
-    Ok(())
+    collect_closes(rt, alloc, &batch, workers, gate)
 }
 
 #[test]
 fn two_closes_in_one_batch(rt: HostRuntime) -> Result<(), Fail> {
-    check_closes(&rt, rt.alloc(), 2, 2, &Each)
+    check_closes(&rt, rt.alloc(), 2, 2, &EACH)
 }
 
 // Has a thread for each 256 parcels, and a turn for each 64.
-struct Hundreds;
-
-impl Gate for Hundreds {
-    fn at(&self, _worker: u32) {}
-
-    fn enough(&self) -> usize {
-        256
-    }
-
-    fn block(&self) -> u32 {
-        64
-    }
-}
+static HUNDREDS: Open = Open {
+    enough: 256,
+    block: 64,
+};
 
 // 1,200 parcels are enough for four workers of one gate, and with that of the program the caller commits them alone.
 #[test]
 fn many_closes_in_one_batch(rt: HostRuntime) -> Result<(), Fail> {
-    check_closes(&rt, rt.alloc(), 1200, 4, &Hundreds)?;
+    check_closes(&rt, rt.alloc(), 1200, 4, &HUNDREDS)?;
     check_closes(&rt, rt.alloc(), 1200, 4, &Free)
-}
-
-// Whether there are so many marks, all of frames that were taken fresh.
-fn are_fresh(marks: &[Mark], count: usize) -> bool {
-    marks.len() == count && marks.iter().all(|mark| *mark == FRESH)
 }
 
 // Whether the place was committed before, by a fresh Take.
@@ -258,8 +258,8 @@ fn is_done_fresh(answer: &Result<Reply, CommitError>) -> bool {
 // Looks for six lines, and for a reply at each place.
 fn check_shut(rt: &impl Abort, shut: &Shut) {
     check_same(rt, &shut.book.journal().len(), &6, "the lines");
-    let are_all = shut.replies.iter().all(|reply| reply.is_some());
-    check(rt, are_all, "the replies");
+    let replies = [Some(Reply::Took(Verdict::Fresh)); 3];
+    check_all(rt, &shut.replies, &replies, "the replies");
 }
 
 // The parcels of the three readings.
@@ -284,7 +284,7 @@ fn check_gathered(
     ensures { IsPassOf shared.now first.new × ((view first.new).number ≡ 0) × ((view first.new).out ≡ 0) }
 {
     let marks = gather(rt, alloc, shared, first, batch, 2, &Free)?;
-    check(rt, are_fresh(&marks, 3), "the marks");
+    check_all(rt, &marks, &[FRESH; 3], "the marks");
     check_same(rt, &first.out(), &0, "the passes that are out");
     Ok(())
 }
@@ -301,7 +301,7 @@ fn check_again(rt: &(impl Wait + Abort), shared: &SharedBook, first: &mut Pass)
 #[test]
 fn gathered_then_done(rt: HostRuntime) -> Result<(), Fail> {
     let batch = three_parcels();
-    let (shared, mut first) = begun(rt.alloc(), &batch)?;
+    let (shared, mut first) = begun(rt.alloc(), &READINGS, &WORDS, &batch)?;
     check_gathered(&rt, rt.alloc(), &shared, &mut first, &batch)?;
     check_again(&rt, &shared, &mut first);
     check_shut(&rt, &shared.shut(first));
@@ -318,80 +318,26 @@ fn check_came(rt: &impl Abort, calls: &AtomicU64, row: &str) {
     check(rt, calls.load(Ordering::SeqCst) > 0, row);
 }
 
-// Holds workers 1 and 2 at their first calls until both have come, for at most so many turns.
+// Counts the calls, and holds worker 1 at its first until worker 2 has called so often, and worker 2 at its first until worker 1
+// has called, each for at most so many turns. None is held where nothing is awaited.
 #[derive(Drop)]
-struct Meeting {
-    first: AtomicU64,
-    second: AtomicU64,
-    late: AtomicU64,
-}
-
-impl Gate for Meeting {
-    fn at(&self, worker: u32) {
-        let (mine, other) = match worker {
-            1 => (&self.first, &self.second),
-            2 => (&self.second, &self.first),
-            _ => return,
-        };
-        if mine.fetch_add(1, Ordering::SeqCst) > 0 {
-            return;
-        }
-        for _ in 0..1_000_000_000u32 {
-            if other.load(Ordering::SeqCst) > 0 {
-                return;
-            }
-        }
-        self.late.fetch_add(1, Ordering::SeqCst);
-    }
-}
-
-impl Meeting {
-    // Nobody has come.
-    fn new() -> Meeting {
-        Meeting {
-            first: AtomicU64::new(0),
-            second: AtomicU64::new(0),
-            late: AtomicU64::new(0),
-        }
-    }
-}
-
-// Both workers came, and neither waited in vain.
-fn check_met(rt: &impl Abort, gate: &Meeting) {
-    check_came(rt, &gate.first, "worker 1");
-    check_came(rt, &gate.second, "worker 2");
-    check_count(rt, &gate.late, 0, "late");
-}
-
-// Whether one place has the pass of worker 1, and the other that of worker 2.
-fn are_of_both(passes: &[Option<u32>]) -> bool {
-    passes == [Some(1), Some(2)].as_slice() || passes == [Some(2), Some(1)].as_slice()
-}
-
-// A body that calls the gate and commits on the calling thread alone comes too late, or commits with one pass.
-#[test]
-fn two_commits_cross(rt: HostRuntime) -> Result<(), Fail> {
-    let gate = Meeting::new();
-    let batch = [parcel(0, WORDS[0]), parcel(1, WORDS[1])];
-    let shut = gathered(&rt, rt.alloc(), &batch, 2, &gate)?;
-    check_met(&rt, &gate);
-    check(&rt, are_of_both(&shut.passes), "the passes");
-    Ok(())
-}
-
-// Holds worker 1 at its first call until worker 2 has called three times, and worker 2 at its first until worker 1 has called.
-#[derive(Drop)]
-struct Order {
+struct Watch {
+    enough: usize,
+    block: u32,
+    awaited: u64,
     first: AtomicU64,
     second: AtomicU64,
     others: AtomicU64,
     late: AtomicU64,
 }
 
-impl Order {
+impl Watch {
     // Nobody has called.
-    fn new() -> Order {
-        Order {
+    fn new(enough: usize, block: u32, awaited: u64) -> Watch {
+        Watch {
+            enough,
+            block,
+            awaited,
             first: AtomicU64::new(0),
             second: AtomicU64::new(0),
             others: AtomicU64::new(0),
@@ -410,17 +356,17 @@ impl Order {
     }
 }
 
-impl Gate for Order {
+impl Gate for Watch {
     fn at(&self, worker: u32) {
         match worker {
             1 => {
                 if self.first.fetch_add(1, Ordering::SeqCst) == 0 {
-                    self.wait(&self.second, 3);
+                    self.wait(&self.second, self.awaited);
                 }
             }
             2 => {
                 if self.second.fetch_add(1, Ordering::SeqCst) == 0 {
-                    self.wait(&self.first, 1);
+                    self.wait(&self.first, self.awaited.min(1));
                 }
             }
             _ => {
@@ -428,6 +374,46 @@ impl Gate for Order {
             }
         }
     }
+
+    fn enough(&self) -> usize {
+        self.enough
+    }
+
+    fn block(&self) -> u32 {
+        self.block
+    }
+}
+
+// Looks for how often worker 1, worker 2 and others called, none of them late.
+fn check_calls(rt: &impl Abort, gate: &Watch, calls: &[u64; 3]) {
+    check_count(rt, &gate.late, 0, "late");
+    check_count(rt, &gate.first, calls[0], "worker 1");
+    check_count(rt, &gate.second, calls[1], "worker 2");
+    check_count(rt, &gate.others, calls[2], "others");
+}
+
+// Both workers came, and neither waited in vain.
+fn check_met(rt: &impl Abort, gate: &Watch) {
+    check_came(rt, &gate.first, "worker 1");
+    check_came(rt, &gate.second, "worker 2");
+    check_count(rt, &gate.late, 0, "late");
+}
+
+// Whether one place has the pass of worker 1, and the other that of worker 2.
+fn are_of_both(passes: &[Option<u32>]) -> bool {
+    passes == [Some(1), Some(2)].as_slice() || passes == [Some(2), Some(1)].as_slice()
+}
+
+// Workers 1 and 2 are held at their first calls until both have come. A body that calls the gate and commits on the calling thread
+// alone comes too late, or commits with one pass.
+#[test]
+fn two_commits_cross(rt: HostRuntime) -> Result<(), Fail> {
+    let gate = Watch::new(1, 1, 1);
+    let batch = [parcel(0, WORDS[0]), parcel(1, WORDS[1])];
+    let shut = gathered(&rt, rt.alloc(), &batch, 2, &gate)?;
+    check_met(&rt, &gate);
+    check(&rt, are_of_both(&shut.passes), "the passes");
+    Ok(())
 }
 
 // The meter of a Take's line; 3 for another line.
@@ -449,54 +435,41 @@ fn whole_batch() -> [Parcel; 4] {
 }
 
 // Looks for seven lines, of which the first two of the batch are those of other places than this one.
-fn check_order(rt: &impl Abort, lines: &Lines, place: usize) {
+fn check_lines(rt: &impl Abort, lines: &Lines, place: usize) {
     assert!(rt; lines.len() == 7);
     for at in 3..5 {
         check(rt, usize::from(meter_of(&lines.at(at))) != place, "a line");
     }
 }
 
-// Looks for a call of worker 1 and three of worker 2, none of them late, and for no other.
-fn check_calls(rt: &impl Abort, gate: &Order) {
-    check_count(rt, &gate.late, 0, "late");
-    check_count(rt, &gate.others, 0, "others");
-    check_count(rt, &gate.first, 1, "worker 1");
-    check_count(rt, &gate.second, 3, "worker 2");
+// The first place that worker 1 committed; that behind all where it made no commit.
+fn place_of_first(passes: &[Option<u32>]) -> usize {
+    let mut place = 0usize;
+    for pass in passes {
+        if *pass == Some(1) {
+            return place;
+        }
+        place = place.wrapping_add(1);
+    }
+    place
 }
 
-// The first place that worker 1 committed.
-fn place_of_first(passes: &[Option<u32>]) -> Result<usize, Fail> {
-    match passes.iter().position(|pass| *pass == Some(1)) {
-        Some(place) => Ok(place),
-        None => Err(Fail::new("worker 1 made no commit")),
-    }
+// Worker 1 made a commit, and others were made before it.
+fn check_order(rt: &impl Abort, shut: &Shut) {
+    let place = place_of_first(&shut.passes);
+    check(rt, place < shut.passes.len(), "a commit of worker 1");
+    check_lines(rt, shut.book.journal(), place);
 }
 
 // Worker 1 makes one of four commits, and worker 2 has made two before it: a body that calls the gate after the commit makes
 // that of worker 1 sooner. The workers are numbered 1 and 2, and call for each commit.
 #[test]
 fn gate_comes_before_each_commit(rt: HostRuntime) -> Result<(), Fail> {
-    let gate = Order::new();
+    let gate = Watch::new(1, 1, 3);
     let shut = gathered(&rt, rt.alloc(), &whole_batch(), 2, &gate)?;
-    check_calls(&rt, &gate);
-    check_order(&rt, shut.book.journal(), place_of_first(&shut.passes)?);
+    check_calls(&rt, &gate, &[1, 3, 0]);
+    check_order(&rt, &shut);
     Ok(())
-}
-
-// Has turns of two parcels, and counts the calls.
-#[derive(Drop)]
-struct Pairs {
-    calls: AtomicU64,
-}
-
-impl Gate for Pairs {
-    fn at(&self, _worker: u32) {
-        self.calls.fetch_add(1, Ordering::SeqCst);
-    }
-
-    fn block(&self) -> u32 {
-        2
-    }
 }
 
 // The parcels of the three readings, bytes of no frame, and a Close that is in no plan.
@@ -510,54 +483,45 @@ fn five_parcels() -> [Parcel; 5] {
     ]
 }
 
-// Looks for the marks of those parcels, and for the lines of the book.
-fn check_five(rt: &impl Abort, collected: &Collected) {
+// Collects those parcels by two workers, and looks for their marks, and for the lines of the book.
+fn check_five(
+    rt: &(impl Threads + Wait + Abort + Sync),
+    alloc: Global,
+    book: &Book,
+    gate: &Watch,
+) -> Result<(), Fail> {
+    let collected = collected(rt, alloc, book, &five_parcels(), 2, gate)?;
     let bad = Mark::Bad(FrameError::Magic);
-    let wanted = [FRESH, FRESH, bad, FRESH, Mark::OutOfPlan];
-    check_all(rt, &collected.replies, &wanted, "the marks");
-    check_same(rt, &collected.book.journal().len(), &6, "the lines");
+    let marks = [FRESH, FRESH, bad, FRESH, Mark::OutOfPlan];
+    check_marks(rt, "five parcels", &collected, &marks, 6);
+    Ok(())
+}
+
+// The calls that were counted, whoever made them.
+fn all_calls(gate: &Watch) -> u64 {
+    gate.first
+        .load(Ordering::SeqCst)
+        .wrapping_add(gate.second.load(Ordering::SeqCst))
+        .wrapping_add(gate.others.load(Ordering::SeqCst))
 }
 
 // Five parcels are two turns of two and one of one, whoever has them.
 #[test]
 fn five_parcels_have_three_turns(rt: HostRuntime) -> Result<(), Fail> {
-    let alloc = rt.alloc();
-    let gate = Pairs {
-        calls: AtomicU64::new(0),
-    };
-    let book = sent_book(alloc)?;
-    let collected = collected(&rt, alloc, &book, &five_parcels(), 2, &gate)?;
-    check_five(&rt, &collected);
-    check_count(&rt, &gate.calls, 3, "the turns");
+    let gate = Watch::new(1, 2, 0);
+    let book = sent_book(rt.alloc(), &READINGS, &WORDS)?;
+    check_five(&rt, rt.alloc(), &book, &gate)?;
+    check_same(&rt, &all_calls(&gate), &3, "the turns");
     Ok(())
-}
-
-// Has a worker for each three parcels, and counts the calls of others than worker 1.
-#[derive(Drop)]
-struct Threes {
-    others: AtomicU64,
-}
-
-impl Gate for Threes {
-    fn at(&self, worker: u32) {
-        if worker != 1 {
-            self.others.fetch_add(1, Ordering::SeqCst);
-        }
-    }
-
-    fn enough(&self) -> usize {
-        3
-    }
 }
 
 // Four parcels are enough for one worker of sixteen, and the caller leaves all commits to it.
 #[test]
 fn four_parcels_have_one_worker(rt: HostRuntime) -> Result<(), Fail> {
     let alloc = rt.alloc();
-    let gate = Threes {
-        others: AtomicU64::new(0),
-    };
+    let gate = Watch::new(3, 1, 0);
     let shut = gathered(&rt, alloc, &whole_batch(), 16, &gate)?;
+    check_count(&rt, &gate.second, 0, "worker 2");
     check_count(&rt, &gate.others, 0, "others");
     check_all(&rt, &shut.passes, &[Some(1); 4], "the passes");
     Ok(())

@@ -1,7 +1,7 @@
 //! What several modules share: frames of readings, books of the group `north`, how lines are compared, and assertions, each of
 //! which is made in one place, since every assertion of a body is proved by itself.
 
-ghost use Rattle.std.specs.Prelude.{◌≡◌, ◌≤◌, IfOk, [], vec_len};
+ghost use Rattle.std.specs.Prelude.{◌≡◌, ◌≤◌, IfOk, [], length, vec_len};
 ghost use Rattle.group_plan.specs.declared.Kind.TheVariants.{Reading};
 ghost use Rattle.shared_book.specs.Passes.{new_pass};
 ghost use Rattle.shared_book.specs.Ends.{view, opening, IsPassOf};
@@ -74,7 +74,7 @@ pub(crate) fn book_of_north(alloc: Global, readings: &[u64], lines: u64) -> Resu
     book_of(alloc, &presence_of_north(alloc, readings)?, lines)
 }
 
-pub(crate) fn send_reading(book: &mut Book, meter: u8, word: u64) -> Result<(), Fail> {
+fn send_reading(book: &mut Book, meter: u8, word: u64) -> Result<(), Fail> {
     book.reserve(1)?;
     match book.send(reading_frame(meter, word)) {
         SendAnswer::Sent => Ok(()),
@@ -82,12 +82,22 @@ pub(crate) fn send_reading(book: &mut Book, meter: u8, word: u64) -> Result<(), 
     }
 }
 
-/// Shares a book for these parcels.
-pub(crate) fn begin(
-    alloc: Global,
-    book: Book,
-    parcels: Vec<Parcel>,
-) -> Result<(SharedBook, Pass), Fail>
+/// A book of `north` after the Sends of readings under these words, with room for four lines.
+pub(crate) fn sent_book(alloc: Global, readings: &[u64], words: &[u64]) -> Result<Book, Fail>
+    ensures { IfOk result (λ book. 4 ≤ book.spare) }
+{
+    let mut book = book_of_north(alloc, readings, 0)?;
+    let mut meter = 0u8;
+    for word in words {
+        send_reading(&mut book, meter, *word)?;
+        meter = meter.wrapping_add(1);
+    }
+    book.reserve(4)?;
+    Ok(book)
+}
+
+// Shares a book for these parcels.
+fn begin(alloc: Global, book: Book, parcels: Vec<Parcel>) -> Result<(SharedBook, Pass), Fail>
     requires few { vec_len parcels ≤ 4 }
     requires room { 4 ≤ book.spare }
     ensures pass { IfOk result (λ r. IsPassOf r.0 r.1 × (view r.1 ≡ new_pass 0 [])) }
@@ -97,6 +107,21 @@ pub(crate) fn begin(
         Ok(begun) => Ok(begun),
         Err(_) => Err(Fail::new("no memory")),
     }
+}
+
+/// Shares such a book for these parcels.
+pub(crate) fn begun(
+    alloc: Global,
+    readings: &[u64],
+    words: &[u64],
+    batch: &[Parcel],
+) -> Result<(SharedBook, Pass), Fail>
+    requires { length batch.now ≤ 4 }
+    ensures pass { IfOk result (λ r. IsPassOf r.0 r.1 × (view r.1 ≡ new_pass 0 [])) }
+    ensures parcels { IfOk result (λ r. (opening r.0).parcels ≡ batch.now) }
+{
+    let parcels = Vec::from_slice(alloc, batch)?;
+    begin(alloc, sent_book(alloc, readings, words)?, parcels)
 }
 
 /// Whether the two lines are one.

@@ -26,66 +26,52 @@ fn frame(kind: Kind, meter: u8, missing: MeterSet, word: u64) -> Frame {
     }
 }
 
-fn send(book: &mut Book, frame: Frame) -> Result<SendAnswer, Fail> {
-    if book.spare() < 1 {
-        return Err(Fail::new("no room"));
-    }
-    match frame.tag.kind {
-        Kind::Reading if frame.missing.len() > 0 => Err(Fail::new("a set in a reading")),
-        Kind::Announcement if frame.word.value() > 0 => Err(Fail::new("a word")),
-        _ => Ok(book.send(frame)),
-    }
-}
-
-// What a Take says, or why it is refused.
-fn take(book: &mut Book, frame: &Frame) -> Result<Result<Verdict, TakeError>, Fail> {
-    if book.spare() < 1 {
-        return Err(Fail::new("no room"));
-    }
-    Ok(book.take(frame))
-}
-
-fn close(book: &mut Book) -> Result<Closing, Fail> {
-    if book.spare() < 1 || !book.has_round(0, 0) {
-        return Err(Fail::new("no room"));
-    }
-    Ok(book.close(0, 0))
-}
-
-fn end(book: &mut Book) -> Result<Ending, Fail> {
-    if book.spare() < 1 || !book.has_round(0, 0) {
-        return Err(Fail::new("no room"));
-    }
-    Ok(book.end(0, 0))
-}
-
 fn check_send(
     rt: &impl Abort,
     book: &mut Book,
     frame: Frame,
     answer: &SendAnswer,
 ) -> Result<(), Fail> {
-    assert!(rt; send(book, frame)? == *answer);
-    Ok(())
+    if book.spare() < 1 {
+        return Err(Fail::new("no room"));
+    }
+    match frame.tag.kind {
+        Kind::Reading if frame.missing.len() > 0 => Err(Fail::new("a set in a reading")),
+        Kind::Announcement if frame.word.value() > 0 => Err(Fail::new("a word")),
+        _ => {
+            check(rt, book.send(frame) == *answer, "a Send");
+            Ok(())
+        }
+    }
 }
 
+// Looks for what a Take says, or why it is refused.
 fn check_take(
     rt: &impl Abort,
     book: &mut Book,
     frame: &Frame,
     answer: &Result<Verdict, TakeError>,
 ) -> Result<(), Fail> {
-    assert!(rt; take(book, frame)? == *answer);
+    if book.spare() < 1 {
+        return Err(Fail::new("no room"));
+    }
+    check(rt, book.take(frame) == *answer, "a Take");
     Ok(())
 }
 
 fn check_close(rt: &impl Abort, book: &mut Book, closing: &Closing) -> Result<(), Fail> {
-    assert!(rt; close(book)? == *closing);
+    if book.spare() < 1 || !book.has_round(0, 0) {
+        return Err(Fail::new("no room"));
+    }
+    check(rt, book.close(0, 0) == *closing, "the Close");
     Ok(())
 }
 
 fn check_end(rt: &impl Abort, book: &mut Book, ending: &Ending) -> Result<(), Fail> {
-    assert!(rt; end(book)? == *ending);
+    if book.spare() < 1 || !book.has_round(0, 0) {
+        return Err(Fail::new("no room"));
+    }
+    check(rt, book.end(0, 0) == *ending, "the End");
     Ok(())
 }
 
@@ -132,25 +118,27 @@ fn check_thin(rt: &impl Abort, book: &mut Book) -> Result<(), Fail> {
     check_end(rt, book, &Ending::Already)
 }
 
-#[test]
-fn book_call_by_call(rt: HostRuntime) -> Result<(), Fail> {
-    let mut book = book_of_north(rt.alloc(), &[10, 10, 10], 12)?;
-    check_sends(&rt, &mut book)?;
-    check_seven(&rt, &mut book)?;
-    check_thin(&rt, &mut book)?;
-    check_same(&rt, &book.journal().len(), &10, "the lines");
-    check(&rt, book.spare() >= 2, "the room");
+// The calls of a thin round, which add ten lines.
+fn check_round(rt: &impl Abort, book: &mut Book) -> Result<(), Fail> {
+    check_sends(rt, book)?;
+    check_seven(rt, book)?;
+    check_thin(rt, book)?;
+    check_same(rt, &book.journal().len(), &10, "the lines");
+    check(rt, book.spare() >= 2, "the room");
     Ok(())
 }
 
-// Sends three readings; whether each was sent.
-fn send_readings(book: &mut Book) -> Result<bool, Fail> {
-    for (meter, word) in [(0, 122), (1, 226), (2, 312)] {
-        if !is_sent(book, reading_frame(meter, word))? {
-            return Ok(false);
-        }
-    }
-    Ok(true)
+#[test]
+fn book_call_by_call(rt: HostRuntime) -> Result<(), Fail> {
+    let mut book = book_of_north(rt.alloc(), &[10, 10, 10], 12)?;
+    check_round(&rt, &mut book)
+}
+
+// Sends three readings.
+fn check_readings(rt: &impl Abort, book: &mut Book) -> Result<(), Fail> {
+    check_send(rt, book, reading_frame(0, 122), &SendAnswer::Sent)?;
+    check_send(rt, book, reading_frame(1, 226), &SendAnswer::Sent)?;
+    check_send(rt, book, reading_frame(2, 312), &SendAnswer::Sent)
 }
 
 // The frame of a reading, under the tag of another group or of another round.
@@ -172,7 +160,7 @@ fn check_outside(rt: &impl Abort, book: &mut Book) -> Result<(), Fail> {
 #[test]
 fn frames_outside_plan(rt: HostRuntime) -> Result<(), Fail> {
     let mut book = book_of_north(rt.alloc(), &[10, 10, 10], 6)?;
-    check(&rt, send_readings(&mut book)?, "the readings");
+    check_readings(&rt, &mut book)?;
     check_outside(&rt, &mut book)
 }
 
@@ -188,43 +176,25 @@ fn are_same(lines: &Lines, others: &Lines) -> bool {
     true
 }
 
-fn is_sent(book: &mut Book, frame: Frame) -> Result<bool, Fail> {
-    Ok(send(book, frame)? == SendAnswer::Sent)
-}
-
-fn is_taken(book: &mut Book, frame: &Frame) -> Result<bool, Fail> {
-    Ok(take(book, frame)? == Ok(Verdict::Fresh))
-}
-
-// Sends and takes the frames of these words, by meter; whether each was posted, and fresh.
-fn pass(book: &mut Book, kind: Kind, words: &[u64]) -> Result<bool, Fail> {
+// Sends and takes the frames of these words, by meter, each of which is posted, and fresh.
+fn check_pass(rt: &impl Abort, book: &mut Book, kind: Kind, words: &[u64]) -> Result<(), Fail> {
     let mut meter = 0u8;
     for word in words {
         let sent = frame(kind, meter, MeterSet::empty(), *word);
-        if !is_sent(book, sent)? || !is_taken(book, &sent)? {
-            return Ok(false);
-        }
+        check_send(rt, book, sent, &SendAnswer::Sent)?;
+        check_take(rt, book, &sent, &Ok(Verdict::Fresh))?;
         meter = meter.wrapping_add(1);
     }
-    Ok(true)
+    Ok(())
 }
 
 // Makes a round of three meters in a new book, which ends with the total 60.
 fn make_round(rt: &impl Abort, book: &mut Book) -> Result<(), Fail> {
-    check(rt, pass(book, Kind::Reading, &[122, 226, 312])?, "readings");
-    let _closing = close(book)?;
-    let are_told = pass(book, Kind::Announcement, &[0, 0, 0])?;
-    check(rt, are_told, "announcements");
-    check(rt, pass(book, Kind::Answer, &[100, 200, 300])?, "answers");
-    let _ending = end(book)?;
-    Ok(())
-}
-
-// The book of that round.
-fn ended_book(rt: &impl Abort, alloc: Global) -> Result<Book, Fail> {
-    let mut book = book_of_north(alloc, &[10, 10, 10], 20)?;
-    make_round(rt, &mut book)?;
-    Ok(book)
+    check_pass(rt, book, Kind::Reading, &[122, 226, 312])?;
+    check_close(rt, book, &Closing::Announced(MeterSet::empty()))?;
+    check_pass(rt, book, Kind::Announcement, &[0, 0, 0])?;
+    check_pass(rt, book, Kind::Answer, &[100, 200, 300])?;
+    check_end(rt, book, &Ending::Total(60))
 }
 
 fn is_same_outcome(outcome: &Outcome, other: &Outcome) -> bool {
@@ -237,26 +207,28 @@ fn has_same_outcome(book: &Book, other: &Book) -> Result<bool, Fail> {
     Ok(is_same_outcome(&outcome(book)?, &outcome(other)?))
 }
 
-fn has_lines(book: &Book, lines: usize) -> bool {
-    book.journal().len() == lines
-}
-
 fn has_total(book: &Book, total: u64) -> Result<bool, Fail> {
     Ok(outcome(book)?.state == OutcomeState::Total(total))
 }
 
 // The copy has 20 lines, and the lines and the outcome of the book, which is the total 60.
 fn check_copy(rt: &impl Abort, copy: &Book, book: &Book) -> Result<(), Fail> {
-    check(rt, has_lines(copy, 20), "the lines");
+    check_same(rt, &copy.journal().len(), &20, "the lines");
     check(rt, are_same(copy.journal(), book.journal()), "each line");
     check(rt, has_same_outcome(copy, book)?, "the outcome");
     check(rt, has_total(copy, 60)?, "the total");
     Ok(())
 }
 
+// Copies a book, and compares the copy with it.
+fn check_copied(rt: &impl Abort, book: &Book) -> Result<(), Fail> {
+    let copy = book.try_copy()?;
+    check_copy(rt, &copy, book)
+}
+
 #[test]
 fn book_copied(rt: HostRuntime) -> Result<(), Fail> {
-    let book = ended_book(&rt, rt.alloc())?;
-    let copy = book.try_copy()?;
-    check_copy(&rt, &copy, &book)
+    let mut book = book_of_north(rt.alloc(), &[10, 10, 10], 20)?;
+    make_round(&rt, &mut book)?;
+    check_copied(&rt, &book)
 }

@@ -1,11 +1,10 @@
 //! A book after the Sends of three readings, whose frames are the parcels.
 
-ghost use Rattle.std.specs.Prelude.{◌≡◌, ◌<◌, ◌≤◌, IfOk, [], length};
+ghost use Rattle.std.specs.Prelude.{◌≡◌, ◌<◌, ◌≤◌, [], length};
 ghost use Rattle.shared_book.specs.Passes.{new_pass, SamePass};
 ghost use Rattle.shared_book.specs.Ends.{view, IsPassOf};
 
-use crate::fixtures::{begin, book_of_north, check_all, check_same, parcel, send_reading};
-use group_book::Book;
+use crate::fixtures::{begun, check_all, check_same, parcel};
 use meter_frames::FrameError;
 use round_machine::Verdict;
 use shared_book::{CommitError, Parcel, Pass, Reply, SharedBook, Shut};
@@ -19,30 +18,13 @@ const FRESH: Reply = Reply::Took(Verdict::Fresh);
 
 const DONE: Result<Reply, CommitError> = Err(CommitError::Done(FRESH));
 
-/// A book after the Sends of three readings, with room for four lines more.
-fn sent(alloc: Global) -> Result<Book, Fail>
-    ensures { IfOk result (λ book. 4 ≤ book.spare) }
-{
-    let mut book = book_of_north(alloc, &[10, 10, 10], 0)?;
-    for meter in 0..3u8 {
-        send_reading(&mut book, meter, 100 + u64::from(meter))?;
-    }
-    book.reserve(4)?;
-    Ok(book)
-}
+const READINGS: [u64; 3] = [10, 10, 10];
 
-fn shared(alloc: Global) -> Result<(SharedBook, Pass), Fail>
-    ensures { IfOk result (λ r. IsPassOf r.0 r.1 × (view r.1 ≡ new_pass 0 [])) }
-{
-    shared_for(alloc, &[parcel(0, 100), parcel(1, 101), parcel(2, 102)])
-}
+const WORDS: [u64; 3] = [100, 101, 102];
 
-fn shared_for(alloc: Global, parcels: &[Parcel]) -> Result<(SharedBook, Pass), Fail>
-    requires { length parcels.now ≤ 4 }
-    ensures { IfOk result (λ r. IsPassOf r.0 r.1 × (view r.1 ≡ new_pass 0 [])) }
-{
-    let parcels = Vec::from_slice(alloc, parcels)?;
-    begin(alloc, sent(alloc)?, parcels)
+/// The parcels of the three readings.
+fn three_parcels() -> [Parcel; 3] {
+    [parcel(0, 100), parcel(1, 101), parcel(2, 102)]
 }
 
 /// Looks for the number of lines.
@@ -76,7 +58,7 @@ fn check_two(rt: &impl Abort, shut: &Shut) {
 
 #[test]
 fn place_committed_again(rt: HostRuntime) -> Result<(), Fail> {
-    let (book, mut pass) = shared(rt.alloc())?;
+    let (book, mut pass) = begun(rt.alloc(), &READINGS, &WORDS, &three_parcels())?;
     check_commit(&rt, &book, &mut pass, 2, &Ok(FRESH), "place 2");
     check_commit(&rt, &book, &mut pass, 0, &Ok(FRESH), "place 0");
     check_commit(&rt, &book, &mut pass, 2, &DONE, "place 2 again");
@@ -137,7 +119,7 @@ fn check_three(rt: &impl Abort, shut: &Shut) {
 
 #[test]
 fn blocks_by_rows(rt: HostRuntime) -> Result<(), Fail> {
-    let (book, mut pass) = shared_for(rt.alloc(), &four_parcels())?;
+    let (book, mut pass) = begun(rt.alloc(), &READINGS, &WORDS, &four_parcels())?;
     check_blocks(&rt, rt.alloc(), &book, &mut pass)?;
     check_three(&rt, &book.shut(pass));
     Ok(())
@@ -179,7 +161,7 @@ fn check_history(rt: &impl Abort, shut: &Shut) {
 
 #[test]
 fn two_passes_one_history(rt: HostRuntime) -> Result<(), Fail> {
-    let (book, mut first) = shared(rt.alloc())?;
+    let (book, mut first) = begun(rt.alloc(), &READINGS, &WORDS, &three_parcels())?;
     check_both(&rt, &book, &mut first);
     check_passes(&rt, &first);
     check_commit(&rt, &book, &mut first, 0, &DONE, "place 0 again");
