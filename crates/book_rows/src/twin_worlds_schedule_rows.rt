@@ -5,7 +5,6 @@ ghost use Rattle.std.specs.Prelude.{◌≡◌, ◌+◌, ◌*◌, ◌%◌, ◌<�
 ghost use Rattle.missing_round.specs.Sets.{block_at};
 ghost use Rattle.transcript_log.specs.Rows.{three};
 
-use crate::fixtures::check;
 use crate::transcripts::is_writable;
 use group_plan::{Kind, Plan, Readings, Tag};
 use ideal_masks::Differ;
@@ -130,27 +129,33 @@ fn present(small: &Small) -> [bool; 6] {
 
 fn reckon_readings(alloc: Global, small: &Small) -> Result<Vec<u64>, AllocError> {
     let mut readings = Vec::new(alloc);
-    for at in 0..6u8 {
-        let (round, meter) = (u32::from(at / 3), at % 3);
-        let hidden = small.answer(round, meter, 7);
-        readings.push(small.reading(round, meter).wrapping_add(hidden))?;
+    for round in 0..2u32 {
+        for meter in 0..3u8 {
+            let hidden = small.answer(round, meter, 7);
+            readings.push(small.reading(round, meter).wrapping_add(hidden))?;
+        }
     }
     Ok(readings)
 }
 
 fn reckon_answers(alloc: Global, small: &Small) -> Result<Vec<u64>, AllocError> {
     let mut answers = Vec::new(alloc);
-    for at in 0..48u8 {
-        let (round, meter) = (u32::from(at / 24), at / 8 % 3);
-        answers.push(small.answer(round, meter, u32::from(at % 8)))?;
+    for round in 0..2u32 {
+        for meter in 0..3u8 {
+            for missing in 0..8u32 {
+                answers.push(small.answer(round, meter, missing))?;
+            }
+        }
     }
     Ok(answers)
 }
 
 fn reckon_totals(alloc: Global, small: &Small) -> Result<Vec<u64>, AllocError> {
     let mut totals = Vec::new(alloc);
-    for at in 0..16u32 {
-        totals.push(small.total(at / 8, at % 8))?;
+    for round in 0..2u32 {
+        for meters in 0..8u32 {
+            totals.push(small.total(round, meters))?;
+        }
     }
     Ok(totals)
 }
@@ -276,49 +281,30 @@ fn key_bytes(seed: u8) -> [u8; 6] {
     ]
 }
 
-// A meter's own word; 0 outside the plan.
-fn own_word(keys: &KeyTable, round: u32, meter: u8) -> u64 {
-    if !keys.plan().holds(tag(round, Kind::Reading, meter)) {
-        return 0;
-    }
-    ChaMasks::new(keys).own(0, round, meter).value()
-}
-
-// The word of the pair of this number: 0 and 1, 0 and 2, 1 and 2. 0 outside the plan.
-fn pair_word(keys: &KeyTable, round: u32, number: u8) -> u64 {
-    let (low, high) = match number {
-        0 => (0, 1),
-        1 => (0, 2),
-        _ => (1, 2),
-    };
-    if !keys.plan().holds(tag(round, Kind::Reading, high)) {
-        return 0;
-    }
-    ChaMasks::new(keys).pair(0, round, low, high).value()
-}
-
-// A reading, which about one time in eight is absent.
-fn some_reading(state: &mut u64) -> Option<u64> {
-    let reading = 100 + roll(state, 1000);
-    if roll(state, 8) > 0 {
-        Some(reading)
-    } else {
-        None
-    }
-}
-
 // The words of these keys, with readings of which about one in eight is absent.
 fn first_world(keys: &KeyTable, state: &mut u64) -> Small {
+    let masks = ChaMasks::new(keys);
     let mut small = Small {
         readings: [None; 6],
         own: [0; 6],
         pair: [0; 6],
     };
-    for at in 0..6u8 {
-        let (round, meter) = (u32::from(at / 3), at % 3);
-        small.readings[usize::from(at)] = some_reading(state);
-        small.own[usize::from(at)] = own_word(keys, round, meter);
-        small.pair[usize::from(at)] = pair_word(keys, round, meter);
+    for round in 0..2u32 {
+        for meter in 0..3u8 {
+            let at = place(round, meter);
+            if at < 6 && keys.plan().holds(tag(round, Kind::Reading, meter)) {
+                let reading = 100 + roll(state, 1000);
+                let present = roll(state, 8) > 0;
+                small.readings[at] = if present { Some(reading) } else { None };
+                small.own[at] = masks.own(0, round, meter).value();
+            }
+        }
+        for (at, low, high) in [(0u8, 0u8, 1u8), (1, 0, 2), (2, 1, 2)] {
+            let at = place(round, at);
+            if at < 6 && low < high && keys.plan().holds(tag(round, Kind::Reading, high)) {
+                small.pair[at] = masks.pair(0, round, low, high).value();
+            }
+        }
     }
     small
 }
@@ -432,6 +418,14 @@ fn is_second_world(
     Ok(told(alloc, &world, events)?.as_slice() == lines)
 }
 
+/// What a seed comes to.
+#[derive(Clone, Copy, PartialEq)]
+enum Found {
+    Twins,
+    OtherTotal,
+    Wrong,
+}
+
 // The keys of a seed, over two rounds.
 fn keys_of(alloc: Global, seed: u8) -> Result<KeyTable, Fail> {
     keys_of_north(alloc, &plan_of_north(alloc, 2)?, key_bytes(seed))
@@ -451,35 +445,39 @@ fn judged(
     Ok(twin(alloc, plan, keys, &first, &second, text))
 }
 
-// Whether the tables are no twins, since the totals of a round differ.
-fn has_other_total(error: &TwinError) -> bool {
+// What a refusal comes to.
+fn refused(error: &TwinError) -> Found {
     match error {
-        TwinError::Differ(Differ::Total { first, second, .. }) => first != second,
-        _ => false,
+        TwinError::Differ(Differ::Total { first, second, .. }) if first != second => {
+            Found::OtherTotal
+        }
+        _ => Found::Wrong,
     }
 }
 
-// Whether the two tables are twins over these events; None for a wrong answer.
+// What the two tables come to over these events.
 fn compare(
     alloc: Global,
     keys: &KeyTable,
     first: &Small,
     second: &[Option<u64>; 6],
     events: &[Event],
-) -> Result<Option<bool>, Fail> {
+) -> Result<Found, Fail> {
     let lines = told(alloc, first, events)?;
     let text = text_of(alloc, &lines)?;
     match judged(alloc, keys, &first.readings, second, &text)? {
         Ok(moved) => {
-            let is_right = is_second_world(alloc, first, second, &moved, events, &lines)?;
-            Ok(is_right.then_some(true))
+            if is_second_world(alloc, first, second, &moved, events, &lines)? {
+                Ok(Found::Twins)
+            } else {
+                Ok(Found::Wrong)
+            }
         }
-        Err(error) => Ok(has_other_total(&error).then_some(false)),
+        Err(error) => Ok(refused(&error)),
     }
 }
 
-// Whether the two tables of a seed are twins; None for a wrong answer.
-fn judge(alloc: Global, seed: u8) -> Result<Option<bool>, Fail> {
+fn judge(alloc: Global, seed: u8) -> Result<Found, Fail> {
     let mut state = u64::from(seed);
     let keys = keys_of(alloc, seed)?;
     let first = first_world(&keys, &mut state);
@@ -488,18 +486,26 @@ fn judge(alloc: Global, seed: u8) -> Result<Option<bool>, Fail> {
     compare(alloc, &keys, &first, &second, &events)
 }
 
-// Looks for no wrong answer; how many twins a seed makes.
-fn twins_of(rt: &impl Abort, found: Option<bool>, seed: u8) -> u32 {
-    assert!(rt; found.is_some(), "seed {seed}");
-    u32::from(found == Some(true))
+// Looks for no wrong answer.
+fn check_found(rt: &impl Abort, found: Found, seed: u8) {
+    assert!(rt; found != Found::Wrong, "seed {seed}");
+}
+
+// Looks for enough twins.
+fn check_twins(rt: &impl Abort, twins: u32) {
+    assert!(rt; twins > 9, "{twins}");
 }
 
 #[test]
 fn twenty_schedules(rt: HostRuntime) -> Result<(), Fail> {
     let mut twins = 0u32;
     for seed in 0..20u8 {
-        twins = twins.wrapping_add(twins_of(&rt, judge(rt.alloc(), seed)?, seed));
+        let found = judge(rt.alloc(), seed)?;
+        check_found(&rt, found, seed);
+        if found == Found::Twins {
+            twins = twins.wrapping_add(1);
+        }
     }
-    check(&rt, twins > 9, "the twins");
+    check_twins(&rt, twins);
     Ok(())
 }

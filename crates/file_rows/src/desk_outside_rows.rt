@@ -47,22 +47,16 @@ fn make_calls(rt: &impl Abort, desk: &mut MemoryDesk, alloc: Global) {
     }
 }
 
-// Whether a call of the desk is the listed one at this place, by its kind and its name, and failed or not.
-fn is_listed(call: &DeskCall, at: usize) -> bool {
-    match CALLS.get(at) {
-        Some((kind, name, _, failed)) => {
-            call.kind == *kind && call.name.bytes() == name.as_bytes() && call.failed == *failed
-        }
-        None => false,
-    }
+// Whether a call of the desk is of this kind and this name, and failed or not.
+fn is_call(call: &DeskCall, kind: DeskKind, name: &str, failed: bool) -> bool {
+    call.kind == kind && call.name.bytes() == name.as_bytes() && call.failed == failed
 }
 
-// Looks for the listed calls as those that the desk has counted.
+// Looks for the listed calls among those that the desk has counted.
 fn check_calls(rt: &impl Abort, calls: &[DeskCall]) {
-    let mut at = 0usize;
-    for call in calls {
-        check(rt, is_listed(call, at), "a call");
-        at = at.wrapping_add(1);
+    check_same(rt, &calls.len(), &9, "the calls");
+    for (call, (kind, name, _, failed)) in calls.iter().zip(CALLS.iter()) {
+        check(rt, is_call(call, *kind, name, *failed), name);
     }
 }
 
@@ -97,26 +91,35 @@ fn check_fetches(
 ) {
     for (name, most, error) in fetches {
         let came = desk.fetch(alloc, name, *most).err();
-        check_same(rt, &came, error, name);
+        check_same(rt, &(*most, came), &(*most, *error), name);
     }
 }
 
-// Looks for the listed calls, and for what they left, and fetches what they put.
-fn check_listed(rt: &impl Abort, desk: &mut MemoryDesk, alloc: Global) -> Result<(), FetchError> {
+// Looks for the listed calls, and for what they left.
+fn check_listed(rt: &impl Abort, desk: &mut MemoryDesk, alloc: Global) {
     make_calls(rt, desk, alloc);
     check_calls(rt, desk.calls());
-    check_same(rt, &desk.calls().len(), &9, "the calls");
     check_same(rt, &desk.faults(), &4, "the faults");
     check_views(rt, desk);
+}
+
+// Fetches what the listed calls put.
+fn check_listed_put(
+    rt: &impl Abort,
+    desk: &mut MemoryDesk,
+    alloc: Global,
+) -> Result<(), FetchError> {
+    check_held(rt, alloc, desk, ("b", 3), b"new")?;
     check_fetches(rt, alloc, desk, &[("b", 2, Some(FetchError::TooLong(3)))]);
-    check_held(rt, alloc, desk, ("b", 3), b"new")
+    Ok(())
 }
 
 #[test]
 fn memory_desk_fails_the_listed_calls_and_absent_names(rt: HostRuntime) -> Result<(), Fail> {
     let mut desk = MemoryDesk::new(vec![in rt.alloc(); 1, 4, 6]?);
     desk.place("a", b"old")?;
-    check_listed(&rt, &mut desk, rt.alloc())?;
+    check_listed(&rt, &mut desk, rt.alloc());
+    check_listed_put(&rt, &mut desk, rt.alloc())?;
     Ok(())
 }
 
@@ -174,11 +177,11 @@ static FETCHES: [(&str, u64, Option<FetchError>); 6] = [
 ];
 
 // Puts and fetches on real files, and says and complains.
-fn put_and_fetch(rt: &impl Abort, alloc: Global, desk: &mut impl Desk) -> Result<(), Fail> {
+fn put_and_fetch(rt: &impl Abort, alloc: Global, desk: &mut impl Desk) -> Result<(), FetchError> {
     check_puts(rt, desk, &PUTS);
-    check_said(rt, desk);
     check_held(rt, alloc, desk, ("desk_test/a", u64::MAX), b"\xffabc")?;
     check_fetches(rt, alloc, desk, &FETCHES);
+    check_said(rt, desk);
     Ok(())
 }
 
@@ -186,7 +189,8 @@ fn put_and_fetch(rt: &impl Abort, alloc: Global, desk: &mut impl Desk) -> Result
 fn file_desk_on_real_files(rt: HostRuntime) -> Result<(), Fail> {
     empty_folder(&rt, "desk_test")?;
     put_and_fetch(&rt, rt.alloc(), &mut FileDesk::new(&rt))?;
-    check_end(&rt, ("desk_test", "desk_test/a"), b"\xffabc", 1)?;
+    check_count(&rt, "desk_test", 1)?;
+    fs::remove_dir_all(&rt, "desk_test")?;
     Ok(())
 }
 
@@ -216,10 +220,7 @@ fn check_put(
     check_same(rt, &held.as_deref(), &left, name);
 }
 
-// The file that is held under a link, in a folder in which no other file is to come but the one that is made.
-const LEFT: (&str, &str) = ("whole_test", "whole_test/held");
-
-// What is held under a link has new bytes and its old permissions. The folder is then removed.
+// What is held under a link has new bytes and its old permissions, and no other file came but the one that was made.
 fn check_left(rt: &(impl Files + AllocGlobal + Abort + Clone)) -> io::Result<()> {
     let held = fs::symlink_metadata(rt, "whole_test/held")?;
     check_same(rt, &held.len(), &9, "the length");
@@ -227,20 +228,18 @@ fn check_left(rt: &(impl Files + AllocGlobal + Abort + Clone)) -> io::Result<()>
     check_same(rt, &mode, &0o600, "the permissions");
     let link = fs::symlink_metadata(rt, "whole_test/to_held")?;
     check(rt, link.is_symlink(), "the link");
-    check_end(rt, LEFT, b"new bytes", 7)
+    check_count(rt, "whole_test", 7)
 }
 
-// Puts, each with its end and the text that it leaves. None is done on a fetched file by each of its names, on a link to nothing,
-// and by a new file that is written and can't take the name.
-static WHOLE_PUTS: [(&str, Result<(), DeskError>, Option<&str>); 8] = [
-    ("whole_test/fetched", Err(DeskError::Failed), Some("old")),
-    ("./whole_test/fetched", Err(DeskError::Failed), Some("old")),
-    ("whole_test/to_fetched", Err(DeskError::Failed), Some("old")),
-    ("whole_test/same_file", Err(DeskError::Failed), Some("old")),
-    ("whole_test/to_nothing", Err(DeskError::Failed), None),
-    ("whole_test/no_folder/", Err(DeskError::Failed), None),
-    ("whole_test/to_held", Ok(()), Some("new bytes")),
-    ("whole_test/made", Ok(()), Some("new bytes")),
+// Puts of which none is done: on a fetched file by each of its names, on a link to nothing, and by a new file that is written
+// and can't take the name.
+static NOT_PUT: [(&str, Option<&str>); 6] = [
+    ("whole_test/fetched", Some("old")),
+    ("./whole_test/fetched", Some("old")),
+    ("whole_test/to_fetched", Some("old")),
+    ("whole_test/same_file", Some("old")),
+    ("whole_test/to_nothing", None),
+    ("whole_test/no_folder/", None),
 ];
 
 // Puts on a file that is there in a folder that takes no new one.
@@ -258,11 +257,14 @@ fn put_whole(
     alloc: Global,
     desk: &mut impl Desk,
 ) -> Result<(), Fail> {
-    check_held(rt, alloc, desk, ("whole_test/fetched", 3), b"old")?;
-    for (name, done, left) in WHOLE_PUTS.iter() {
-        check_put(rt, desk, name, *done, *left);
+    let _ = desk.fetch(alloc, "whole_test/fetched", 3)?;
+    for (name, left) in NOT_PUT.iter() {
+        check_put(rt, desk, name, Err(DeskError::Failed), *left);
     }
     put_own_name(rt, desk)?;
+    for name in ["whole_test/to_held", "whole_test/made"] {
+        check_put(rt, desk, name, Ok(()), Some("new bytes"));
+    }
     Ok(())
 }
 
@@ -271,28 +273,47 @@ fn file_desk_puts_whole_files(rt: HostRuntime) -> Result<(), Fail> {
     make_whole_test(&rt)?;
     put_whole(&rt, rt.alloc(), &mut FileDesk::new(&rt))?;
     check_left(&rt)?;
+    fs::remove_dir_all(&rt, "whole_test")?;
     Ok(())
 }
 
-// Reads what was put into a pipe, and asks whether nothing is still no file.
-fn check_piped(rt: &(impl Files + AllocGlobal + Abort), reader: &mut impl Read) -> io::Result<()> {
+// Reads what was put into a pipe.
+fn check_piped(rt: &impl Abort, reader: &mut impl Read) -> io::Result<()> {
     let mut got = [0u8; 8];
     check_same(rt, &reader.read(&mut got)?, &5, "the length");
     check_bytes(rt, &got[..5], b"piped", "the pipe");
-    check(rt, !fs::metadata(rt, "/dev/null")?.is_file(), "no file");
     Ok(())
 }
 
-// Puts into the pipe of this number, and into nothing.
+// Puts into the pipe of this number.
 fn put_into_pipe(
     rt: &impl Abort,
     alloc: Global,
     desk: &mut impl Desk,
     number: i32,
-) -> Result<(), Fail> {
-    check_puts(rt, desk, &[("/dev/null", b"gone", Ok(()))]);
+) -> Result<(), AllocError> {
     let name = format!(in alloc; "/proc/self/fd/{number}")?;
     check_puts(rt, desk, &[(&name, b"piped", Ok(()))]);
+    Ok(())
+}
+
+// Puts into nothing.
+fn put_into_null(rt: &(impl Files + AllocGlobal + Abort), desk: &mut impl Desk) -> io::Result<()> {
+    check_puts(rt, desk, &[("/dev/null", b"gone", Ok(()))]);
+    check(rt, !fs::metadata(rt, "/dev/null")?.is_file(), "no file");
+    Ok(())
+}
+
+// Puts into a pipe, which is read, and into nothing.
+fn put_into_both(
+    rt: &(impl Files + AllocGlobal + Abort),
+    desk: &mut impl Desk,
+    reader: &mut impl Read,
+    number: i32,
+) -> Result<(), Fail> {
+    put_into_pipe(rt, rt.alloc(), desk, number)?;
+    check_piped(rt, reader)?;
+    put_into_null(rt, desk)?;
     Ok(())
 }
 
@@ -300,9 +321,7 @@ fn put_into_pipe(
 fn file_desk_writes_a_pipe_as_it_is(rt: HostRuntime) -> Result<(), Fail> {
     let (mut reader, writer) = io::pipe(&rt)?;
     let number = writer.as_raw_fd();
-    put_into_pipe(&rt, rt.alloc(), &mut FileDesk::new(&rt), number)?;
-    check_piped(&rt, &mut reader)?;
-    Ok(())
+    put_into_both(&rt, &mut FileDesk::new(&rt), &mut reader, number)
 }
 
 // Bytes of a piece.
@@ -424,12 +443,10 @@ fn check_end(
     fs::remove_dir_all(rt, folder)
 }
 
-// The parts of a file but for the last.
-static PARTS: [&[u8]; 3] = [b"", b"new ", b"by"];
-
 // Puts a file in parts.
 fn put_new_bytes(rt: &impl Abort, desk: &mut impl Desk, name: &str) {
-    let put = put_in_parts(desk, name, &PARTS, &mut whole(b"tes"));
+    let parts = [b"".as_slice(), b"new ".as_slice(), b"by".as_slice()];
+    let put = put_in_parts(desk, name, &parts, &mut whole(b"tes"));
     check_same(rt, &put, &Some(Ok(())), name);
 }
 
@@ -450,25 +467,35 @@ fn file_desk_puts_files_that_it_began(rt: HostRuntime) -> Result<(), Fail> {
     make_whole_test(&rt)?;
     put_begun_files(&rt, &mut FileDesk::new(&rt))?;
     check_left(&rt)?;
+    fs::remove_dir_all(&rt, "whole_test")?;
     Ok(())
 }
 
 // Names for which no file is begun: those of a fetched file, a link to nothing, a folder, what is no file, and a folder
 // that isn't there.
 static NOT_BEGUN: [&str; 7] = [
-    "whole_test/fetched",
-    "whole_test/to_fetched",
-    "whole_test/same_file",
-    "whole_test/to_nothing",
-    "whole_test",
+    "begin_test/fetched",
+    "begin_test/to_fetched",
+    "begin_test/same_file",
+    "begin_test/to_nothing",
+    "begin_test",
     "/dev/null",
-    "whole_test/absent/a",
+    "begin_test/absent/a",
 ];
 
+// A folder with a file, with links to it and to nothing.
+fn make_begin_test(rt: &HostRuntime) -> io::Result<()> {
+    empty_folder(rt, "begin_test")?;
+    fs::write(rt, "begin_test/fetched", "old")?;
+    symlink(rt, "fetched", "begin_test/to_fetched")?;
+    symlink(rt, "absent", "begin_test/to_nothing")?;
+    fs::hard_link(rt, "begin_test/fetched", "begin_test/same_file")
+}
+
 // Begins no file after a fetch of one of them.
-fn begin_none(rt: &impl Abort, alloc: Global, desk: &mut impl Desk) -> Result<(), Fail> {
-    check_held(rt, alloc, desk, ("whole_test/fetched", 3), b"old")?;
-    for name in NOT_BEGUN.iter() {
+fn begin_none(rt: &impl Abort, alloc: Global, desk: &mut impl Desk) -> Result<(), FetchError> {
+    let _ = desk.fetch(alloc, "begin_test/fetched", 3)?;
+    for name in NOT_BEGUN {
         let put = put_in_parts(desk, name, &[], &mut whole(b"new"));
         check_same(rt, &put, &None, name);
     }
@@ -477,9 +504,11 @@ fn begin_none(rt: &impl Abort, alloc: Global, desk: &mut impl Desk) -> Result<()
 
 #[test]
 fn file_desk_begins_no_file_where_a_put_makes_none(rt: HostRuntime) -> Result<(), Fail> {
-    make_whole_test(&rt)?;
+    make_begin_test(&rt)?;
     begin_none(&rt, rt.alloc(), &mut FileDesk::new(&rt))?;
-    check_end(&rt, ("whole_test", "whole_test/fetched"), b"old", 6)?;
+    let place = ("begin_test", "begin_test/fetched");
+    check_file(&rt, place, b"old", 4)?;
+    fs::remove_dir_all(&rt, "begin_test")?;
     Ok(())
 }
 
@@ -541,9 +570,6 @@ fn file_desk_keeps_a_file_where_pieces_fail_or_one_is_let_go(rt: HostRuntime) ->
     Ok(())
 }
 
-// The parts of a file but for the last.
-static TWO_PARTS: [&[u8]; 2] = [b"n", b"e"];
-
 // Files that a desk in memory begins, each with its last part, and what their name holds after the put.
 static BEGUN: [(&[u8], Result<(), DeskError>, &[u8]); 3] = [
     (b"w", Ok(()), b"new"),
@@ -554,7 +580,8 @@ static BEGUN: [(&[u8], Result<(), DeskError>, &[u8]); 3] = [
 // Puts the listed files.
 fn put_begun_in_memory(rt: &impl Abort, desk: &mut MemoryDesk) {
     for (last, put, held) in BEGUN.iter() {
-        let done = put_in_parts(desk, "a", &TWO_PARTS, &mut whole(last));
+        let parts = [b"n".as_slice(), b"e".as_slice()];
+        let done = put_in_parts(desk, "a", &parts, &mut whole(last));
         check_same(rt, &done, &Some(*put), "the put");
         let gone = let_go(desk, "a", &mut whole(b"gone"));
         check_same(rt, &gone, &Some(Ok(())), "let go");

@@ -137,35 +137,19 @@ static BURST: [(&str, bool); 10] = [
     ("01:1", false),
 ];
 
-// The lanes by their kinds.
-enum LaneKind {
-    Clear,
-    Rules,
-    Seeded,
-    Every,
-    Burst,
-}
-
-// Whether a new lane takes an argument.
-fn new_takes(alloc: Global, lane: &LaneKind, arg: &str) -> Result<bool, LaneError> {
-    match lane {
-        LaneKind::Clear => takes(alloc, &mut Clear::new(), arg),
-        LaneKind::Rules => takes(alloc, &mut Rules::new(), arg),
-        LaneKind::Seeded => takes(alloc, &mut Seeded::new(), arg),
-        LaneKind::Every => takes(alloc, &mut EveryNth::new(), arg),
-        LaneKind::Burst => takes(alloc, &mut Burst::new(), arg),
-    }
-}
-
 // Looks for whether a new lane takes each argument.
-fn check_args(
+fn check_args<L: Lane, F: Fn() -> L>(
     rt: &impl Abort,
     alloc: Global,
-    lane: &LaneKind,
+    lane: &str,
+    new: F,
     args: &[(&str, bool)],
-) -> Result<(), Fail> {
+) -> Result<(), Fail>
+    requires { F.IsAlwaysCallable new }
+{
     for (arg, fits) in args {
-        check_same(rt, &new_takes(alloc, lane, arg)?, fits, arg);
+        let takes = takes(alloc, &mut new(), arg)?;
+        check_same(rt, &(lane, takes), &(lane, *fits), arg);
     }
     Ok(())
 }
@@ -177,7 +161,7 @@ static MOST_RULES: [(usize, bool); 2] = [(64, true), (65, false)];
 fn check_most_rules(rt: &impl Abort, alloc: Global) -> Result<(), Fail> {
     for (count, fits) in MOST_RULES.iter() {
         let arg = many_rules(alloc, *count)?;
-        check_args(rt, alloc, &LaneKind::Rules, &[(&arg, *fits)])?;
+        check_args(rt, alloc, "rules", Rules::new, &[(&arg, *fits)])?;
     }
     Ok(())
 }
@@ -212,13 +196,14 @@ fn check_texts(rt: &impl Abort, alloc: Global) {
 #[test]
 fn arguments_by_form(rt: HostRuntime) -> Result<(), Fail> {
     let alloc = rt.alloc();
+    check_args(&rt, alloc, "clear", Clear::new, &CLEAR)?;
+    check_args(&rt, alloc, "rules", Rules::new, &RULES)?;
+    check_most_rules(&rt, alloc)?;
+    check_args(&rt, alloc, "seeded", Seeded::new, &SEEDED)?;
+    check_args(&rt, alloc, "every", EveryNth::new, &EVERY)?;
+    check_args(&rt, alloc, "burst", Burst::new, &BURST)?;
     check_texts(&rt, alloc);
-    check_args(&rt, alloc, &LaneKind::Clear, &CLEAR)?;
-    check_args(&rt, alloc, &LaneKind::Rules, &RULES)?;
-    check_args(&rt, alloc, &LaneKind::Seeded, &SEEDED)?;
-    check_args(&rt, alloc, &LaneKind::Every, &EVERY)?;
-    check_args(&rt, alloc, &LaneKind::Burst, &BURST)?;
-    check_most_rules(&rt, alloc)
+    Ok(())
 }
 
 // Makes these posts.
@@ -260,7 +245,8 @@ fn lane_rows(alloc: Global, rows: &[(&str, &str, (u32, u32))]) -> Result<Vec<Lan
 fn check_posts(rt: &impl Abort, posts: &[Post], fates: &[&[u8]]) {
     check_same(rt, &posts.len(), &fates.len(), "the posts");
     for (post, delays) in posts.iter().zip(fates) {
-        check_bytes(rt, post.fate.delays(), delays, "a post");
+        let came = (post.tag, post.fate.delays());
+        check_same(rt, &came, &(post.tag, *delays), "a post");
     }
 }
 
@@ -454,6 +440,17 @@ fn refusal(alloc: Global, rows: &[LaneRow]) -> Result<(u32, RackCause), Fail> {
     }
 }
 
+// Looks for this row and cause.
+fn check_refusal(
+    rt: &impl Abort,
+    came: (u32, RackCause),
+    refusal: (u32, RackCause),
+    name: &str,
+    arg: &str,
+) {
+    check_same(rt, &(name, came), &(name, refusal), arg);
+}
+
 // Names and arguments of row 12, each with the cause for which it is refused.
 static REFUSED: [(&str, &str, RackCause); 4] = [
     ("none", "3:1", RackCause::NoSuchLane),
@@ -462,28 +459,17 @@ static REFUSED: [(&str, &str, RackCause); 4] = [
     ("burst", "3:0", RackCause::BadArgument),
 ];
 
-// Looks for row 12, with this name and argument, as the one that is refused.
-fn check_refused(
-    rt: &impl Abort,
-    alloc: Global,
-    name: &str,
-    arg: &str,
-    cause: RackCause,
-) -> Result<(), Fail> {
-    let around = [
-        ("every", "2:1", (0, 9)),
-        (name, arg, (0, 9)),
-        ("none", "", (0, 9)),
-    ];
-    let came = refusal(alloc, &lane_rows(alloc, &around)?)?;
-    check_same(rt, &came, &(12, cause), name);
-    Ok(())
-}
-
 #[test]
 fn rows_refused(rt: HostRuntime) -> Result<(), Fail> {
+    let alloc = rt.alloc();
     for (name, arg, cause) in REFUSED.iter() {
-        check_refused(&rt, rt.alloc(), name, arg, *cause)?;
+        let around = [
+            ("every", "2:1", (0, 9)),
+            (*name, *arg, (0, 9)),
+            ("none", "", (0, 9)),
+        ];
+        let rows = lane_rows(alloc, &around)?;
+        check_refusal(&rt, refusal(alloc, &rows)?, (12, *cause), name, arg);
     }
     Ok(())
 }
