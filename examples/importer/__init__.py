@@ -1,0 +1,1 @@
+"""What examples/import is made of."""
