@@ -17,7 +17,7 @@ import sys
 import tempfile
 import time
 from dataclasses import dataclass
-from typing import Dict, List
+from typing import Dict, List, Tuple
 
 TOP = os.path.dirname(os.path.dirname(os.path.abspath(__file__)))
 EXAMPLES = os.path.join(TOP, "examples")
@@ -25,6 +25,9 @@ sys.path.insert(0, EXAMPLES)
 sys.dont_write_bytecode = True
 
 from importer.command import main as import_pilot  # noqa: E402
+from importer.districts import Group, districts_of  # noqa: E402
+from importer.meters import Meter, Span  # noqa: E402
+from importer.times import Clock  # noqa: E402
 
 USUAL = ["readings.csv", "out", "--round", "30", "--group-size", "2"]
 BY_TABLE = ["readings.csv", "out", "--round", "30", "--groups", "groups.csv"]
@@ -117,8 +120,13 @@ REFUSED_LINES = [
     refused("no line", "", "readings.csv has no reading\n"),
     refused("two faults", "a,2012-10-12T05:00,x\na,noon,1\n",
             "readings.csv line 2: the reading 'x' is no number\nreadings.csv line 3: 'noon' is no time\n"),
+    refused("ten faults", "a,2012-10-12T05:00,x\n" * 10,
+            "".join(f"readings.csv line {line}: the reading 'x' is no number\n" for line in range(2, 12))),
     refused("eleven faults", "a,2012-10-12T05:00,x\n" * 11,
             "".join(f"readings.csv line {line}: the reading 'x' is no number\n" for line in range(2, 12)) + "there are 11 faults\n"),
+    refused("a thousand faults", "a,2012-10-12T05:00,x\n" * 2000,
+            "".join(f"readings.csv line {line}: the reading 'x' is no number\n" for line in range(2, 12))
+            + "there are at least 1000 faults\n"),
     refused("a year that is wrong", "a,2012-10-12T05:00,1\nb,2012-10-12T05:00,1\nb,2112-10-12T05:00,1\n",
             "readings.csv reaches from 2012-10-12T05:00:00 (line 2) to 2112-10-12T05:00:00 (line 4), over more than 400000 rounds\n"),
     refused("a group of one", "a,2012-10-12T05:00,1\nb,2012-10-12T05:00,1\nc,2012-10-12T05:00,1\n",
@@ -200,7 +208,7 @@ def expect(what: str, found: object, wanted: object) -> None:
         raise Wrong(f"{what} is\n{found}\nin place of\n{wanted}")
 
 
-def run(words: List[str]) -> "tuple[int, str, str]":
+def run(words: List[str]) -> Tuple[int, str, str]:
     """The status of the importer on these words, and what it prints and complains of."""
     printed, told = io.StringIO(), io.StringIO()
     with contextlib.redirect_stdout(printed), contextlib.redirect_stderr(told):
@@ -212,12 +220,12 @@ def run(words: List[str]) -> "tuple[int, str, str]":
 
 
 def write(name: str, text: str) -> None:
-    with open(name, "w", encoding="utf-8", newline="") as file:
+    with open(name, "w", encoding="utf-8", errors="surrogateescape", newline="") as file:
         file.write(text)
 
 
 def read(name: str) -> str:
-    with open(name, encoding="utf-8", newline="") as file:
+    with open(name, encoding="utf-8", errors="surrogateescape", newline="") as file:
         return file.read()
 
 
@@ -314,6 +322,12 @@ MADE = [
          "meters=2 groups=1 rounds=2 readings=4 districts=1 first=2012-10-11T00:00:00+00:00 last=2012-10-12T00:00:00+00:00\n",
          {"readings.csv": "g1,0,1,3\ng1,1,2,4\n",
           "rounds.csv": "round,time\n0,2012-10-11T00:00:00+00:00\n1,2012-10-12T00:00:00+00:00\n"}),
+    Made("rounds of an hour, of a clock that is three quarters of an hour beside UTC, and names in other letters",
+         [*USUAL[:3], "60", *USUAL[4:]],
+         {"readings.csv": "meter,time,reading\n\udce9,2012-10-12T05:00+05:45,1\nK\u00f6ln,2012-10-12T05:00+05:45,2\n"
+                          "K\u00f6ln,2012-10-12T06:00+05:45,3\n"},
+         "meters=2 groups=1 rounds=2 readings=3 districts=1 first=2012-10-12T05:00:00+05:45 last=2012-10-12T06:00:00+05:45\n",
+         {"readings.csv": "g1,0,2,1\ng1,1,3,\n", "meters.csv": "group,number,meter\ng1,0,K\u00f6ln\ng1,1,\udce9\n"}),
     Made("dates alone, and a part of the table", [*USUAL[:3], "1440", *USUAL[4:], "--from", "2012-10-12", "--until", "2012-10-14"],
          {"readings.csv": "meter,time,reading\n" + "".join(f"{m},2012-10-{d},{d}\n" for m in "ab" for d in range(10, 20))},
          "meters=2 groups=1 rounds=2 readings=4 districts=1 first=2012-10-12T00:00:00 last=2012-10-13T00:00:00\n",
@@ -360,25 +374,30 @@ def table_of(meters: int, rounds: int) -> str:
     return "meter,time,reading\n" + "".join(f"m{m:03},{times[r]},{10 * m + r}\n" for m in range(meters) for r in range(rounds))
 
 
-def try_districts_by_groups() -> None:
-    """400 meters over 400 rounds are 160,000 readings: one plan has room for 131,072, which is five groups of 64."""
-    write("readings.csv", table_of(384, 400))
-    status, printed, told = run(["readings.csv", "out", "--round", "30", "--group-size", "64"])
-    expect("the status", (status, told), (0, ""))
-    expect("what is said", printed, "meters=384 groups=6 rounds=400 readings=153600 districts=2"
-                                    " first=2012-10-12T00:00:00 last=2012-10-20T07:30:00\n")
-    expect("the files", sorted(os.listdir("out")), ["d1", "d2", "meters.csv", "rounds.csv"])
-    plans = [read(f"out/{name}/plan.csv") for name in ("d1", "d2")]
-    expect("the groups", [re.findall("^group,.*$", plan, re.MULTILINE) for plan in plans],
-           [[f"group,g{n},64,32" for n in range(1, 6)], ["group,g6,64,32"]])
-    expect("the last row of d2", read("out/d2/readings.csv").splitlines()[-1],
-           "g6,399," + ",".join(str(10 * m + 399) for m in range(320, 384)))
-    expect("the meters", read("out/meters.csv").splitlines()[::383], ["district,group,number,meter", "d2,g6,62,m382"])
-    expect("the rounds", read("out/rounds.csv").splitlines()[::400],
-           ["district,round,time", "d1,399,2012-10-20T07:30:00", "d2,399,2012-10-20T07:30:00"])
+# How many groups of how many meters over how many rounds, and the groups and rounds of each district.
+DISTRICTS = [
+    ((256, 2, 1), [(256, 1)]),
+    ((257, 2, 1), [(256, 1), (1, 1)]),
+    ((32, 256, 1), [(32, 1)]),
+    ((33, 256, 1), [(32, 1), (1, 1)]),
+    ((1, 2, 4096), [(1, 4096)]),
+    ((1, 2, 4097), [(1, 2048), (1, 2049)]),
+    ((1, 256, 512), [(1, 512)]),
+    ((2, 256, 513), [(2, 256), (1, 257), (1, 257)]),
+    ((2, 32, 2048), [(2, 2048)]),
+    ((2, 32, 2049), [(1, 2049), (1, 2049)]),
+]
 
 
-def try_districts_by_time() -> None:
+def try_districts(counts: Tuple[int, int, int], wanted: List[Tuple[int, int]]) -> None:
+    groups, meters, rounds = counts
+    meter = Meter("m", joins=0)
+    whole = Span(0, rounds)
+    districts = districts_of([Group(f"g{number}", 2, [meter] * meters) for number in range(groups)], whole, Clock(30, None))
+    expect("the districts", [(len(district.groups), len(district.span)) for district in districts], wanted)
+
+
+def try_files_of_districts() -> None:
     """256 meters of one group over 600 rounds take two periods. In the second one two meters have left, and have no number there;
     another group is below its floor there, so it is left out."""
     lines = table_of(258, 600).splitlines(keepends=True)
@@ -400,6 +419,9 @@ def try_districts_by_time() -> None:
            "east,0," + ",".join(str(10 * m + 300) for m in range(255) if m != 1))
     expect("the second meter of d2", read("out/d2/meters.csv").splitlines()[2], "east,1,m002")
     expect("the first round of d2", read("out/d2/rounds.csv").splitlines()[1], "0,2012-10-18T06:00:00")
+    expect("the meters of all", read("out/meters.csv").splitlines()[::257], ["district,group,number,meter", "d1,west,0,m256"])
+    expect("the rounds of all", read("out/rounds.csv").splitlines()[::300],
+           ["district,round,time", "d1,299,2012-10-18T05:30:00", "d2,299,2012-10-24T11:30:00"])
 
 
 def try_folder_there() -> None:
@@ -515,8 +537,9 @@ def all_cases(words: List[str]):
         yield " ".join(words_of_case), try_wrong_words, (words_of_case, told)
     for made in MADE:
         yield made.name, try_made, (made,)
-    yield "districts by groups", try_districts_by_groups, ()
-    yield "districts by time", try_districts_by_time, ()
+    for counts, wanted in DISTRICTS:
+        yield "districts of %s groups, %s meters, %s rounds" % counts, try_districts, (counts, wanted)
+    yield "the files of districts", try_files_of_districts, ()
     yield "a folder that is there", try_folder_there, ()
     for name, *rest in JOINED:
         yield name, try_joined, rest
