@@ -187,7 +187,8 @@ def main(arguments: Optional[List[str]] = None) -> int:
 
 def run() -> None:
     # A folder that isn't whole is removed before the end.
-    signal.signal(signal.SIGTERM, lambda *_: sys.exit(143))
+    for number in (signal.SIGTERM, signal.SIGHUP):
+        signal.signal(number, lambda number, _: sys.exit(128 + number))
     try:
         sys.exit(main())
     except KeyboardInterrupt:
