@@ -77,7 +77,7 @@ REFUSED_LINES = [
     refused("2^40 watt-hours in kilowatt-hours", "a,2012-10-12T05:00,1099511627.776\n",
             "readings.csv line 2: the reading 1099511627.776 is too large: it has to be below 2^40 watt-hours\n", KWH),
     refused("a long number", f"a,2012-10-12T05:00,{'9' * 5000}\n",
-            f"readings.csv line 2: the reading {'9' * 60}... is too large: it has to be below 2^40 watt-hours\n"),
+            f"readings.csv line 2: the reading {'9' * 200}... is too large: it has to be below 2^40 watt-hours\n"),
     refused("ten minutes past", "a,2012-10-12T05:10,1\n",
             "readings.csv line 2: the time 2012-10-12T05:10 isn't on the edge of a round of 30 minutes\n"),
     refused("a second past", "a,2012-10-12T05:00,1\na,2012-10-12 05:30:01,1\n",
@@ -109,9 +109,9 @@ REFUSED_LINES = [
             "readings.csv line 4: nobody has a reading in the hour before, from 2013-03-31T01:00:00 on."
             " If this day has 23 hours, the times need an offset; else say which offset all have, by --offset\n"),
     refused("no meter", ",2012-10-12T05:00,1\n", "readings.csv line 2: it has no meter\n"),
-    refused("too few fields", "a,2012-10-12T05:00\n", "readings.csv line 2: it has 2 fields, and the heading 3\n"),
-    refused("too many fields", "a,2012-10-12T05:00,1,\n", "readings.csv line 2: it has 4 fields, and the heading 3\n"),
-    refused("a decimal comma", "a,2012-10-12T05:00,0,143\n", "readings.csv line 2: it has 4 fields, and the heading 3\n", KWH),
+    refused("too few fields", "a,2012-10-12T05:00\n", "readings.csv line 2: it has another number of fields, 2, than the heading, 3\n"),
+    refused("too many fields", "a,2012-10-12T05:00,1,\n", "readings.csv line 2: it has another number of fields, 4, than the heading, 3\n"),
+    refused("a decimal comma", "a,2012-10-12T05:00,0,143\n", "readings.csv line 2: it has another number of fields, 4, than the heading, 3\n", KWH),
     refused("lines of different length are counted as lines", "\n\n\"a\n\",2012-10-12T05:00,1\n\nb,2012-10-12T05:00,x\n",
             "readings.csv line 7: the reading 'x' is no number\n"),
     refused("carriage returns alone", "a,2012-10-12T05:00,1\rb,2012-10-12T05:00,x\r", "readings.csv line 3: the reading 'x' is no number\n"),
@@ -284,7 +284,7 @@ MADE = [
           "rounds.csv": "round,time\n0,2012-10-12T05:00:00\n1,2012-10-12T05:15:00\n2,2012-10-12T05:30:00\n"}),
     Made("kilowatt-hours, exactly, with the columns of a trial, blanks, a byte order mark and carriage returns",
          ["readings.csv", "out", "--round", "30", "--group-size", "2", "--unit", "kwh", "--meter", "LCLid", "--time", "DateTime",
-          "--reading", "KWH/hh (per half hour)", "--absent", "Null"],
+          "--reading", "KWH/hh (per half hour) ", "--absent", "Null"],
          {"readings.csv": "\ufeffLCLid,stdorToU,DateTime,KWH/hh (per half hour) \r\n"
                           "MAC2,Std,2012-10-12 23:30:00.0000000, 0.143 \r\nMAC2,Std,2012-10-13 00:00:00.0000000, 1 \r\n"
                           "MAC3,ToU,2012-10-12 23:30:00.0000000, .5 \r\nMAC3,ToU,2012-10-13 00:00:00.0000000,1.2900000\r\n"

@@ -109,7 +109,8 @@ def add_link_words(parser: argparse.ArgumentParser) -> None:
 
 def words() -> argparse.ArgumentParser:
     parser = argparse.ArgumentParser(
-        prog="examples/import", description=DESCRIPTION, epilog=EPILOG, formatter_class=argparse.RawDescriptionHelpFormatter
+        prog="examples/import", description=DESCRIPTION, epilog=EPILOG, allow_abbrev=False,
+        formatter_class=argparse.RawDescriptionHelpFormatter,
     )
     parser.add_argument("readings", metavar="READINGS", help="the table of readings; its fields are parted by commas")
     parser.add_argument("folder", metavar="FOLDER", help="the folder to make; where it is there already, it has to be empty")

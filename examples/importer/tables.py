@@ -11,6 +11,9 @@ READING_BOUND = 2**40
 MOST_FAULTS = 1000
 FAULTS_SHOWN = 10
 
+# Of a text that a message shows, so many letters.
+MOST_SHOWN = 200
+
 NUMBERS = {
     "wh": re.compile(r"(-?)(\d+)(?:\.(0*))?", re.ASCII),
     "kwh": re.compile(r"(-?)(\d*)(?:\.(\d*))?", re.ASCII),
@@ -21,11 +24,11 @@ class Refused(Exception):
     """Nothing is made, for the reasons in these lines."""
 
 
-def shown(text: str, most: int = 60) -> str:
+def shown(text: str) -> str:
     """The text as it can stand in a line of a terminal, and not too long."""
-    data = text[:most].encode("utf-8", "surrogateescape").decode("utf-8", "backslashreplace")
+    data = text[:MOST_SHOWN].encode("utf-8", "surrogateescape").decode("utf-8", "backslashreplace")
     visible = "".join(char if char.isprintable() else char.encode("unicode_escape").decode() for char in data)
-    return visible if len(text) <= most else visible + "..."
+    return visible if len(text) <= MOST_SHOWN else visible + "..."
 
 
 def note(text: str) -> None:
@@ -73,10 +76,11 @@ def records(path: str, faults: Faults) -> Iterator[Tuple[int, List[str]]]:
 
 def place_of(column: str, heading: List[str]) -> int:
     """Where the heading has this column."""
+    column = column.strip()
     if heading.count(column) == 1:
         return heading.index(column)
     fault = "stands twice" if column in heading else "isn't there"
-    raise ValueError(f"the column '{shown(column)}' {fault}; the heading is {shown(', '.join(heading), 200)}")
+    raise ValueError(f"the column '{shown(column)}' {fault}; the heading is {shown(', '.join(heading))}")
 
 
 def columns_of(path: str, faults: Faults, columns: Sequence[str], others: Sequence[str] = ()) -> Iterator[Tuple[int, List[str]]]:
@@ -94,7 +98,7 @@ def columns_of(path: str, faults: Faults, columns: Sequence[str], others: Sequen
         return
     for line, record in lines:
         if len(record) != len(heading):
-            faults.add(line, f"it has {len(record)} fields, and the heading {len(heading)}")
+            faults.add(line, f"it has another number of fields, {len(record)}, than the heading, {len(heading)}")
         else:
             record.append("")
             yield line, [record[at].strip() for at in places]
