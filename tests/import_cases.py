@@ -351,6 +351,11 @@ MADE = [
           "readings.csv": "south,0,3,\nsouth,1,,2\nsouth,2,,\nnorth,0,,4\nnorth,1,5,\nnorth,2,,1\n",
           "meters.csv": "group,number,meter\nsouth,0,d\nsouth,1,c\nnorth,0,b\nnorth,1,a\n"},
          "import: meters without a reading, which are left out: 1, first e\n"),
+    Made("a floor of half the meters, rounded up", ["readings.csv", "out", "--round", "1", "--group-size", "5"],
+         {"readings.csv": "meter,time,reading\n" + "".join(f"m{n},2012-10-12,{n}\n" for n in range(5))},
+         "meters=5 groups=1 rounds=1 readings=5 districts=1 first=2012-10-12T00:00:00 last=2012-10-12T00:00:00\n",
+         {"plan.csv": "plan,1\nrounds,1\nwindows,2,4\ngroup,g1,5,3\n" + "".join(f"own,0,{i},?\n" for i in range(5))
+                      + "".join(f"pair,0,{i},{j},?\n" for i in range(5) for j in range(i + 1, 5))}),
     Made("groups as even as they can be", ["readings.csv", "out", "--round", "1", "--group-size", "4"],
          {"readings.csv": "meter,time,reading\n" + "".join(f"m{n},2012-10-12,{n}\n" for n in range(9))},
          "meters=9 groups=3 rounds=1 readings=9 districts=1 first=2012-10-12T00:00:00 last=2012-10-12T00:00:00\n",
