@@ -8,6 +8,7 @@ Expected lines and files were written by hand. One line is printed for each case
 The exit status is 0 where none does, and else 1.
 """
 import contextlib
+import errno
 import io
 import os
 import re
@@ -26,7 +27,9 @@ sys.dont_write_bytecode = True
 
 from importer.command import main as import_pilot  # noqa: E402
 from importer.districts import Group, districts_of  # noqa: E402
+from importer.files import make_folder  # noqa: E402
 from importer.meters import Meter, Span  # noqa: E402
+from importer.tables import Refused  # noqa: E402
 from importer.times import Clock  # noqa: E402
 
 USUAL = ["readings.csv", "out", "--round", "30", "--group-size", "2"]
@@ -394,6 +397,8 @@ DISTRICTS = [
     ((257, 2, 1), [(256, 1), (1, 1)]),
     ((32, 256, 1), [(32, 1)]),
     ((33, 256, 1), [(32, 1), (1, 1)]),
+    ((127, 129, 1), [(127, 1)]),
+    ((128, 129, 1), [(127, 1), (1, 1)]),
     ((1, 2, 4096), [(1, 4096)]),
     ((1, 2, 4097), [(1, 2048), (1, 2049)]),
     ((1, 256, 512), [(1, 512)]),
@@ -450,6 +455,20 @@ def try_folder_there() -> None:
     expect("the status", run(USUAL)[0], 0)
     status, _, told = run(["readings.csv", "no/out", *USUAL[2:]])
     expect("what is told", (status, told), (1, "import: cannot write no/out: No such file or directory\nimport: nothing is written\n"))
+
+
+def try_half_folder() -> None:
+    """Where the disk is full half-way, nothing stays."""
+
+    def write_half(room: str) -> None:
+        write(os.path.join(room, "plan.csv"), "plan,1\n")
+        raise OSError(errno.ENOSPC, os.strerror(errno.ENOSPC))
+
+    try:
+        make_folder("out", write_half)
+    except Refused as refused:
+        expect("what is told", refused.args, ("cannot write out: No space left on device",))
+    expect("what lies in the folder", os.listdir(), [])
 
 
 # Reports
@@ -559,6 +578,7 @@ def all_cases(words: List[str]):
         yield "districts of %s groups, %s meters, %s rounds" % counts, try_districts, (counts, wanted)
     yield "the files of districts", try_files_of_districts, ()
     yield "a folder that is there", try_folder_there, ()
+    yield "half a folder", try_half_folder, ()
     for name, *rest in JOINED:
         yield name, try_joined, rest
     for name, *rest in REFUSED_REPORTS:
