@@ -15,6 +15,7 @@ use Rattle.pair_keys.specs.Ids.{same_id}
 use Rattle.pair_keys.specs.declared.KeyId.{KeyId}
 use Rattle.plan_files.specs.MissingKeys.{group_keys, plan_keys}
 use Rattle.plan_files.specs.PlainRows.{file_text, row_text}
+use Rattle.plan_files.specs.declared.form.PlanForm.TheVariants.{Whole}
 use Rattle.plan_files.specs.Spelling.{all_spans, first_rows, group_fields, is_partial, key_fields, key_rows, lane_fields, member_fields, partial_spans, plan_rows, plan_text, span_at}
 use Rattle.plan_files.proofs.DistinctLemmas.{Distinct, all_flat, all_map}
 use Rattle.plan_files.proofs.KeyOrder.{keys_distinct}
@@ -26,7 +27,7 @@ use Rattle.load_maker.proofs.MadeReadings.{group_at, group_count, made_rounds, m
 
 -- ---- the first rows
 
-pub first_is : (groups meters rounds : ℕ) → file_text (first_rows (made_plan groups meters rounds)) ≡ start_text rounds
+pub first_is : (groups meters rounds : ℕ) → file_text (first_rows Whole (made_plan groups meters rounds)) ≡ start_text rounds
 unfolding made_plan
 first_is groups meters rounds = joined (decimal rounds)
   where
@@ -170,7 +171,7 @@ pub plan_written : (seed groups meters rounds : ℕ) → 1 ≤ rounds
 unfolding plan_rows made_file
 plan_written seed groups meters rounds some =
     let plan = made_plan groups meters rounds in
-    let F = first_rows plan in
+    let F = first_rows Whole plan in
     let G = map group_fields plan.groups in
     let K = key_rows plan (made_keys seed plan) in
     let L = map lane_fields (made_lane seed plan ∷ []) in

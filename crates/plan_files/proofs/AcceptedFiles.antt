@@ -29,7 +29,7 @@ use Rattle.plan_files.specs.AcceptedFiles.{AcceptedPlansAreWhole, AcceptedReadin
 use Rattle.plan_files.specs.Faults.{◌>>=◌, at_row, in_row, plan_cause, unless}
 use Rattle.plan_files.specs.Gathering.{Gathered, gather, nothing, settled, settled_by, spans_of}
 use Rattle.plan_files.specs.MissingKeys.{first_missing, plan_keys}
-use Rattle.plan_files.specs.PlanFiles.{PlanFileView, completed, plan_from, plan_of, stated_plan, unless_missing, with_entries}
+use Rattle.plan_files.specs.PlanFiles.{Opened, PlanFileView, completed, opened_from, plan_from, plan_of, stated_plan, unless_missing, with_entries}
 use Rattle.plan_files.specs.PlanForms.{entries_from, groups_from, head_of}
 use Rattle.plan_files.specs.PlanRows.{group_row, has_fields, name_in, number_in, starts_with, text}
 use Rattle.plan_files.specs.Readings.{reading_at, reading_in, reading_of, reading_or_none, readings_by, readings_of, rows_fault, within_range}
@@ -38,6 +38,7 @@ use Rattle.plan_files.specs.declared.entry.Entry.{Entry}
 use Rattle.plan_files.specs.declared.fault.FileCause.{FileCause}
 use Rattle.plan_files.specs.declared.fault.FileCause.TheVariants as cause
 use Rattle.plan_files.specs.declared.fault.FileError.{FileError}
+use Rattle.plan_files.specs.declared.form.PlanForm.TheVariants.{Whole}
 use Rattle.plan_files.specs.declared.head.Head.{Head}
 use Rattle.plan_files.proofs.GatherLemmas.{gather_keeps}
 use Rattle.plan_files.proofs.KeyOrder.{keys_all}
@@ -271,25 +272,33 @@ none_is_missing : (missing : Option KeyId) (gathered : Gathered) (file : PlanFil
 none_is_missing None gathered file h = (refl, let e : said gathered ≡ file = cc in e)
 none_is_missing (Some which) gathered file h = absurd cc
 
+same_ok : (one other : Opened) (r : Result Opened FileError) → r ≡ Ok one → r ≡ Ok other → one ≡ other
+same_ok one other r first second = cc
+
 pub accepted_plans : AcceptedPlansAreWhole
-unfolding plan_of plan_from stated_plan with_entries
+unfolding plan_of plan_from opened_from stated_plan with_entries
 accepted_plans bytes file is =
     let rows = file_rows bytes in
-    let last : Head → List GroupPlan → List Entry → Result PlanFileView FileError = λ head groups entries. stated_plan head groups >>= (λ plan. with_entries plan (4 + length groups) entries) in
-    let third : Head → List GroupPlan → Result PlanFileView FileError = λ head groups. entries_from (4 + length groups) (drop (3 + length groups) rows) >>= last head groups in
-    let second : Head → Result PlanFileView FileError = λ head. groups_from 4 (drop 3 rows) >>= third head in
-    let a = went_well (head_of rows) second file is in
-    let b = went_well (groups_from 4 (drop 3 rows)) (third a.0) file a.2 in
-    let d = went_well (entries_from (4 + length b.0) (drop (3 + length b.0) rows)) (last a.0 b.0) file b.2 in
+    let opened : PlanView → List GroupPlan → List Entry → Opened = λ plan groups entries. record { plan = plan; first = 4 + length groups; entries = entries } in
+    let filled : Opened → Result PlanFileView FileError = λ o. with_entries o.plan o.first o.entries in
+    let last : Head → List GroupPlan → List Entry → Result Opened FileError = λ head groups entries. stated_plan head groups >>= (λ plan. Ok (opened plan groups entries)) in
+    let third : Head → List GroupPlan → Result Opened FileError = λ head groups. entries_from Whole (4 + length groups) (drop (3 + length groups) rows) >>= last head groups in
+    let second : Head → Result Opened FileError = λ head. groups_from 4 (drop 3 rows) >>= third head in
+    let o = went_well (opened_from Whole rows) filled file is in
+    let a = went_well (head_of Whole rows) second o.0 o.1 in
+    let b = went_well (groups_from 4 (drop 3 rows)) (third a.0) o.0 a.2 in
+    let d = went_well (entries_from Whole (4 + length b.0) (drop (3 + length b.0) rows)) (last a.0 b.0) o.0 b.2 in
     let rounds = a.0.rounds in
     let w1 = a.0.windows.reading in
     let w2 = a.0.windows.recovery in
-    let e = went_well (stated_plan a.0 b.0) (λ plan. with_entries plan (4 + length b.0) d.0) file d.2 in
+    let e = went_well (stated_plan a.0 b.0) (λ plan. Ok (opened plan b.0 d.0)) o.0 d.2 in
+    let same : opened e.0 b.0 d.0 ≡ o.0 = same_ok (opened e.0 b.0 d.0) o.0 (Ok (opened e.0 b.0 d.0)) refl e.2 in
+    let read : with_entries e.0 (4 + length b.0) d.0 ≡ Ok file = ap filled same ∙ o.2 in
     let stated = stated_well (first_fault b.0 rounds w1 w2) (new.plan_of b.0 rounds w1 w2) e.0 e.1 in
     let spans = spans_of d.0 in
     let plan = settled e.0 spans in
     let fault = span_fault e.0 spans in
-    let f = went_well (gather (last_tick plan) fault (4 + length b.0) (nothing plan) d.0) completed file e.2 in
+    let f = went_well (gather (last_tick plan) fault (4 + length b.0) (nothing plan) d.0) completed file read in
     let g = none_is_missing (first_missing f.0.keys) f.0 file f.2 in
     let kept : f.0.keys.plan ≡ plan = gather_keeps (last_tick plan) fault (4 + length b.0) (nothing plan) f.0 d.0 f.1 in
     let fits : IsWithinLimits (settled (new.plan_of b.0 rounds w1 w2) spans) = within b.0 rounds w1 w2 spans stated.0 (groups_named 4 (drop 3 rows) b.0 b.1) in

@@ -11,11 +11,12 @@ use Rattle.link_lanes.specs.declared.row.ArgError.{ArgError}
 use Rattle.link_lanes.specs.declared.row.ArgError.TheVariants.{Byte, Memory}
 use Rattle.plan_files.specs.Faults.{◌>>=◌, ButMemory, at_row, in_row}
 use Rattle.plan_files.specs.PlanForms.{entries_from, first_due, groups_from, head_of, row_due}
-use Rattle.plan_files.specs.PlanRows.{entry_of, group_row, plan_row, rounds_row, starts_with, windows_row}
+use Rattle.plan_files.specs.PlanRows.{entry_of, group_row, rounds_row, starts_with, version_row, windows_row}
 use Rattle.plan_files.specs.declared.entry.Entry.{Entry}
 use Rattle.plan_files.specs.declared.fault.FileCause.{FileCause}
 use Rattle.plan_files.specs.declared.fault.FileCause.TheVariants as cause
 use Rattle.plan_files.specs.declared.fault.FileError.{FileError}
+use Rattle.plan_files.specs.declared.form.PlanForm.{PlanForm}
 use Rattle.plan_files.specs.declared.head.Windows.{Windows}
 
 not_true : (b : Bool) → not b ≡ true → b ≡ false
@@ -64,9 +65,9 @@ due_at : {A : Type 0} (form : List (List ℕ) → Result A FileCause) (rows : Li
     → (if nat_lt place (length rows) then at_row n (form (get_or rows place [])) else Err (in_row n cause.Short)) ≡ first_due form n (drop place rows)
 due_at form rows place n = due_by form (nat_lt place (length rows)) rows place n (ltb-true place (length rows)) (not_there place (length rows))
 
-first_row : (rows : List (List (List ℕ))) → row_due plan_row rows 0 ≡ first_due plan_row 1 rows
+first_row : (form : PlanForm) (rows : List (List (List ℕ))) → row_due (version_row form) rows 0 ≡ first_due (version_row form) 1 rows
 unfolding row_due
-first_row rows = due_at plan_row rows 0 1
+first_row form rows = due_at (version_row form) rows 0 1
 
 second_row : (rows second : List (List (List ℕ))) → second ≡ drop 1 rows → row_due rounds_row rows 1 ≡ first_due rounds_row 2 second
 unfolding row_due
@@ -77,25 +78,25 @@ unfolding row_due
 third_row rows second third is next =
     due_at windows_row rows 2 3 ∙ ap (first_due windows_row 3) (sym (next ∙ ap (drop 1) is ∙ drop-drop 1 1 rows))
 
-pub no_version : (rows : List (List (List ℕ))) (error : FileError) → first_due plan_row 1 rows ≡ Err error → head_of rows ≡ Err error
+pub no_version : (form : PlanForm) (rows : List (List (List ℕ))) (error : FileError) → first_due (version_row form) 1 rows ≡ Err error → head_of form rows ≡ Err error
 unfolding head_of
-no_version rows error wrong = rw (first_row rows, wrong) refl
+no_version form rows error wrong = rw (first_row form rows, wrong) refl
 
-pub no_rounds : (rows second : List (List (List ℕ))) (error : FileError) → first_due plan_row 1 rows ≡ Ok tt → second ≡ drop 1 rows
-    → first_due rounds_row 2 second ≡ Err error → head_of rows ≡ Err error
+pub no_rounds : (form : PlanForm) (rows second : List (List (List ℕ))) (error : FileError) → first_due (version_row form) 1 rows ≡ Ok tt → second ≡ drop 1 rows
+    → first_due rounds_row 2 second ≡ Err error → head_of form rows ≡ Err error
 unfolding head_of
-no_rounds rows second error version is wrong = rw (first_row rows, version, second_row rows second is, wrong) refl
+no_rounds form rows second error version is wrong = rw (first_row form rows, version, second_row rows second is, wrong) refl
 
-pub no_windows : (rows second third : List (List (List ℕ))) (rounds : ℕ) (error : FileError) → first_due plan_row 1 rows ≡ Ok tt → second ≡ drop 1 rows
-    → first_due rounds_row 2 second ≡ Ok rounds → third ≡ drop 1 second → first_due windows_row 3 third ≡ Err error → head_of rows ≡ Err error
+pub no_windows : (form : PlanForm) (rows second third : List (List (List ℕ))) (rounds : ℕ) (error : FileError) → first_due (version_row form) 1 rows ≡ Ok tt → second ≡ drop 1 rows
+    → first_due rounds_row 2 second ≡ Ok rounds → third ≡ drop 1 second → first_due windows_row 3 third ≡ Err error → head_of form rows ≡ Err error
 unfolding head_of
-no_windows rows second third rounds error version is read next wrong = rw (first_row rows, version, second_row rows second is, read, third_row rows second third is next, wrong) refl
+no_windows form rows second third rounds error version is read next wrong = rw (first_row form rows, version, second_row rows second is, read, third_row rows second third is next, wrong) refl
 
-pub whole_head : (rows second third : List (List (List ℕ))) (rounds : ℕ) (windows : Windows) → first_due plan_row 1 rows ≡ Ok tt → second ≡ drop 1 rows
+pub whole_head : (form : PlanForm) (rows second third : List (List (List ℕ))) (rounds : ℕ) (windows : Windows) → first_due (version_row form) 1 rows ≡ Ok tt → second ≡ drop 1 rows
     → first_due rounds_row 2 second ≡ Ok rounds → third ≡ drop 1 second → first_due windows_row 3 third ≡ Ok windows
-    → head_of rows ≡ Ok (record { rounds = rounds; windows = windows })
+    → head_of form rows ≡ Ok (record { rounds = rounds; windows = windows })
 unfolding head_of
-whole_head rows second third rounds windows version is read next given = rw (first_row rows, version, second_row rows second is, read, third_row rows second third is next, given) refl
+whole_head form rows second third rounds windows version is read next given = rw (first_row form rows, version, second_row rows second is, read, third_row rows second third is next, given) refl
 
 -- ---- groups
 
@@ -121,19 +122,19 @@ groups_end rows n groups none = rw none (after_none groups)
 
 -- ---- the rows after the groups
 
-pub entries_more : (rows rest : List (List (List ℕ))) (n : ℕ) (row : List (List ℕ)) (entries : List Entry) (entry : Entry) → rows ≡ row ∷ rest
-    → entry_of n row ≡ Ok entry → after entries (entries_from n rows) ≡ after (entries ++ entry ∷ []) (entries_from (n + 1) rest)
+pub entries_more : (form : PlanForm) (rows rest : List (List (List ℕ))) (n : ℕ) (row : List (List ℕ)) (entries : List Entry) (entry : Entry) → rows ≡ row ∷ rest
+    → entry_of form n row ≡ Ok entry → after entries (entries_from form n rows) ≡ after (entries ++ entry ∷ []) (entries_from form (n + 1) rest)
 unfolding entries_from
-entries_more rows rest n row entries entry is read = rw (is, read) (after_one entries entry (entries_from (n + 1) rest))
+entries_more form rows rest n row entries entry is read = rw (is, read) (after_one entries entry (entries_from form (n + 1) rest))
 
-pub entries_fault : (rows rest : List (List (List ℕ))) (n : ℕ) (row : List (List ℕ)) (entries : List Entry) (what : FileCause) → rows ≡ row ∷ rest
-    → entry_of n row ≡ Err what → after entries (entries_from n rows) ≡ Err (in_row n what)
+pub entries_fault : (form : PlanForm) (rows rest : List (List (List ℕ))) (n : ℕ) (row : List (List ℕ)) (entries : List Entry) (what : FileCause) → rows ≡ row ∷ rest
+    → entry_of form n row ≡ Err what → after entries (entries_from form n rows) ≡ Err (in_row n what)
 unfolding entries_from
-entries_fault rows rest n row entries what is read = rw (is, read) refl
+entries_fault form rows rest n row entries what is read = rw (is, read) refl
 
-pub entries_end : (rows : List (List (List ℕ))) (n : ℕ) (entries : List Entry) → rows ≡ [] → after entries (entries_from n rows) ≡ Ok entries
+pub entries_end : (form : PlanForm) (rows : List (List (List ℕ))) (n : ℕ) (entries : List Entry) → rows ≡ [] → after entries (entries_from form n rows) ≡ Ok entries
 unfolding entries_from
-entries_end rows n entries none = rw none (after_none entries)
+entries_end form rows n entries none = rw none (after_none entries)
 
 -- ---- want of memory
 

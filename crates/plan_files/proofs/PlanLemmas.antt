@@ -1,22 +1,27 @@
 -- The steps of the reading of a plan file.
-use Rattle.std.proofs.Common.{◌≡◌, ℕ, List, Option, None, Result, Ok, Err, refl, sym, ap, subst, ◌∙◌, ◌+◌, length, drop}
+use Rattle.std.proofs.Common.{◌≡◌, ℕ, suc, ◌<◌, ◌≤◌, Bool, true, false, not, if◌then◌else◌, List, [], ◌∷◌, ◌++◌, Option, None, Some, Result, Ok, Err, refl, sym, ap, subst, ◌∙◌, ◌+◌, length, length-append, drop, arith}
 use Rattle.group_plan.specs.NewPlans.{MakesPlan}
 use Rattle.group_plan.specs.Plans.{PlanView, last_tick}
-use Rattle.group_plan.specs.Spans.{span_fault}
+use Rattle.std.specs.List.{list_any}
+use Rattle.group_plan.specs.Spans.{is_in_plan, is_of, span_fault, span_fault_from, with_spans}
 use Rattle.group_plan.specs.declared.plan.GroupPlan.{GroupPlan}
 use Rattle.group_plan.specs.declared.plan.PlanError.{PlanError}
 use Rattle.group_plan.specs.declared.plan.PlanError.TheVariants as of_plan
 use Rattle.group_plan.specs.declared.plan.members.Span.{Span}
 use Rattle.group_plan.specs.declared.plan.members.SpanError.{SpanError}
+use Rattle.group_plan.specs.declared.plan.members.SpanError.TheVariants as of_span
 use Rattle.pair_keys.specs.Keys.{Keys}
 use Rattle.plan_files.specs.Faults.{◌>>=◌, ButMemory, in_row, plan_cause}
 use Rattle.plan_files.proofs.FormLemmas.{but_memory}
-use Rattle.plan_files.specs.Gathering.{Gathered, Settles, gather, nothing, settled, spans_of}
+use Rattle.plan_files.specs.Gathering.{Gathered, Settles, gather, nothing, settled, settled_by, spans_of}
 use Rattle.plan_files.specs.MissingKeys.{first_missing}
-use Rattle.plan_files.specs.PlanFiles.{PlanEnds, PlanFileView, completed, filled_in, plan_from, stated_plan, with_entries}
+use Rattle.plan_files.specs.PlanFiles.{Opened, PlanEnds, PlanFileView, completed, filled_in, opened_from, place_of, stated_plan, with_entries, with_members}
 use Rattle.plan_files.specs.PlanForms.{entries_from, groups_from, head_of}
 use Rattle.plan_files.specs.declared.entry.Entry.{Entry}
+use Rattle.plan_files.specs.declared.entry.Entry.TheVariants as entry
+use Rattle.plan_files.specs.declared.fault.FileCause.TheVariants as cause
 use Rattle.plan_files.specs.declared.fault.FileError.{FileError}
+use Rattle.plan_files.specs.declared.form.PlanForm.{PlanForm}
 use Rattle.plan_files.specs.declared.head.Head.{Head}
 
 pub stated : (head : Head) (groups : List GroupPlan) (plan : PlanView) → MakesPlan groups head.rounds head.windows.reading head.windows.recovery (Ok plan)
@@ -71,43 +76,82 @@ pub good_entries : (plan new : PlanView) (fault : Option SpanError) (n : ℕ) (e
     → gather (last_tick new) fault n (nothing new) entries ≡ Ok gathered → with_entries plan n entries ≡ completed gathered
 good_entries plan new fault n entries spans gathered is settles right = filled plan new fault n entries spans is settles ∙ rw right refl
 
+-- ---- the spans of a public plan
+
+-- a fault of spans is at the place of one of them
+pub fault_within : (plan : PlanView) (before spans : List Span) (e : SpanError) → span_fault_from plan before spans ≡ Some e → place_of e < length before + length spans
+unfolding span_fault_from
+fault_within plan before [] e is = absurd cc
+fault_within plan before (s ∷ ss) e is =
+    by_tests (is_in_plan plan s) (list_any (is_of s.group s.meter) before) (fault_within plan (before ++ s ∷ []) ss e) is
+  where
+    here : (f : SpanError) → place_of f ≡ length before → f ≡ e → place_of e < length before + suc (length ss)
+    here f at same = let h = sym (ap place_of same) ∙ at in omega (arith, h)
+
+    by_tests : (a b : Bool) → (span_fault_from plan (before ++ s ∷ []) ss ≡ Some e → place_of e < length (before ++ s ∷ []) + length ss)
+        → (if not a then Some (of_span.Range (length before)) else if b then Some (of_span.Twice (length before)) else span_fault_from plan (before ++ s ∷ []) ss) ≡ Some e
+        → place_of e < length before + suc (length ss)
+    by_tests false b later is = here (of_span.Range (length before)) refl cc
+    by_tests true true later is = here (of_span.Twice (length before)) refl cc
+    by_tests true false later is = let lt = later is in omega (arith, lt, length-append before (s ∷ []))
+
+pub few_spans : (entries : List Entry) → length (spans_of entries) ≤ length entries
+few_spans [] = omega arith
+few_spans (entry.Own g i key ∷ es) = let rest = few_spans es in omega (arith, rest)
+few_spans (entry.Pair g low high key ∷ es) = let rest = few_spans es in omega (arith, rest)
+few_spans (entry.Lane lane ∷ es) = let rest = few_spans es in omega (arith, rest)
+few_spans (entry.Member span ∷ es) = let rest = few_spans es in omega (arith, rest)
+
+pub members_settled : (plan new : PlanView) (n : ℕ) (spans : List Span) → Settles plan spans new None → with_members plan n spans ≡ Ok new
+unfolding with_members
+members_settled plan new n spans is =
+    let none : span_fault plan spans ≡ None = sym is.faulty in
+    let same : new ≡ with_spans plan spans = is.plan ∙ ap (settled_by plan spans) none in
+    rw none (ap Ok (sym same))
+
+pub members_refused : (plan new : PlanView) (n : ℕ) (spans : List Span) (e : SpanError) → Settles plan spans new (Some e)
+    → with_members plan n spans ≡ Err (in_row (n + place_of e) (cause.Member e))
+unfolding with_members
+members_refused plan new n spans e is = let some : span_fault plan spans ≡ Some e = sym is.faulty in rw some refl
+
 -- ---- the rows of a file
 
-pub bad_head : (rows : List (List (List ℕ))) (error : FileError) → ButMemory error.cause (head_of rows ≡ Err error) → ButMemory error.cause (plan_from rows ≡ Err error)
-unfolding plan_from
-bad_head rows error wrong = but_memory error.cause (λ (w : head_of rows ≡ Err error). rw w refl) wrong
+pub bad_head : (form : PlanForm) (rows : List (List (List ℕ))) (error : FileError) → ButMemory error.cause (head_of form rows ≡ Err error) → ButMemory error.cause (opened_from form rows ≡ Err error)
+unfolding opened_from
+bad_head form rows error wrong = but_memory error.cause (λ (w : head_of form rows ≡ Err error). rw w refl) wrong
 
 -- the first steps went well
-pub record IsBegun (rows : List (List (List ℕ))) (first : Head) (named : List GroupPlan) : Type 0 where
-  pub head : head_of rows ≡ Ok first
+pub record IsBegun (form : PlanForm) (rows : List (List (List ℕ))) (first : Head) (named : List GroupPlan) : Type 0 where
+  pub head : head_of form rows ≡ Ok first
   pub groups : groups_from 4 (drop 3 rows) ≡ Ok named
 
 -- all rows have their form
-pub record IsFormed (rows : List (List (List ℕ))) (first : Head) (named : List GroupPlan) (others : List Entry) : Type 0 where
-  pub begun : IsBegun rows first named
-  pub entries : entries_from (4 + length named) (drop (3 + length named) rows) ≡ Ok others
+pub record IsFormed (form : PlanForm) (rows : List (List (List ℕ))) (first : Head) (named : List GroupPlan) (others : List Entry) : Type 0 where
+  pub begun : IsBegun form rows first named
+  pub entries : entries_from form (4 + length named) (drop (3 + length named) rows) ≡ Ok others
 
-pub bad_groups : (rows rest : List (List (List ℕ))) (head : Head) (error : FileError) → head_of rows ≡ Ok head → rest ≡ drop 3 rows
-    → ButMemory error.cause (groups_from 4 rest ≡ Err error) → ButMemory error.cause (plan_from rows ≡ Err error)
-unfolding plan_from
-bad_groups rows rest head error first is wrong =
+pub bad_groups : (form : PlanForm) (rows rest : List (List (List ℕ))) (head : Head) (error : FileError) → head_of form rows ≡ Ok head → rest ≡ drop 3 rows
+    → ButMemory error.cause (groups_from 4 rest ≡ Err error) → ButMemory error.cause (opened_from form rows ≡ Err error)
+unfolding opened_from
+bad_groups form rows rest head error first is wrong =
     but_memory error.cause (λ (w : groups_from 4 rest ≡ Err error). let found = ap (groups_from 4) (sym is) ∙ w in rw (first, found) refl) wrong
 
-pub bad_rows : (rows rest : List (List (List ℕ))) (n : ℕ) (head : Head) (groups : List GroupPlan) (error : FileError) → IsBegun rows head groups → n ≡ 4 + length groups → rest ≡ drop (3 + length groups) rows
-    → ButMemory error.cause (entries_from n rest ≡ Err error) → ButMemory error.cause (plan_from rows ≡ Err error)
-unfolding plan_from
-bad_rows rows rest n head groups error begun number is wrong =
-    but_memory error.cause (λ (w : entries_from n rest ≡ Err error).
-    let found = ap (entries_from (4 + length groups)) (sym is) ∙ (ap (λ m. entries_from m rest) (sym number) ∙ w) in rw (begun.head, begun.groups, found) refl) wrong
+pub bad_rows : (form : PlanForm) (rows rest : List (List (List ℕ))) (n : ℕ) (head : Head) (groups : List GroupPlan) (error : FileError) → IsBegun form rows head groups → n ≡ 4 + length groups → rest ≡ drop (3 + length groups) rows
+    → ButMemory error.cause (entries_from form n rest ≡ Err error) → ButMemory error.cause (opened_from form rows ≡ Err error)
+unfolding opened_from
+bad_rows form rows rest n head groups error begun number is wrong =
+    but_memory error.cause (λ (w : entries_from form n rest ≡ Err error).
+    let found = ap (entries_from form (4 + length groups)) (sym is) ∙ (ap (λ m. entries_from form m rest) (sym number) ∙ w) in rw (begun.head, begun.groups, found) refl) wrong
 
-pub bad_plan : (rows : List (List (List ℕ))) (head : Head) (groups : List GroupPlan) (entries : List Entry) (error : FileError) → IsFormed rows head groups entries
-    → ButMemory error.cause (stated_plan head groups ≡ Err error) → ButMemory error.cause (plan_from rows ≡ Err error)
-unfolding plan_from
-bad_plan rows head groups entries error formed wrong =
+pub bad_plan : (form : PlanForm) (rows : List (List (List ℕ))) (head : Head) (groups : List GroupPlan) (entries : List Entry) (error : FileError) → IsFormed form rows head groups entries
+    → ButMemory error.cause (stated_plan head groups ≡ Err error) → ButMemory error.cause (opened_from form rows ≡ Err error)
+unfolding opened_from
+bad_plan form rows head groups entries error formed wrong =
     but_memory error.cause (λ (w : stated_plan head groups ≡ Err error). rw (formed.begun.head, formed.begun.groups, formed.entries, w) refl) wrong
 
-pub good_plan : (rows : List (List (List ℕ))) (n : ℕ) (head : Head) (groups : List GroupPlan) (entries : List Entry) (plan : PlanView) → IsFormed rows head groups entries → n ≡ 4 + length groups
-    → stated_plan head groups ≡ Ok plan → plan_from rows ≡ with_entries plan n entries
-unfolding plan_from
-good_plan rows n head groups entries plan formed number made =
-    rw (formed.begun.head, formed.begun.groups, formed.entries, made) (ap (λ m. with_entries plan m entries) (sym number))
+pub well_opened : (form : PlanForm) (rows : List (List (List ℕ))) (n : ℕ) (head : Head) (groups : List GroupPlan) (entries : List Entry) (plan : PlanView) → IsFormed form rows head groups entries
+    → n ≡ 4 + length groups → stated_plan head groups ≡ Ok plan → opened_from form rows ≡ Ok (record { plan = plan; first = n; entries = entries })
+unfolding opened_from
+well_opened form rows n head groups entries plan formed number made =
+    let opened : ℕ → Opened = λ m. record { plan = plan; first = m; entries = entries } in
+    rw (formed.begun.head, formed.begun.groups, formed.entries, made) (ap (λ m. Ok (opened m)) (sym number))

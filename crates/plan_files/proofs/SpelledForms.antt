@@ -19,13 +19,15 @@ use Rattle.pair_keys.specs.declared.KeyId.{KeyId}
 use Rattle.pair_keys.specs.declared.KeyId.TheVariants.{Own, Pair}
 use Rattle.plan_files.specs.Faults.{◌>>=◌}
 use Rattle.plan_files.specs.PlanForms.{entries_from, groups_from, head_of, row_due}
-use Rattle.plan_files.specs.PlanRows.{arg_in, entry_of, group_row, has_fields, key_in, lane_row, member_row, name_in, number_in, or_cause, own_row, pair_row, plan_row, rounds_row, starts_with, text, windows_row}
+use Rattle.plan_files.specs.PlanRows.{arg_in, entry_of, group_row, has_fields, key_in, key_or_lane, lane_row, member_row, name_in, number_in, or_cause, own_row, pair_row, rounds_row, starts_with, text, title, version_row, windows_row}
 use Rattle.plan_files.specs.SpelledFiles.{AreInRows, IsKey, IsLaneOf}
 use Rattle.plan_files.specs.Spelling.{first_rows, group_fields, key_fields, lane_fields, member_fields}
 use Rattle.plan_files.specs.declared.entry.Entry.{Entry}
 use Rattle.plan_files.specs.declared.entry.Entry.TheVariants as entry
 use Rattle.plan_files.specs.declared.fault.FileCause.TheVariants as cause
 use Rattle.plan_files.specs.declared.fault.FileError.{FileError}
+use Rattle.plan_files.specs.declared.form.PlanForm.{PlanForm}
+use Rattle.plan_files.specs.declared.form.PlanForm.TheVariants.{Whole, Public}
 use Rattle.plan_files.specs.declared.head.Head.{Head}
 use Rattle.plan_files.proofs.FormLemmas.{after}
 
@@ -73,22 +75,24 @@ windows_read a b small few =
     let fields = codes "windows" ∷ decimal a ∷ decimal b ∷ [] in
     rw (number_at fields 1 a refl small, number_at fields 2 b refl few) refl
 
-plan_read : plan_row (codes "plan" ∷ codes "1" ∷ []) ≡ Ok tt
-unfolding plan_row
-plan_read = refl
+version_read : (form : PlanForm) → version_row form (title form ∷ codes "1" ∷ []) ≡ Ok tt
+unfolding version_row
+version_read Whole = refl
+version_read Public = refl
 
 long_enough : (k n : ℕ) → k < n → nat_lt k n ≡ true
 long_enough k n lt = grind (arith, nat_tests)
 
-pub head_read : (plan : PlanView) (rest : List (List (List ℕ))) → plan.rounds < 2 ^ 32 → plan.w1 < 2 ^ 32 → plan.w2 < 2 ^ 32 → head_of (first_rows plan ++ rest) ≡ Ok (head_by plan)
+pub head_read : (form : PlanForm) (plan : PlanView) (rest : List (List (List ℕ))) → plan.rounds < 2 ^ 32 → plan.w1 < 2 ^ 32 → plan.w2 < 2 ^ 32
+    → head_of form (first_rows form plan ++ rest) ≡ Ok (head_by plan)
 unfolding head_of row_due
-head_read plan rest a b c =
+head_read form plan rest a b c =
     let n = length rest in
     rw (
       long_enough 0 (suc (suc (suc n))) (omega arith),
       long_enough 1 (suc (suc (suc n))) (omega arith),
       long_enough 2 (suc (suc (suc n))) (omega arith),
-      plan_read,
+      version_read form,
       rounds_read plan.rounds a,
       windows_read plan.w1 plan.w2 b c,
     ) refl
@@ -144,8 +148,8 @@ abbrev pub SmallId : KeyId → Type 0
 SmallId (Own g i) = (g < 2 ^ 32) × (i < 2 ^ 32)
 SmallId (Pair g low high) = (g < 2 ^ 32) × (low < 2 ^ 32) × (high < 2 ^ 32)
 
-key_row_read : (n : ℕ) (which : KeyId) (key : List ℕ) → SmallId which → IsKey key → entry_of n (key_fields which (Some key)) ≡ Ok (key_entry which key)
-unfolding entry_of own_row pair_row has_fields
+key_row_read : (n : ℕ) (which : KeyId) (key : List ℕ) → SmallId which → IsKey key → entry_of Whole n (key_fields which (Some key)) ≡ Ok (key_entry which key)
+unfolding entry_of key_or_lane own_row pair_row has_fields
 key_row_read n (Own g i) key small good =
     let fields = key_fields (Own g i) (Some key) in
     rw (number_at fields 1 g refl small.0, number_at fields 2 i refl small.1, key_at fields 3 key refl good) refl
@@ -159,7 +163,7 @@ pub record CanSpell (keys : Keys) (which : KeyId) : Type 0 where
   pub there : is_some (keys.key which) ≡ true
 
 some_read : (n : ℕ) (which : KeyId) (key : Option (List ℕ)) → SmallId which → is_some key ≡ true → ((k : List ℕ) → key ≡ Some k → IsKey k)
-    → entry_of n (key_fields which key) ≡ Ok (key_entry which (key_or key))
+    → entry_of Whole n (key_fields which key) ≡ Ok (key_entry which (key_or key))
 some_read n which None small there good = absurd cc
 some_read n which (Some key) small there good = key_row_read n which key small (good key refl)
 
@@ -181,36 +185,36 @@ AllCanSpell keys [] = Unit {0}
 AllCanSpell keys (x ∷ xs) = CanSpell keys x × AllCanSpell keys xs
 
 pub keys_read : (keys : Keys) → ((which : KeyId) (key : List ℕ) → keys.key which ≡ Some key → IsKey key) → (n m : ℕ) (ids : List KeyId) (rest : List (List (List ℕ))) → AllCanSpell keys ids → m ≡ n + length ids
-    → entries_from n (map (λ which. key_fields which (keys.key which)) ids ++ rest) ≡ after (key_entries keys ids) (entries_from m rest)
+    → entries_from Whole n (map (λ which. key_fields which (keys.key which)) ids ++ rest) ≡ after (key_entries keys ids) (entries_from Whole m rest)
 unfolding entries_from
 keys_read keys good n m [] rest can same =
-    let here : n ≡ m = omega (arith, same) in ap (λ k. entries_from k rest) here ∙ after_nil (entries_from m rest)
+    let here : n ≡ m = omega (arith, same) in ap (λ k. entries_from Whole k rest) here ∙ after_nil (entries_from Whole m rest)
 keys_read keys good n m (x ∷ xs) rest can same =
     rw (some_read n x (keys.key x) can.0.small can.0.there (good x))
     (ap (λ (r : Result (List Entry) FileError). r >>= (λ more. Ok (key_entry x (key_or (keys.key x)) ∷ more))) (keys_read keys good (n + 1) m xs rest can.1 (omega (arith, same)))
-    ∙ after_cons (key_entry x (key_or (keys.key x))) (key_entries keys xs) (entries_from m rest))
+    ∙ after_cons (key_entry x (key_or (keys.key x))) (key_entries keys xs) (entries_from Whole m rest))
 
 -- ---- lanes
 
-lane_read : (n : ℕ) (plan : PlanView) (lane : LaneRow) → lane.row ≡ n → IsLaneOf plan lane → lane.from < 2 ^ 32 → lane.to < 2 ^ 32 → entry_of n (lane_fields lane) ≡ Ok (entry.Lane lane)
-unfolding entry_of lane_row has_fields
+lane_read : (n : ℕ) (plan : PlanView) (lane : LaneRow) → lane.row ≡ n → IsLaneOf plan lane → lane.from < 2 ^ 32 → lane.to < 2 ^ 32 → entry_of Whole n (lane_fields lane) ≡ Ok (entry.Lane lane)
+unfolding entry_of key_or_lane lane_row has_fields
 lane_read n plan lane row is from to =
     let fields = lane_fields lane in
     rw (name_at fields 1 lane.name refl is.name, arg_at fields 2 lane.arg refl is.arg, number_at fields 3 lane.from refl from, number_at fields 4 lane.to refl to, ← row) refl
 
 pub lanes_read : (plan : PlanView) (n m : ℕ) (lanes : List LaneRow) (rest : List (List (List ℕ))) → ((lane : LaneRow) → IsLaneOf plan lane → lane.to < 2 ^ 32)
     → All (IsLaneOf plan) lanes → AreInRows n lanes → m ≡ n + length lanes
-    → entries_from n (map lane_fields lanes ++ rest) ≡ after (map entry.Lane lanes) (entries_from m rest)
+    → entries_from Whole n (map lane_fields lanes ++ rest) ≡ after (map entry.Lane lanes) (entries_from Whole m rest)
 unfolding entries_from
 lanes_read plan n m [] rest few good rows same =
-    let here : n ≡ m = omega (arith, same) in ap (λ k. entries_from k rest) here ∙ after_nil (entries_from m rest)
+    let here : n ≡ m = omega (arith, same) in ap (λ k. entries_from Whole k rest) here ∙ after_nil (entries_from Whole m rest)
 lanes_read plan n m (x ∷ xs) rest few good rows same =
     let first = All-head (IsLaneOf plan) x xs good in
     let to : x.to < 2 ^ 32 = few x first in
     let from : x.from < 2 ^ 32 = let o = first.order in omega (arith, o, to) in
     rw (lane_read n plan x rows.0 first from to)
     (ap (λ (r : Result (List Entry) FileError). r >>= (λ more. Ok (entry.Lane x ∷ more))) (lanes_read plan (n + 1) m xs rest few (All-tail (IsLaneOf plan) x xs good) rows.2 (omega (arith, same)))
-    ∙ after_cons (entry.Lane x) (map entry.Lane xs) (entries_from m rest))
+    ∙ after_cons (entry.Lane x) (map entry.Lane xs) (entries_from Whole m rest))
 
 -- ---- members
 
@@ -222,13 +226,13 @@ abbrev pub AllSmall : List Span → Type 0
 AllSmall [] = Unit {0}
 AllSmall (s ∷ ss) = SmallSpan s × AllSmall ss
 
-member_read : (n : ℕ) (span : Span) → SmallSpan span → entry_of n (member_fields span) ≡ Ok (entry.Member span)
+member_read : (form : PlanForm) (n : ℕ) (span : Span) → SmallSpan span → entry_of form n (member_fields span) ≡ Ok (entry.Member span)
 unfolding entry_of member_row has_fields
-member_read n span small =
+member_read form n span small =
     let fields = member_fields span in
     rw (number_at fields 1 span.group refl small.0, number_at fields 2 span.meter refl small.1, number_at fields 3 span.from refl small.2, number_at fields 4 span.until refl small.3) refl
 
-pub members_read : (n : ℕ) (spans : List Span) → AllSmall spans → entries_from n (map member_fields spans) ≡ Ok (map entry.Member spans)
+pub members_read : (form : PlanForm) (n : ℕ) (spans : List Span) → AllSmall spans → entries_from form n (map member_fields spans) ≡ Ok (map entry.Member spans)
 unfolding entries_from
-members_read n [] small = refl
-members_read n (s ∷ ss) small = rw (member_read n s small.0, members_read (n + 1) ss small.1) refl
+members_read form n [] small = refl
+members_read form n (s ∷ ss) small = rw (member_read form n s small.0, members_read form (n + 1) ss small.1) refl

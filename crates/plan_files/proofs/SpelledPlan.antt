@@ -16,16 +16,19 @@ use Rattle.pair_keys.specs.Ids.{is_key}
 use Rattle.pair_keys.specs.Keys.{Keys}
 use Rattle.pair_keys.specs.declared.KeyId.{KeyId}
 use Rattle.pair_keys.specs.declared.KeyId.TheVariants.{Own, Pair}
-use Rattle.plan_files.specs.Gathering.{Gathered, gather, nothing, settled}
+use Rattle.plan_files.specs.Gathering.{Gathered, gather, nothing, settled, spans_of}
 use Rattle.plan_files.specs.MissingKeys.{first_missing, plan_keys}
 use Rattle.plan_files.specs.PlainRows.{file_text, is_plain, is_plain_row}
-use Rattle.plan_files.specs.PlanFiles.{PlanFileView, completed, filled_in, plan_from, plan_of, stated_plan, with_entries}
+use Rattle.plan_files.specs.PlanFiles.{PlanFileView, completed, filled_in, opened_from, plan_from, plan_of, public_from, public_of, stated_plan, with_entries, with_members}
 use Rattle.plan_files.specs.PlanForms.{entries_from}
+use Rattle.plan_files.specs.PlanRows.{title}
 use Rattle.plan_files.specs.Rows.{file_rows}
-use Rattle.plan_files.specs.SpelledFiles.{AreInRows, IsLaneOf, IsPlanFile, PlanFileIsRead, first_lane_row}
-use Rattle.plan_files.specs.Spelling.{first_rows, group_fields, key_fields, key_rows, key_text, lane_fields, member_fields, partial_spans, plan_rows}
+use Rattle.plan_files.specs.SpelledFiles.{AreInRows, IsLaneOf, IsPlanFile, PlanFileIsRead, PublicPlanIsRead, first_lane_row}
+use Rattle.plan_files.specs.Spelling.{first_rows, group_fields, key_fields, key_rows, key_text, lane_fields, member_fields, partial_spans, plan_rows, public_rows}
 use Rattle.plan_files.specs.declared.entry.Entry.{Entry}
 use Rattle.plan_files.specs.declared.entry.Entry.TheVariants as entry
+use Rattle.plan_files.specs.declared.form.PlanForm.{PlanForm}
+use Rattle.plan_files.specs.declared.form.PlanForm.TheVariants.{Whole, Public}
 use Rattle.plan_files.proofs.DistinctLemmas.{all_append, both_true}
 use Rattle.plan_files.proofs.FormLemmas.{after}
 use Rattle.plan_files.proofs.KeyOrder.{keys_only}
@@ -96,10 +99,10 @@ abbrev entries : PlanFileView → List Entry
 entries file = key_entries file.keys (plan_keys file.plan) ++ (map entry.Lane file.lanes ++ map entry.Member (partial_spans file.plan))
 
 -- the rows, grouped to the right
-rows_are : (file : PlanFileView) → plan_rows file ≡ first_rows file.plan ++ (map group_fields file.plan.groups ++ entry_rows file)
+rows_are : (file : PlanFileView) → plan_rows file ≡ first_rows Whole file.plan ++ (map group_fields file.plan.groups ++ entry_rows file)
 unfolding plan_rows
 rows_are file =
-    let F = first_rows file.plan in
+    let F = first_rows Whole file.plan in
     let G = map group_fields file.plan.groups in
     let K = key_rows file.plan file.keys in
     let L = map lane_fields file.lanes in
@@ -124,7 +127,7 @@ entries_other file =
 abbrev first_key_row : PlanView → ℕ
 first_key_row plan = 4 + length plan.groups
 
-entries_said : (file : PlanFileView) → IsPlanFile file → AreInRows (first_lane_row file.plan) file.lanes → entries_from (first_key_row file.plan) (entry_rows file) ≡ Ok (entries file)
+entries_said : (file : PlanFileView) → IsPlanFile file → AreInRows (first_lane_row file.plan) file.lanes → entries_from Whole (first_key_row file.plan) (entry_rows file) ≡ Ok (entries file)
 entries_said file is rows =
     let plan = file.plan in
     let n = first_lane_row plan in
@@ -132,7 +135,7 @@ entries_said file is rows =
     keys_read file.keys is.keys.each (first_key_row plan) n (plan_keys plan) (map lane_fields file.lanes ++ map member_fields (partial_spans plan)) (can_spell file is (plan_keys plan) (keys_only plan)) refl
     ∙ ap (after (key_entries file.keys (plan_keys plan)))
     (lanes_read plan n m file.lanes (map member_fields (partial_spans plan)) (few_ticks plan is.limits) is.lanes rows refl
-    ∙ ap (after (map entry.Lane file.lanes)) (members_read m (partial_spans plan) (spans_small plan is.limits)))
+    ∙ ap (after (map entry.Lane file.lanes)) (members_read Whole m (partial_spans plan) (spans_small plan is.limits)))
 
 -- ---- the plan, the keys and the lanes
 
@@ -182,8 +185,8 @@ drop_three : (n : ℕ) (a b c : List (List ℕ)) (rest : List (List (List ℕ)))
 drop_three n a b c rest = let e : 3 + n ≡ suc (suc (suc n)) = omega arith in ap (λ k. drop k (a ∷ b ∷ c ∷ rest)) e
 
 from_rows : (file : PlanFileView) → IsPlanFile file → AreInRows (first_lane_row file.plan) file.lanes
-    → plan_from (first_rows file.plan ++ (map group_fields file.plan.groups ++ entry_rows file)) ≡ Ok file
-unfolding plan_from
+    → plan_from (first_rows Whole file.plan ++ (map group_fields file.plan.groups ++ entry_rows file)) ≡ Ok file
+unfolding plan_from opened_from
 from_rows file is rows =
     let plan = file.plan in
     let limits = is.limits in
@@ -192,9 +195,9 @@ from_rows file is rows =
     let w1 = limits.w1_to in
     let w2 = limits.w2_to in
     let long : length (map stated plan.groups) ≡ length plan.groups = length-map plan.groups stated in
-    let head = head_read plan (G ++ entry_rows file) (omega (arith, rounds)) (omega (arith, w1)) (omega (arith, w2)) in
+    let head = head_read Whole plan (G ++ entry_rows file) (omega (arith, rounds)) (omega (arith, w1)) (omega (arith, w2)) in
     let groups = groups_read 4 plan.groups (entry_rows file) (readable plan limits) (entries_other file) in
-    let rest : drop (3 + length (map stated plan.groups)) (first_rows plan ++ (G ++ entry_rows file)) ≡ entry_rows file =
+    let rest : drop (3 + length (map stated plan.groups)) (first_rows Whole plan ++ (G ++ entry_rows file)) ≡ entry_rows file =
     drop_three (length (map stated plan.groups)) _ _ _ (G ++ entry_rows file) ∙ behind (length (map stated plan.groups)) G (entry_rows file) (long ∙ sym (length-map plan.groups group_fields)) in
     rw (head, groups, rest, long, entries_said file is rows, plan_stated plan limits) (entries_kept file is)
 
@@ -242,24 +245,28 @@ plain_members (s ∷ ss) small =
     (plain_decimal s.group (omega (arith, small.0.0))) (plain_decimal s.meter (omega (arith, small.0.1))) (plain_decimal s.from (omega (arith, small.0.2))) (plain_decimal s.until (omega (arith, small.0.3))))
     (plain_members ss small.1)
 
-plain_first : (plan : PlanView) → IsWithinLimits plan → list_all is_plain_row (first_rows plan) ≡ true
-plain_first plan limits =
+plain_version : (form : PlanForm) → is_plain_row (title form ∷ codes "1" ∷ []) ≡ true
+plain_version Whole = refl
+plain_version Public = refl
+
+plain_first : (form : PlanForm) (plan : PlanView) → IsWithinLimits plan → list_all is_plain_row (first_rows form plan) ≡ true
+plain_first form plan limits =
     let rounds = limits.rounds in
     let w1 = limits.w1_to in
     let w2 = limits.w2_to in
-    both_true _ _ refl
+    both_true _ _ (plain_version form)
     (both_true _ _ (plain_two (codes "rounds") (decimal plan.rounds) refl refl (plain_decimal plan.rounds (omega (arith, rounds))))
     (both_true _ _ (plain_three (codes "windows") (decimal plan.w1) (decimal plan.w2) refl refl (plain_decimal plan.w1 (omega (arith, w1))) (plain_decimal plan.w2 (omega (arith, w2)))) refl))
 
 all_plain : (file : PlanFileView) → IsPlanFile file → AreInRows (first_lane_row file.plan) file.lanes
-    → list_all is_plain_row (first_rows file.plan ++ (map group_fields file.plan.groups ++ entry_rows file)) ≡ true
+    → list_all is_plain_row (first_rows Whole file.plan ++ (map group_fields file.plan.groups ++ entry_rows file)) ≡ true
 all_plain file is rows =
     let plan = file.plan in
     let M = map member_fields (partial_spans plan) in
     let L = map lane_fields file.lanes in
     let K = key_rows plan file.keys in
     let G = map group_fields plan.groups in
-    all_append is_plain_row (first_rows plan) (G ++ (K ++ (L ++ M))) (plain_first plan is.limits)
+    all_append is_plain_row (first_rows Whole plan) (G ++ (K ++ (L ++ M))) (plain_first Whole plan is.limits)
     (all_append is_plain_row G (K ++ (L ++ M)) (plain_groups plan.groups (readable plan is.limits))
     (all_append is_plain_row K (L ++ M) (plain_keys file is (plan_keys plan) (can_spell file is (plan_keys plan) (keys_only plan)))
     (all_append is_plain_row L M (plain_lanes plan is.limits (first_lane_row plan) file.lanes is.lanes rows) (plain_members (partial_spans plan) (spans_small plan is.limits)))))
@@ -270,3 +277,40 @@ spelled_plan file is rows =
     let same = rows_are file in
     ap (λ (r : List (List (List ℕ))). plan_from (file_rows (file_text r))) same
     ∙ (ap plan_from (plain_rows _ (all_plain file is rows)) ∙ from_rows file is rows)
+
+-- ---- the public plan
+
+-- the spans of members' rows are those of the rows
+spans_back : (spans : List Span) → spans_of (map entry.Member spans) ≡ spans
+spans_back [] = refl
+spans_back (s ∷ ss) = ap (λ (more : List Span). s ∷ more) (spans_back ss)
+
+members_kept : (plan : PlanView) → IsWithinLimits plan → (n : ℕ) → with_members (start_of plan) n (spans_of (map entry.Member (partial_spans plan))) ≡ Ok plan
+unfolding with_members
+members_kept plan limits n = rw (spans_back (partial_spans plan), spans_right plan limits) (ap Ok (plan_again plan))
+
+public_said : (plan : PlanView) → IsWithinLimits plan → public_from (first_rows Public plan ++ (map group_fields plan.groups ++ map member_fields (partial_spans plan))) ≡ Ok plan
+unfolding public_from opened_from
+public_said plan limits =
+    let G = map group_fields plan.groups in
+    let M = map member_fields (partial_spans plan) in
+    let rounds = limits.rounds in
+    let w1 = limits.w1_to in
+    let w2 = limits.w2_to in
+    let long : length (map stated plan.groups) ≡ length plan.groups = length-map plan.groups stated in
+    let head = head_read Public plan (G ++ M) (omega (arith, rounds)) (omega (arith, w1)) (omega (arith, w2)) in
+    let groups = groups_read 4 plan.groups M (readable plan limits) (all_other member_fields (partial_spans plan) (λ span. refl)) in
+    let rest : drop (3 + length (map stated plan.groups)) (first_rows Public plan ++ (G ++ M)) ≡ M =
+    drop_three (length (map stated plan.groups)) _ _ _ (G ++ M) ∙ behind (length (map stated plan.groups)) G M (long ∙ sym (length-map plan.groups group_fields)) in
+    rw (head, groups, rest, long, members_read Public (first_key_row plan) (partial_spans plan) (spans_small plan limits), plan_stated plan limits) (members_kept plan limits (first_key_row plan))
+
+public_plain : (plan : PlanView) → IsWithinLimits plan → list_all is_plain_row (first_rows Public plan ++ (map group_fields plan.groups ++ map member_fields (partial_spans plan))) ≡ true
+public_plain plan limits =
+    let M = map member_fields (partial_spans plan) in
+    let G = map group_fields plan.groups in
+    all_append is_plain_row (first_rows Public plan) (G ++ M) (plain_first Public plan limits)
+    (all_append is_plain_row G M (plain_groups plan.groups (readable plan limits)) (plain_members (partial_spans plan) (spans_small plan limits)))
+
+pub spelled_public : PublicPlanIsRead
+unfolding public_of public_rows
+spelled_public plan limits = ap public_from (plain_rows _ (public_plain plan limits)) ∙ public_said plan limits

@@ -1,11 +1,13 @@
--- The plan file: a plan, its keys and its lanes.
+-- The plan file, a plan with its keys and its lanes; and the public plan, which has neither.
 use Rattle.std.specs.Prelude.{◌≡◌, ℕ, ◌+◌, List, length, drop, Option, Some, None, Result, Ok, Err, option_map}
 use Rattle.group_plan.specs.NewPlans.{first_fault}
 use Rattle.group_plan.specs.NewPlans as new
 use Rattle.group_plan.specs.Plans.{PlanView, last_tick}
-use Rattle.group_plan.specs.Spans.{span_fault}
+use Rattle.group_plan.specs.Spans.{span_fault, with_spans}
 use Rattle.group_plan.specs.declared.plan.GroupPlan.{GroupPlan}
+use Rattle.group_plan.specs.declared.plan.members.Span.{Span}
 use Rattle.group_plan.specs.declared.plan.members.SpanError.{SpanError}
+use Rattle.group_plan.specs.declared.plan.members.SpanError.TheVariants as of_span
 use Rattle.link_lanes.specs.declared.row.LaneRow.{LaneRow}
 use Rattle.pair_keys.specs.Keys.{Keys, table_of}
 use Rattle.pair_keys.specs.declared.KeyError.TheVariants as of_key
@@ -19,6 +21,9 @@ use Rattle.plan_files.specs.declared.entry.Entry.{Entry}
 use Rattle.plan_files.specs.declared.fault.FileCause.TheVariants as cause
 use Rattle.plan_files.specs.declared.fault.FileError.{FileError}
 use Rattle.plan_files.specs.declared.head.Head.{Head}
+use Rattle.plan_files.specs.declared.form.PlanForm.{PlanForm}
+use Rattle.plan_files.specs.declared.form.PlanForm.TheVariants.{Whole, Public}
+use Rattle.plan_files.specs.declared.plan.Opening.{Opening}
 use Rattle.plan_files.specs.declared.plan.PlanFile.{PlanFile}
 
 -- what a plan file says: the plan with the spans of its members, all its keys, and the lane rows in the order of the file
@@ -49,18 +54,67 @@ filled_in plan fault n entries = gather (last_tick plan) fault n (nothing plan) 
 unfoldable pub with_entries : PlanView → ℕ → List Entry → Result PlanFileView FileError
 with_entries plan n entries = filled_in (settled plan (spans_of entries)) (span_fault plan (spans_of entries)) n entries
 
--- what the rows of a file say: first the form of all, then the plan, then the rows after the groups
+-- the plan that the first rows and the groups of a file state, and the rows after these, of which the first is row `first` of the file
+pub record Opened : Type 0 where
+  pub plan : PlanView
+  pub first : ℕ
+  pub entries : List Entry
+
+-- what the rows of a file say, before the rows after the groups are judged by the plan: first the form of all, then the plan
+unfoldable pub opened_from : PlanForm → List (List (List ℕ)) → Result Opened FileError
+opened_from form rows = do
+  head ← head_of form rows
+  groups ← groups_from 4 (drop 3 rows)
+  entries ← entries_from form (4 + length groups) (drop (3 + length groups) rows)
+  plan ← stated_plan head groups
+  Ok (record { plan = plan; first = 4 + length groups; entries = entries })
+
+-- what the rows of a file say
 unfoldable pub plan_from : List (List (List ℕ)) → Result PlanFileView FileError
 plan_from rows = do
-  head ← head_of rows
-  groups ← groups_from 4 (drop 3 rows)
-  entries ← entries_from (4 + length groups) (drop (3 + length groups) rows)
-  plan ← stated_plan head groups
-  with_entries plan (4 + length groups) entries
+  opened ← opened_from Whole rows
+  with_entries opened.plan opened.first opened.entries
 
 -- what the bytes of a plan file say, or their first fault
 unfoldable pub plan_of : List ℕ → Result PlanFileView FileError
 plan_of bytes = plan_from (file_rows bytes)
+
+-- ---- the public plan
+
+-- the place of a faulty span among all
+abbrev pub place_of : SpanError → ℕ
+place_of (of_span.Range at) = at
+place_of (of_span.Twice at) = at
+place_of of_span.Memory = 0
+
+-- the plan with its members' spans, or the row of their first fault; the first of them is in row n of the file
+unfoldable pub with_members : PlanView → ℕ → List Span → Result PlanView FileError
+with_members plan n spans = unless (option_map (λ e. in_row (n + place_of e) (cause.Member e)) (span_fault plan spans)) (with_spans plan spans)
+
+-- what the rows of a public plan say: after the groups there are members' alone
+unfoldable pub public_from : List (List (List ℕ)) → Result PlanView FileError
+public_from rows = do
+  opened ← opened_from Public rows
+  with_members opened.plan opened.first (spans_of opened.entries)
+
+-- what the bytes of a public plan say, or their first fault
+unfoldable pub public_of : List ℕ → Result PlanView FileError
+public_of bytes = public_from (file_rows bytes)
+
+-- how the reading of a public plan ends; want of memory is free
+abbrev pub PublicEnds : Result PlanView FileError → Result PlanView FileError → Type 0
+PublicEnds value (Ok plan) = value ≡ Ok plan
+PublicEnds value (Err fault) = ButMemory fault.cause (value ≡ Err fault)
+
+-- ---- how the reading of a plan file ends
+
+-- what is opened, as contracts see it
+abbrev pub opened_by : Opening → Opened
+opened_by o = record { plan = o.plan; first = o.first; entries = o.entries.items }
+
+abbrev pub OpeningEnds : Result Opened FileError → Result Opening FileError → Type 0
+OpeningEnds value (Ok o) = value ≡ Ok (opened_by o)
+OpeningEnds value (Err fault) = ButMemory fault.cause (value ≡ Err fault)
 
 -- a file as contracts see it
 abbrev pub view_of : PlanFile → PlanFileView

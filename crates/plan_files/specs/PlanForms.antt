@@ -1,12 +1,13 @@
--- The form of a plan file: its first rows, its group rows, and the rows after them, up to the first fault.
+-- The form of a plan's file: its first rows, its group rows, and the rows after them, up to the first fault.
 use Rattle.std.specs.Prelude.{ℕ, ◌+◌, nat_lt, if◌then◌else◌, List, [], ◌∷◌, codes, length, slice_index_or, Result, Ok, Err}
 use Rattle.group_plan.specs.declared.plan.GroupPlan.{GroupPlan}
 use Rattle.plan_files.specs.Faults.{◌>>=◌, at_row, in_row}
-use Rattle.plan_files.specs.PlanRows.{entry_of, group_row, plan_row, rounds_row, starts_with, windows_row}
+use Rattle.plan_files.specs.PlanRows.{entry_of, group_row, rounds_row, starts_with, version_row, windows_row}
 use Rattle.plan_files.specs.declared.entry.Entry.{Entry}
 use Rattle.plan_files.specs.declared.fault.FileCause.{FileCause}
 use Rattle.plan_files.specs.declared.fault.FileCause.TheVariants as cause
 use Rattle.plan_files.specs.declared.fault.FileError.{FileError}
+use Rattle.plan_files.specs.declared.form.PlanForm.{PlanForm}
 use Rattle.plan_files.specs.declared.head.Head.{Head}
 
 -- what the row at a place, counted from 0, says by its form; a file without it is short
@@ -20,9 +21,9 @@ first_due form n [] = Err (in_row n cause.Short)
 first_due form n (row ∷ rows) = at_row n (form row)
 
 -- what the first three rows say
-unfoldable pub head_of : List (List (List ℕ)) → Result Head FileError
-head_of rows = do
-  _ ← row_due plan_row rows 0
+unfoldable pub head_of : PlanForm → List (List (List ℕ)) → Result Head FileError
+head_of form rows = do
+  _ ← row_due (version_row form) rows 0
   rounds ← row_due rounds_row rows 1
   windows ← row_due windows_row rows 2
   Ok (record { rounds = rounds; windows = windows })
@@ -38,9 +39,9 @@ groups_from n (row ∷ rows) =
     else Ok []
 
 -- the rows after the groups, of which the first is row n of the file
-unfoldable pub entries_from : ℕ → List (List (List ℕ)) → Result (List Entry) FileError
-entries_from n [] = Ok []
-entries_from n (row ∷ rows) = do
-  entry ← at_row n (entry_of n row)
-  entries ← entries_from (n + 1) rows
+unfoldable pub entries_from : PlanForm → ℕ → List (List (List ℕ)) → Result (List Entry) FileError
+entries_from form n [] = Ok []
+entries_from form n (row ∷ rows) = do
+  entry ← at_row n (entry_of form n row)
+  entries ← entries_from form (n + 1) rows
   Ok (entry ∷ entries)

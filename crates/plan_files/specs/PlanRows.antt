@@ -13,6 +13,8 @@ use Rattle.plan_files.specs.declared.entry.Entry.{Entry}
 use Rattle.plan_files.specs.declared.entry.Entry.TheVariants as entry
 use Rattle.plan_files.specs.declared.fault.FileCause.{FileCause}
 use Rattle.plan_files.specs.declared.fault.FileCause.TheVariants as cause
+use Rattle.plan_files.specs.declared.form.PlanForm.{PlanForm}
+use Rattle.plan_files.specs.declared.form.PlanForm.TheVariants.{Whole, Public}
 use Rattle.plan_files.specs.declared.head.Windows.{Windows}
 
 -- ---- fields
@@ -52,9 +54,14 @@ arg_in fields place = if list_all is_arg_byte (text fields place) then Ok (text 
 
 -- ---- the first rows
 
--- row 1: `plan`, `1`, and nothing else
-unfoldable pub plan_row : List (List ℕ) → Result (Unit {0}) FileCause
-plan_row fields = if pointwise bytes_eq fields (codes "plan" ∷ codes "1" ∷ []) then Ok tt else Err cause.Row
+-- the word with which a file of the form starts
+abbrev pub title : PlanForm → List ℕ
+title Whole = codes "plan"
+title Public = codes "public"
+
+-- row 1: the form's title, `1`, and nothing else
+unfoldable pub version_row : PlanForm → List (List ℕ) → Result (Unit {0}) FileCause
+version_row form fields = if pointwise bytes_eq fields (title form ∷ codes "1" ∷ []) then Ok tt else Err cause.Row
 
 -- row 2: `rounds`, a number
 unfoldable pub rounds_row : List (List ℕ) → Result ℕ FileCause
@@ -124,11 +131,19 @@ member_row fields = do
   until ← number_in fields 4
   Ok (entry.Member (record { group = group; meter = meter; from = from; until = until }))
 
--- a row after the groups, by its first word
-unfoldable pub entry_of : ℕ → List (List ℕ) → Result Entry FileCause
-entry_of number fields =
+-- a row of a key or a lane, by its first word
+unfoldable pub key_or_lane : ℕ → List (List ℕ) → Result Entry FileCause
+key_or_lane number fields =
     if starts_with (codes "own") fields then own_row fields else
     if starts_with (codes "pair") fields then pair_row fields else
     if starts_with (codes "lane") fields then lane_row number fields else
-    if starts_with (codes "member") fields then member_row fields else
     Err cause.Row
+
+-- a row that isn't a member's: a public plan has none after its groups
+abbrev pub other_row : PlanForm → ℕ → List (List ℕ) → Result Entry FileCause
+other_row Whole number fields = key_or_lane number fields
+other_row Public number fields = Err cause.Row
+
+-- a row after the groups
+unfoldable pub entry_of : PlanForm → ℕ → List (List ℕ) → Result Entry FileCause
+entry_of form number fields = if starts_with (codes "member") fields then member_row fields else other_row form number fields

@@ -12,9 +12,9 @@ use Rattle.pair_keys.specs.Keys.{IsComplete, Keys}
 use Rattle.pair_keys.specs.declared.KeyId.{KeyId}
 use Rattle.plan_files.specs.MissingKeys.{plan_keys}
 use Rattle.plan_files.specs.PlainRows.{is_plain}
-use Rattle.plan_files.specs.PlanFiles.{PlanFileView, plan_of}
+use Rattle.plan_files.specs.PlanFiles.{PlanFileView, plan_of, public_of}
 use Rattle.plan_files.specs.Readings.{readings_of}
-use Rattle.plan_files.specs.Spelling.{plan_text, readings_text}
+use Rattle.plan_files.specs.Spelling.{plan_text, public_text, readings_text}
 
 -- 32 bytes
 pub record IsKey (key : List ℕ) : Type 0 where
@@ -53,6 +53,10 @@ first_lane_row plan = 4 + length plan.groups + length (plan_keys plan)
 -- the text of a plan file is read as what it says
 abbrev pub PlanFileIsRead : Type 0
 PlanFileIsRead = (file : PlanFileView) → IsPlanFile file → AreInRows (first_lane_row file.plan) file.lanes → plan_of (plan_text file) ≡ Ok file
+
+-- the text of a public plan is read as this plan
+abbrev pub PublicPlanIsRead : Type 0
+PublicPlanIsRead = (plan : PlanView) → IsWithinLimits plan → public_of (public_text plan) ≡ Ok plan
 
 -- the text of a readings file is read as its readings
 abbrev pub ReadingsFileIsRead : Type 0

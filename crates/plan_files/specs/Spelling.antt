@@ -1,4 +1,4 @@
--- The texts of the plan file and of the readings file.
+-- The texts of the plan file, of the public plan and of the readings file.
 use Rattle.std.specs.Prelude.{ℕ, ◌==◌, ◌&&◌, not, Bool, List, [], ◌∷◌, ◌++◌, codes, decimal, filter, length, map, Option, Some, None}
 use Rattle.std.specs.List.{flat_map, range_with_len}
 use Rattle.group_plan.specs.Plans.{Group, PlanView, size, name_of, span_of}
@@ -12,13 +12,16 @@ use Rattle.pair_keys.specs.declared.KeyId.TheVariants.{Own, Pair}
 use Rattle.plan_files.specs.MissingKeys.{plan_keys}
 use Rattle.plan_files.specs.PlainRows.{file_text}
 use Rattle.plan_files.specs.PlanFiles.{PlanFileView}
+use Rattle.plan_files.specs.PlanRows.{title}
+use Rattle.plan_files.specs.declared.form.PlanForm.{PlanForm}
+use Rattle.plan_files.specs.declared.form.PlanForm.TheVariants.{Whole, Public}
 
 -- ---- the plan file
 
 -- the version, the rounds and the windows
-abbrev pub first_rows : PlanView → List (List (List ℕ))
-first_rows plan =
-    (codes "plan" ∷ codes "1" ∷ []) ∷ (codes "rounds" ∷ decimal plan.rounds ∷ []) ∷ (codes "windows" ∷ decimal plan.w1 ∷ decimal plan.w2 ∷ []) ∷ []
+abbrev pub first_rows : PlanForm → PlanView → List (List (List ℕ))
+first_rows form plan =
+    (title form ∷ codes "1" ∷ []) ∷ (codes "rounds" ∷ decimal plan.rounds ∷ []) ∷ (codes "windows" ∷ decimal plan.w1 ∷ decimal plan.w2 ∷ []) ∷ []
 
 -- a group: its name, how many meters it has, its floor
 abbrev pub group_fields : Group → List (List ℕ)
@@ -65,11 +68,21 @@ key_rows plan keys = map (λ which. key_fields which (keys.key which)) (plan_key
 -- the rows of a plan file: after the groups its keys, its lanes, and the meters that aren't members in all rounds
 unfoldable pub plan_rows : PlanFileView → List (List (List ℕ))
 plan_rows file =
-    first_rows file.plan ++ map group_fields file.plan.groups ++ key_rows file.plan file.keys ++ map lane_fields file.lanes ++ map member_fields (partial_spans file.plan)
+    first_rows Whole file.plan ++ map group_fields file.plan.groups ++ key_rows file.plan file.keys ++ map lane_fields file.lanes ++ map member_fields (partial_spans file.plan)
 
 -- the text of a plan file
 abbrev pub plan_text : PlanFileView → List ℕ
 plan_text file = file_text (plan_rows file)
+
+-- ---- the public plan
+
+-- the rows of a public plan: after the groups the meters that aren't members in all rounds
+unfoldable pub public_rows : PlanView → List (List (List ℕ))
+public_rows plan = first_rows Public plan ++ (map group_fields plan.groups ++ map member_fields (partial_spans plan))
+
+-- the text of a public plan
+abbrev pub public_text : PlanView → List ℕ
+public_text plan = file_text (public_rows plan)
 
 -- ---- the readings file
 

@@ -3,10 +3,11 @@ ghost use Rattle.std.specs.Prelude.{◌≡◌, ◌≤◌, ◌+◌, ◌^◌, IfEr
 ghost use Rattle.csv.specs.Records.{fields_of};
 ghost use Rattle.plan_files.specs.Faults.{Answers, ButMemory};
 ghost use Rattle.plan_files.specs.PlanForms.{entries_from};
-ghost use Rattle.plan_files.specs.PlanRows.{arg_in, entry_of, lane_row, member_row, own_row, pair_row};
+ghost use Rattle.plan_files.specs.PlanRows.{arg_in, entry_of, key_or_lane, lane_row, member_row, own_row, pair_row};
 ghost use Rattle.plan_files.specs.RowsLeft.{CanGoOn, rows_left};
 
 use crate::fault::{FileCause, FileError, NO_MEMORY};
+use crate::form::PlanForm;
 use crate::row::{check_fields, key_field, name_field, number_field, starts_with};
 use crate::row_reader::RowReader;
 use crate::table::field;
@@ -116,10 +117,10 @@ fn lane_row(alloc: Global, number: u32, row: &ByteRecord) -> Result<Entry, FileC
     }))
 }
 
-/// What a row after the groups says. The number is the row's in the file.
-#[tactic(auto, unfolding(crate::specs::PlanRows::entry_of))]
-pub fn read_entry(alloc: Global, number: u32, row: &ByteRecord) -> Result<Entry, FileCause>
-    ensures { Answers (entry_of number (fields_of row.now)) result }
+/// What a row of a key or a lane says. The number is the row's in the file.
+#[tactic(auto, unfolding(crate::specs::PlanRows::key_or_lane))]
+fn key_or_lane(alloc: Global, number: u32, row: &ByteRecord) -> Result<Entry, FileCause>
+    ensures { Answers (key_or_lane number (fields_of row.now)) result }
 {
     if starts_with(row, b"own") {
         own_row(row)
@@ -127,29 +128,47 @@ pub fn read_entry(alloc: Global, number: u32, row: &ByteRecord) -> Result<Entry,
         pair_row(row)
     } else if starts_with(row, b"lane") {
         lane_row(alloc, number, row)
-    } else if starts_with(row, b"member") {
-        member_row(row)
     } else {
         Err(FileCause::Row)
+    }
+}
+
+/// What a row after the groups says: in a public plan that is a member's. The number is the row's in the file.
+#[tactic(auto, unfolding(crate::specs::PlanRows::entry_of))]
+pub fn read_entry(
+    alloc: Global,
+    form: PlanForm,
+    number: u32,
+    row: &ByteRecord,
+) -> Result<Entry, FileCause>
+    ensures { Answers (entry_of form number (fields_of row.now)) result }
+{
+    if starts_with(row, b"member") {
+        return member_row(row);
+    }
+    match form {
+        PlanForm::Whole => key_or_lane(alloc, number, row),
+        PlanForm::Public => Err(FileCause::Row),
     }
 }
 
 /// What the rows that are left say, up to the first fault of form. The first of them is row `first` of the file.
 pub fn read_entries(
     alloc: Global,
+    form: PlanForm,
     first: u32,
     rows: &mut RowReader<'_>,
 ) -> Result<Vec<Entry>, FileError>
     requires sound { CanGoOn rows.old }
     requires few { first + length (rows_left rows.old) ≤ 2 ^ 28 + 2 }
-    ensures read { IfOk result (λ entries. entries_from first (rows_left rows.old) ≡ Ok entries.items) }
+    ensures read { IfOk result (λ entries. entries_from form first (rows_left rows.old) ≡ Ok entries.items) }
     ensures few { IfOk result (λ entries. length entries.items ≤ length (rows_left rows.old)) }
-    ensures fault { IfErr result (λ fault. ButMemory fault.cause (entries_from first (rows_left rows.old) ≡ Err fault)) }
+    ensures fault { IfErr result (λ fault. ButMemory fault.cause (entries_from form first (rows_left rows.old) ≡ Err fault)) }
 {
     let mut entries = Vec::new(alloc);
     let mut number = first;
     while let Some(row) = rows.current() {
-        match read_entry(alloc, number, row) {
+        match read_entry(alloc, form, number, row) {
             Ok(entry) => {
                 if entries.push(entry).is_err() {
                     return Err(NO_MEMORY);

@@ -3,10 +3,11 @@ ghost use Rattle.std.specs.Prelude.{◌≡◌, ◌≤◌, ◌+◌, ◌^◌, IfEr
 ghost use Rattle.csv.specs.Records.{fields_of};
 ghost use Rattle.plan_files.specs.Faults.{ButMemory};
 ghost use Rattle.plan_files.specs.PlanForms.{first_due, groups_from, head_of};
-ghost use Rattle.plan_files.specs.PlanRows.{group_row, plan_row, rounds_row, windows_row};
+ghost use Rattle.plan_files.specs.PlanRows.{group_row, rounds_row, version_row, windows_row};
 ghost use Rattle.plan_files.specs.RowsLeft.{CanGoOn, rows_left};
 
 use crate::fault::{FileCause, FileError, NO_MEMORY};
+use crate::form::PlanForm;
 use crate::row::{check_fields, name_field, number_field, starts_with};
 use crate::row_reader::RowReader;
 use crate::table::is_row;
@@ -28,12 +29,12 @@ pub struct Head {
     pub windows: Windows,
 }
 
-/// The first row is `plan,1`.
-#[tactic(auto, unfolding(crate::specs::PlanRows::plan_row))]
-fn check_version(row: &ByteRecord) -> Result<(), FileCause>
-    ensures { result ≡ plan_row (fields_of row.now) }
+/// The first row is the form's title and `1`.
+#[tactic(auto, unfolding(crate::specs::PlanRows::version_row))]
+fn check_version(form: PlanForm, row: &ByteRecord) -> Result<(), FileCause>
+    ensures { result ≡ version_row form (fields_of row.now) }
 {
-    if !is_row(row, &[b"plan", b"1"]) {
+    if !is_row(row, &[form.title(), b"1"]) {
         return Err(FileCause::Row);
     }
     Ok(())
@@ -82,8 +83,8 @@ fn read_group(row: &ByteRecord) -> Result<GroupPlan, FileCause>
 }
 
 /// Whether the file starts with its version.
-fn check_first_row(rows: &RowReader<'_>) -> Result<(), FileError>
-    ensures { result ≡ first_due plan_row 1 (rows_left rows.now) }
+fn check_first_row(form: PlanForm, rows: &RowReader<'_>) -> Result<(), FileError>
+    ensures { result ≡ first_due (version_row form) 1 (rows_left rows.now) }
 {
     let Some(row) = rows.current() else {
         return Err(FileError {
@@ -91,7 +92,7 @@ fn check_first_row(rows: &RowReader<'_>) -> Result<(), FileError>
             cause: FileCause::Short,
         });
     };
-    match check_version(row) {
+    match check_version(form, row) {
         Ok(()) => Ok(()),
         Err(cause) => Err(FileError { row: 1, cause }),
     }
@@ -130,14 +131,14 @@ fn read_third_row(rows: &RowReader<'_>) -> Result<Windows, FileError>
 }
 
 /// What the first three rows say.
-pub fn read_head(rows: &mut RowReader<'_>) -> Result<Head, FileError>
+pub fn read_head(form: PlanForm, rows: &mut RowReader<'_>) -> Result<Head, FileError>
     requires { CanGoOn rows.old }
-    ensures read { IfOk result (λ head. head_of (rows_left rows.old) ≡ Ok head) }
+    ensures read { IfOk result (λ head. head_of form (rows_left rows.old) ≡ Ok head) }
     ensures rest { OnOk result (rows_left rows.new ≡ drop 3 (rows_left rows.old)) }
     ensures sound { OnOk result (CanGoOn rows.new) }
-    ensures fault { IfErr result (λ fault. ButMemory fault.cause (head_of (rows_left rows.old) ≡ Err fault)) }
+    ensures fault { IfErr result (λ fault. ButMemory fault.cause (head_of form (rows_left rows.old) ≡ Err fault)) }
 {
-    check_first_row(rows)?;
+    check_first_row(form, rows)?;
     rows.advance()?;
     let rounds = read_second_row(rows)?;
     rows.advance()?;

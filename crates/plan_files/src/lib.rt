@@ -1,8 +1,9 @@
-//! The plan file and the readings file: files of comma-separated fields, by `csv`.
+//! The plan file, the public plan and the readings file: files of comma-separated fields, by `csv`.
 #![tactic(auto)]
 
 mod entry;
 mod fault;
+mod form;
 mod gathering;
 mod head;
 mod key;
@@ -15,5 +16,5 @@ mod row_reader;
 mod table;
 
 pub use fault::{FileCause, FileError};
-pub use plan::{PlanFile, read_plan};
+pub use plan::{PlanFile, read_plan, read_public};
 pub use readings::read_readings;

@@ -1,18 +1,20 @@
-//! The plan file: a plan, its keys and its lanes.
-ghost use Rattle.std.specs.Prelude.{◌≡◌, ◌≤◌, ◌+◌, ◌^◌, IfErr, IfOk, Ok, Err, length, OnOk, Some, None, MatchResult};
+//! The plan file: a plan, its keys and its lanes; and the public plan, which has neither.
+ghost use Rattle.std.specs.Prelude.{◌≡◌, ◌<◌, ◌≤◌, ◌+◌, ◌^◌, IfErr, IfOk, Ok, Err, length, OnOk, Some, None, MatchResult};
 ghost use Rattle.pair_keys.specs.Keys.{keys_of, table_of};
 ghost use Rattle.plan_files.specs.Faults.{ButMemory};
-ghost use Rattle.plan_files.specs.Gathering.{gathered_by};
+ghost use Rattle.plan_files.specs.Faults.{in_row};
+ghost use Rattle.plan_files.specs.Gathering.{gathered_by, spans_of};
 ghost use Rattle.plan_files.specs.MissingKeys.{first_missing};
-ghost use Rattle.plan_files.specs.PlanFiles.{PlanEnds, completed, plan_from, plan_of, stated_plan, with_entries};
+ghost use Rattle.plan_files.specs.PlanFiles.{OpeningEnds, PlanEnds, PublicEnds, completed, opened_from, place_of, plan_from, plan_of, public_from, public_of, stated_plan, with_entries, with_members};
 ghost use Rattle.plan_files.specs.RowsLeft.{CanGoOn, rows_left};
 
 use crate::entry::{Entry, read_entries};
 use crate::fault::{FileCause, FileError, NO_MEMORY};
+use crate::form::PlanForm;
 use crate::gathering::{Gathering, gather, member_spans, settle};
 use crate::head::{Head, read_groups, read_head};
 use crate::row_reader::RowReader;
-use group_plan::{GroupPlan, Plan};
+use group_plan::{GroupPlan, Plan, SpanError};
 use link_lanes::LaneRow;
 use pair_keys::{KeyError, KeyId, KeyPile, KeyTable};
 use std::alloc::Global;
@@ -26,6 +28,14 @@ pub struct PlanFile {
     pub keys: KeyTable,
     /// The lane rows, in the order of the file.
     pub lanes: Vec<LaneRow>,
+}
+
+/// The plan that the first rows and the groups of a file state, and the rows after these, of which the first is row `first` of the file.
+#[derive(Drop)]
+struct Opening {
+    plan: Plan,
+    first: u32,
+    entries: Vec<Entry>,
 }
 
 /// The plan that the first rows and the groups state.
@@ -102,19 +112,89 @@ fn with_entries(
     complete(plan, gathering)
 }
 
-/// What the rows of a file say.
+/// What the rows of a file say, before the plan judges those after the groups.
+fn read_opening(
+    alloc: Global,
+    form: PlanForm,
+    rows: &mut RowReader<'_>,
+) -> Result<Opening, FileError>
+    requires sound { CanGoOn rows.old }
+    requires few { length (rows_left rows.old) ≤ 2 ^ 28 + 1 }
+    ensures opened { OpeningEnds (opened_from form (rows_left rows.old)) result }
+    ensures few { IfOk result (λ opening. opening.first + length opening.entries.items ≤ 2 ^ 28 + 2) }
+{
+    let head = read_head(form, rows)?;
+    let groups = read_groups(alloc, rows)?;
+    let first = 4 + groups.len() as u32;
+    let entries = read_entries(alloc, form, first, rows)?;
+    let plan = stated_plan(alloc, head, &groups)?;
+    Ok(Opening {
+        plan,
+        first,
+        entries,
+    })
+}
+
+/// What the rows of a plan file say.
 fn plan_from(alloc: Global, rows: &mut RowReader<'_>) -> Result<PlanFile, FileError>
     requires sound { CanGoOn rows.old }
     requires few { length (rows_left rows.old) ≤ 2 ^ 28 + 1 }
     ensures file { PlanEnds (plan_from (rows_left rows.old)) result }
     ensures same { IfOk result (λ file. (table_of file.keys).plan ≡ file.plan) }
 {
-    let head = read_head(rows)?;
-    let groups = read_groups(alloc, rows)?;
-    let first = 4 + groups.len() as u32;
-    let entries = read_entries(alloc, first, rows)?;
-    let plan = stated_plan(alloc, head, &groups)?;
+    let Opening {
+        plan,
+        first,
+        entries,
+    } = read_opening(alloc, PlanForm::Whole, rows)?;
     with_entries(alloc, plan, first, entries)
+}
+
+/// The fault of a member's span in a file whose first span is in this row.
+fn member_fault(first: u32, error: SpanError) -> FileError
+    requires { first + place_of error < 2 ^ 32 }
+    ensures { result ≡ in_row (first + place_of error) (FileCause.Member error) }
+{
+    let place = match error {
+        SpanError::Range(at) => at,
+        SpanError::Twice(at) => at,
+        SpanError::Memory => 0,
+    };
+    FileError {
+        row: first + place,
+        cause: FileCause::Member(error),
+    }
+}
+
+/// The plan with the spans of its members' rows, of which the first is row `first` of the file.
+fn with_members(alloc: Global, plan: Plan, first: u32, entries: &[Entry]) -> Result<Plan, FileError>
+    requires { first + length entries.now ≤ 2 ^ 28 + 2 }
+    ensures { PublicEnds (with_members plan first (spans_of entries.now)) result }
+{
+    let Ok(spans) = member_spans(alloc, entries) else {
+        return Err(NO_MEMORY);
+    };
+    let Ok((plan, fault)) = settle(plan, &spans) else {
+        return Err(NO_MEMORY);
+    };
+    match fault {
+        None => Ok(plan),
+        Some(error) => Err(member_fault(first, error)),
+    }
+}
+
+/// What the rows of a public plan say.
+fn public_from(alloc: Global, rows: &mut RowReader<'_>) -> Result<Plan, FileError>
+    requires sound { CanGoOn rows.old }
+    requires few { length (rows_left rows.old) ≤ 2 ^ 28 + 1 }
+    ensures { PublicEnds (public_from (rows_left rows.old)) result }
+{
+    let Opening {
+        plan,
+        first,
+        entries,
+    } = read_opening(alloc, PlanForm::Public, rows)?;
+    with_members(alloc, plan, first, &entries)
 }
 
 /// What the bytes of a plan file say, or their first fault.
@@ -126,4 +206,14 @@ pub fn read_plan(alloc: Global, bytes: &[u8]) -> Result<PlanFile, FileError>
 {
     let mut rows = RowReader::new(alloc, bytes)?;
     plan_from(alloc, &mut rows)
+}
+
+/// What the bytes of a public plan say, or their first fault.
+#[tactic(auto, unfolding(crate::specs::PlanFiles::public_of))]
+pub fn read_public(alloc: Global, bytes: &[u8]) -> Result<Plan, FileError>
+    requires { length bytes.now ≤ 2 ^ 28 }
+    ensures { PublicEnds (public_of bytes.now) result }
+{
+    let mut rows = RowReader::new(alloc, bytes)?;
+    public_from(alloc, &mut rows)
 }

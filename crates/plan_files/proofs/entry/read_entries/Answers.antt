@@ -12,8 +12,8 @@ returns-in-Err-clause-fault c =
     let rows = rows_left c.loop-row.rows in
     let row = fields_of c.in-Some.row.now in
     but_memory c.in-Err.cause
-    (λ (wrong : entry_of c.loop-row.number row ≡ Err c.in-Err.cause). c.loop-row.invariant.so_far
-    ∙ entries_fault rows (drop 1 rows) c.loop-row.number row c.loop-row.entries.items c.in-Err.cause c.in-Some.ensures wrong)
+    (λ (wrong : entry_of c.args.form c.loop-row.number row ≡ Err c.in-Err.cause). c.loop-row.invariant.so_far
+    ∙ entries_fault c.args.form rows (drop 1 rows) c.loop-row.number row c.loop-row.entries.items c.in-Err.cause c.in-Some.ensures wrong)
     c.in-Err.ensures
 
 pub loop-row-preserved : goal.loop-row-preserved
@@ -32,10 +32,10 @@ loop-row-preserved c =
       number = omega arith;
       long = omega arith;
       so_far = c.loop-row.invariant.so_far
-          ∙ entries_more rows (drop 1 rows) c.loop-row.number row entries c.in-Ok.entry c.in-Some.ensures c.in-Ok.ensures
-          ∙ ap (λ l. after l (entries_from (c.loop-row.number + 1) (drop 1 rows))) (sym items)
-          ∙ ap (λ (l : List (List (List ℕ))). after c.push.new.self.items (entries_from (c.loop-row.number + 1) l)) (sym left);
+          ∙ entries_more c.args.form rows (drop 1 rows) c.loop-row.number row entries c.in-Ok.entry c.in-Some.ensures c.in-Ok.ensures
+          ∙ ap (λ l. after l (entries_from c.args.form (c.loop-row.number + 1) (drop 1 rows))) (sym items)
+          ∙ ap (λ (l : List (List (List ℕ))). after c.push.new.self.items (entries_from c.args.form (c.loop-row.number + 1) l)) (sym left);
     }
 
 pub returns-clause-read : goal.returns-clause-read
-returns-clause-read c = c.loop-row.invariant.so_far ∙ entries_end (rows_left c.loop-row.rows) c.loop-row.number c.loop-row.entries.items (search rules)
+returns-clause-read c = c.loop-row.invariant.so_far ∙ entries_end c.args.form (rows_left c.loop-row.rows) c.loop-row.number c.loop-row.entries.items (search rules)

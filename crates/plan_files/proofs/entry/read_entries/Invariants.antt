@@ -10,7 +10,7 @@ invariant-loop-row l = record {
   sound : CanGoOn l.rows;
   number : l.number + length (rows_left l.rows) ≡ l.first + length (rows_left l.initial.rows);
   long : length l.entries.items + length (rows_left l.rows) ≡ length (rows_left l.initial.rows);
-  so_far : entries_from l.first (rows_left l.initial.rows) ≡ after l.entries.items (entries_from l.number (rows_left l.rows));
+  so_far : entries_from l.fn.form l.first (rows_left l.initial.rows) ≡ after l.entries.items (entries_from l.fn.form l.number (rows_left l.rows));
 }
 
 abbrev pub decreases-loop-row : goal.decreases-loop-row

@@ -9,18 +9,18 @@ pub returns-in_err-check_first_row-clause-fault : goal.returns-in_err-check_firs
 returns-in_err-check_first_row-clause-fault c =
     let rows = rows_left c.args.rows.now in
     let error = c.in_err-check_first_row.field-0.0 in
-    let wrong = no_version rows error (sym c.check_first_row.ensures ∙ c.in_err-check_first_row.was) in
+    let wrong = no_version c.args.form rows error (sym c.check_first_row.ensures ∙ c.in_err-check_first_row.was) in
     let answered : Err error ≡ c.from_residual.result = search rules in
-    subst (λ r. IfErr r (λ fault. ButMemory fault.cause (head_of rows ≡ Err fault))) answered (always error.cause wrong)
+    subst (λ r. IfErr r (λ fault. ButMemory fault.cause (head_of c.args.form rows ≡ Err fault))) answered (always error.cause wrong)
 
 pub returns-in_err-rounds-clause-fault : goal.returns-in_err-rounds-clause-fault
 returns-in_err-rounds-clause-fault c =
     let rows = rows_left c.args.rows.now in
     let second = rows_left c.advance.new.self in
     let error = c.in_err-rounds.field-0.0 in
-    let wrong = no_rounds rows second error (sym c.check_first_row.ensures ∙ c.in_ok-check_first_row.was) c.in_ok-advance.ensures.rows (sym c.read_second_row.ensures ∙ c.in_err-rounds.was) in
+    let wrong = no_rounds c.args.form rows second error (sym c.check_first_row.ensures ∙ c.in_ok-check_first_row.was) c.in_ok-advance.ensures.rows (sym c.read_second_row.ensures ∙ c.in_err-rounds.was) in
     let answered : Err error ≡ c.from_residual-in_err-rounds.result = search rules in
-    subst (λ r. IfErr r (λ fault. ButMemory fault.cause (head_of rows ≡ Err fault))) answered (always error.cause wrong)
+    subst (λ r. IfErr r (λ fault. ButMemory fault.cause (head_of c.args.form rows ≡ Err fault))) answered (always error.cause wrong)
 
 pub returns-in_err-windows-clause-fault : goal.returns-in_err-windows-clause-fault
 returns-in_err-windows-clause-fault c =
@@ -28,15 +28,15 @@ returns-in_err-windows-clause-fault c =
     let second = rows_left c.advance.new.self in
     let third = rows_left c.advance-2.new.self in
     let error = c.in_err-windows.field-0.0 in
-    let wrong = no_windows rows second third c.in_ok-rounds.rounds error (sym c.check_first_row.ensures ∙ c.in_ok-check_first_row.was) c.in_ok-advance.ensures.rows
+    let wrong = no_windows c.args.form rows second third c.in_ok-rounds.rounds error (sym c.check_first_row.ensures ∙ c.in_ok-check_first_row.was) c.in_ok-advance.ensures.rows
     (sym c.read_second_row.ensures ∙ c.in_ok-rounds.was) c.in_ok-advance-2.ensures.rows (sym c.read_third_row.ensures ∙ c.in_err-windows.was) in
     let answered : Err error ≡ c.from_residual-in_err-windows.result = search rules in
-    subst (λ r. IfErr r (λ fault. ButMemory fault.cause (head_of rows ≡ Err fault))) answered (always error.cause wrong)
+    subst (λ r. IfErr r (λ fault. ButMemory fault.cause (head_of c.args.form rows ≡ Err fault))) answered (always error.cause wrong)
 
 pub returns-clause-read : goal.returns-clause-read
 returns-clause-read c =
     let rows = rows_left c.args.rows.now in
     let second = rows_left c.advance.new.self in
     let third = rows_left c.advance-2.new.self in
-    whole_head rows second third c.in_ok-rounds.rounds c.in_ok-windows.windows (sym c.check_first_row.ensures ∙ c.in_ok-check_first_row.was) c.in_ok-advance.ensures.rows
+    whole_head c.args.form rows second third c.in_ok-rounds.rounds c.in_ok-windows.windows (sym c.check_first_row.ensures ∙ c.in_ok-check_first_row.was) c.in_ok-advance.ensures.rows
     (sym c.read_second_row.ensures ∙ c.in_ok-rounds.was) c.in_ok-advance-2.ensures.rows (sym c.read_third_row.ensures ∙ c.in_ok-windows.was)
