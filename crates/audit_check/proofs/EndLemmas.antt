@@ -29,7 +29,7 @@ use Rattle.audit_check.specs.Audits.{lines_in, rows_by_frames, IsFirstImpossible
 use Rattle.audit_check.specs.Ends.{Holds, LinesEnd, IsReplayed, RowsEnd}
 use Rattle.audit_check.specs.Presence.{IsPresenceOf}
 use Rattle.audit_check.specs.Steps.{MayFollow}
-use Rattle.audit_check.proofs.HonestLemmas.{events_lines, explained_possible, possible_explained}
+use Rattle.audit_check.proofs.HonestLemmas.{events_lines, explained_possible, possible_explained, rows_exact}
 use Rattle.audit_check.proofs.PossibleLemmas.{possible-push, possible-pop, possible_up_to}
 
 -- ---- line by line
@@ -138,7 +138,14 @@ rows_held t b holds =
     ∙ ap (λ es. outcome_row (shape_of_lines t.plan.groups (lines_in t)) (contents_of_lines (lines_in t)).total g r (reverse es)) (events_lines t.entries))))
 
 pub audited : (t : TranscriptView) (b : BookView) (rows report : List ReportRow) (result : Result AuditCounts AuditError) → IsReplayed t b → rows ≡ rows_by_frames t → RowsEnd rows report result → AuditEnds t report result
-audited t b rows report (Ok counts) is same ends = record { possible = is.possible; explained = is.explained; report = ends.0 ∙ same; rows_are = ends.1; totals_are = ends.2 }
+audited t b rows report (Ok counts) is same ends = record {
+  possible = is.possible;
+  explained = is.explained;
+  report = ends.0 ∙ same;
+  exact = λ x m explain. ends.0 ∙ same ∙ rows_exact t x m is.limits explain;
+  rows_are = ends.1;
+  totals_are = ends.2;
+}
 audited t b rows report (Err (audit.Row at one other)) is same ends = record { possible = is.possible; first = subst (λ xs. DifferFirst xs report at one other) same ends }
 audited t b rows report (Err (audit.Line n)) is same ends = absurd ends
 audited t b rows report (Err audit.Memory) is same ends = absurd ends

@@ -5,7 +5,7 @@ use Rattle.std.specs.List.{list_all}
 use mathlib.Core.Path.{fun_ext}
 use Rattle.std.proofs.lemmas.List.Elements.{All-head, All-tail}
 use Rattle.group_plan.specs.declared.Kind.TheVariants.{Answer}
-use Rattle.group_plan.specs.Plans.{Group, PlanView, size}
+use Rattle.group_plan.specs.Plans.{Group, PlanView, IsWithinLimits, size}
 use Rattle.transcript_log.specs.declared.Event.{Event}
 use Rattle.transcript_log.specs.declared.Entry.{Entry}
 use Rattle.transcript_log.specs.declared.Line.{Line}
@@ -27,7 +27,7 @@ use Rattle.totals_report.specs.Reports.{report_row, group_rows, report_rows}
 use Rattle.audit_check.specs.declared.answers.AuditCounts.{AuditCounts}
 use Rattle.audit_check.specs.declared.answers.AuditError.{AuditError}
 use Rattle.audit_check.specs.declared.answers.AuditError.TheVariants as audit
-use Rattle.audit_check.specs.Audits.{lines_in, row_by_frames, rows_by_frames, AuditEnds}
+use Rattle.audit_check.specs.Audits.{lines_in, row_by_frames, rows_by_frames, Explain, row_by_readings, AuditEnds}
 use Rattle.audit_check.specs.Statements.{FindsNone, IsHonest, HonestAreAccepted}
 use Rattle.audit_check.proofs.TellLemmas.{opened_agree}
 use Rattle.audit_check.proofs.PossibleLemmas.{possible_up_to}
@@ -124,37 +124,43 @@ rows_same plan f h same =
     (λ g _ group. tabulate_same plan.rounds 0 (λ r. report_row plan g r (f g r)) (λ r. report_row plan g r (h g r))
     (λ r _ round. ap (report_row plan g r) (same g r (omega (arith, group)) (omega (arith, round)))))
 
--- ---- honest runs
+-- ---- readings that explain a transcript
 
-module _ (t : TranscriptView) (x : Readings) (m : Masks) (row_at : ℕ → ℕ → Row) (honest : IsHonest t x m row_at) where
+module _ (t : TranscriptView) (x : Readings) (m : Masks) (limits : IsWithinLimits t.plan) (explain : Explain t x m) where
   abbrev ls : List Line
   ls = lines_in t
 
   bounded : IsBounded t.plan.groups x
-  bounded = record { meters = honest.is_one.plan.limits.meters; readings = honest.small }
+  bounded = record { meters = limits.meters; readings = explain.small }
 
   told : transcript t.plan.groups x m (map event_of ls) ≡ ls
-  told = ap (transcript t.plan.groups x m) (events_lines t.entries) ∙ sym honest.lines
+  told = ap (transcript t.plan.groups x m) (events_lines t.entries) ∙ sym explain.lines
 
   past : after [] (map event_of ls) ≡ reverse (events_of t.entries)
   past = after-reverse (map event_of ls) ∙ ap reverse (events_lines t.entries)
 
-  row_is : (g r : ℕ) → row_by_frames t g r ≡ outcome_row (shape_of_readings t.plan.groups x) (plain_sum x) g r (reverse (events_of t.entries))
+  row_is : (g r : ℕ) → row_by_frames t g r ≡ row_by_readings t x g r
   row_is g r =
       let here = row_agree t.plan.groups (shape_of_readings t.plan.groups x).present (shape_of_lines t.plan.groups ls).present (plain_sum x) (contents_of_lines ls).total g r (after [] (map event_of ls))
-      (shapes_agree t.plan.groups x m ls honest.of_plan bounded told) (totals_told t.plan.groups x m ls honest.of_plan bounded told g r) in
+      (shapes_agree t.plan.groups x m ls explain.of_plan bounded told) (totals_told t.plan.groups x m ls explain.of_plan bounded told g r) in
       ap (outcome_row (shape_of_lines t.plan.groups ls) (contents_of_lines ls).total g r) (sym past) ∙ sym here ∙ ap (outcome_row (shape_of_readings t.plan.groups x) (plain_sum x) g r) past
 
-  rows_are : rows_by_frames t ≡ report_rows t.plan row_at
+  pub rows_exact : rows_by_frames t ≡ report_rows t.plan (row_by_readings t x)
   unfolding rows_by_frames
-  rows_are = rows_same t.plan (row_by_frames t) row_at (λ g r group round. row_is g r ∙ honest.rows g r group round)
+  rows_exact = rows_same t.plan (row_by_frames t) (row_by_readings t x) (λ g r group round. row_is g r)
 
   all_possible : IsPossible t.plan.groups ls
-  all_possible = possible t.plan.groups x m ls honest.of_plan bounded told
+  all_possible = possible t.plan.groups x m ls explain.of_plan bounded told
+
+-- ---- honest runs
+
+module _ (t : TranscriptView) (x : Readings) (m : Masks) (row_at : ℕ → ℕ → Row) (honest : IsHonest t x m row_at) where
+  rows_are : rows_by_frames t ≡ report_rows t.plan row_at
+  rows_are = rows_exact t x m honest.is_one.plan.limits honest.explain ∙ rows_same t.plan (row_by_readings t x) row_at honest.rows
 
   pub finds_none : (result : Result AuditCounts AuditError) → AuditEnds t (report_rows t.plan row_at) result → FindsNone result
   finds_none (Ok counts) ends = tt
-  finds_none (Err (audit.Line n)) ends = ends.2.here (possible_up_to t.plan.groups ls (ends.0 + 1) all_possible)
+  finds_none (Err (audit.Line n)) ends = ends.2.here (possible_up_to t.plan.groups (lines_in t) (ends.0 + 1) (all_possible t x m honest.is_one.plan.limits honest.explain))
   finds_none (Err (audit.Row at one other)) ends = ends.first.differ (sym ends.first.one_is ∙ ap (λ rows. slice_get rows (at - 1)) rows_are ∙ ends.first.other_is)
   finds_none (Err audit.Memory) ends = tt
 

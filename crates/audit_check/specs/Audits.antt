@@ -1,7 +1,9 @@
 -- Audits: what a transcript says by its frames alone, and how the audit of a transcript and a report ends.
-use Rattle.std.specs.Prelude.{◌≡◌, ◌≢◌, ℕ, ◌+◌, ◌-◌, ◌<◌, ◌≤◌, List, length, take, reverse, count_by, slice_get, Option, Result, Ok, Err, ⊤}
+use Rattle.std.specs.Prelude.{◌≡◌, ◌≢◌, ℕ, ◌+◌, ◌-◌, ◌^◌, ◌<◌, ◌≤◌, List, length, take, reverse, count_by, slice_get, Option, Result, Ok, Err, ⊤}
 use Rattle.transcript_log.specs.declared.Line.{Line}
 use Rattle.transcript_log.specs.Events.{lines_of, events_of}
+use Rattle.transcript_log.specs.Tables.{Readings, Masks, reading_at, plain_sum, IsOfPlan}
+use Rattle.transcript_log.specs.Transcript.{shape_of_readings, transcript}
 use Rattle.transcript_log.specs.Frames.{shape_of_lines, contents_of_lines, IsPossible, IsPossibleUpTo}
 use Rattle.transcript_log.specs.Transcripts.{TranscriptView}
 use Rattle.transcript_text.specs.EntryLines.{entry_line}
@@ -28,6 +30,23 @@ row_by_frames t g r = outcome_row (shape_of_lines t.plan.groups (lines_in t)) (c
 unfoldable pub rows_by_frames : TranscriptView → List ReportRow
 rows_by_frames t = report_rows t.plan (row_by_frames t)
 
+-- ---- what readings give
+
+-- these readings, of members alone and within the limits, and these masks explain the lines: the lines are their transcript
+pub record Explain (t : TranscriptView) (x : Readings) (m : Masks) : Type 0 where
+  pub of_plan : IsOfPlan t.plan.groups x
+  pub small : (g r i : ℕ) → reading_at x g r i < 2 ^ 40
+  pub lines : lines_in t ≡ transcript t.plan.groups x m (events_of t.entries)
+
+-- the row of a round by its outcome: its survivors, and where it has a total, the plain sum of their readings
+abbrev pub row_by_readings : TranscriptView → Readings → ℕ → ℕ → Row
+row_by_readings t x g r = outcome_row (shape_of_readings t.plan.groups x) (plain_sum x) g r (reverse (events_of t.entries))
+
+-- whichever readings and masks explain the lines: each total of the rows is the plain sum of these readings over its survivors, and each row's
+-- survivors, missing meters and outcome are those of the lines
+abbrev pub AreExact : TranscriptView → List ReportRow → Type 0
+AreExact t rows = (x : Readings) (m : Masks) → Explain t x m → rows ≡ report_rows t.plan (row_by_readings t x)
+
 -- ---- how an audit ends
 
 -- the lines are possible up to the line of entry k, which is none of them, and no further: no readings and no masks explain them with that line
@@ -45,11 +64,13 @@ pub record DifferFirst (from_frames reported : List ReportRow) (at : ℕ) (one o
   pub other_is : slice_get reported (at - 1) ≡ other
   pub differ : one ≢ other
 
--- the lines are possible, so there are readings and masks of which they are the transcript; and the rows are those that the frames give
+-- the lines are possible, so there are readings and masks of which they are the transcript; the rows are those that the frames give, and exact in
+-- each world of such readings and masks
 pub record IsConfirmed (t : TranscriptView) (rows : List ReportRow) (counts : AuditCounts) : Type 0 where
   pub possible : IsPossible t.plan.groups (lines_in t)
   pub explained : IsExplained t.plan.groups (lines_in t)
   pub report : rows ≡ rows_by_frames t
+  pub exact : AreExact t rows
   pub rows_are : counts.rows ≡ length rows
   pub totals_are : counts.totals ≡ count_by (λ row. is_total row.outcome) rows
 

@@ -1,21 +1,21 @@
 -- What the laws of this crate say. Each is proved for every plan and all lines.
-use Rattle.std.specs.Prelude.{◌≡◌, ℕ, ◌+◌, ◌^◌, ◌<◌, true, List, [], ◌++◌, length, map, reverse, Result, Ok, Err, ⊤}
+use Rattle.std.specs.Prelude.{◌≡◌, ℕ, ◌+◌, ◌<◌, true, List, [], ◌++◌, length, map, Result, Ok, Err, ⊤}
 use Rattle.group_plan.specs.Plans.{Group}
 use Rattle.transcript_log.specs.declared.Line.{Line}
-use Rattle.transcript_log.specs.Events.{event_of, events_of}
-use Rattle.transcript_log.specs.Tables.{Readings, Masks, reading_at, plain_sum, IsOfPlan}
+use Rattle.transcript_log.specs.Events.{event_of}
+use Rattle.transcript_log.specs.Tables.{Readings, Masks}
 use Rattle.transcript_log.specs.Schedule.{Shape, is_opened, survivors}
-use Rattle.transcript_log.specs.Transcript.{lines_after, shape_of_readings, transcript}
+use Rattle.transcript_log.specs.Transcript.{lines_after}
 use Rattle.transcript_log.specs.Frames.{shape_of_lines, contents_of_lines, IsPossible, IsPossibleUpTo}
 use Rattle.transcript_log.specs.Journal.{past_of}
 use Rattle.transcript_log.specs.Transcripts.{TranscriptView, IsTranscript}
 use Rattle.group_book.specs.Replay.{IsJournal}
-use Rattle.run_rows.specs.Report.{Row, outcome_row}
+use Rattle.run_rows.specs.Report.{Row}
 use Rattle.totals_report.specs.Reports.{report_rows}
 use Rattle.audit_check.specs.declared.answers.AuditCounts.{AuditCounts}
 use Rattle.audit_check.specs.declared.answers.AuditError.{AuditError}
 use Rattle.audit_check.specs.declared.answers.AuditError.TheVariants as audit
-use Rattle.audit_check.specs.Audits.{lines_in, AuditEnds}
+use Rattle.audit_check.specs.Audits.{Explain, row_by_readings, AuditEnds}
 
 -- ---- possible lines
 
@@ -51,11 +51,8 @@ FindsNone (Err _) = ⊥
 -- the lines are the transcript of these readings under these masks, and each row of the report is that of its round's outcome, with the plain sum
 pub record IsHonest (t : TranscriptView) (x : Readings) (m : Masks) (row_at : ℕ → ℕ → Row) : Type 0 where
   pub is_one : IsTranscript t
-  pub of_plan : IsOfPlan t.plan.groups x
-  pub small : (g r i : ℕ) → reading_at x g r i < 2 ^ 40
-  pub lines : lines_in t ≡ transcript t.plan.groups x m (events_of t.entries)
-  pub rows : (g r : ℕ) → g < length t.plan.groups → r < t.plan.rounds →
-      outcome_row (shape_of_readings t.plan.groups x) (plain_sum x) g r (reverse (events_of t.entries)) ≡ row_at g r
+  pub explain : Explain t x m
+  pub rows : (g r : ℕ) → g < length t.plan.groups → r < t.plan.rounds → row_by_readings t x g r ≡ row_at g r
 
 -- an honest transcript and its report are accepted
 abbrev pub HonestAreAccepted : Type 0

@@ -176,19 +176,19 @@ run_calm cupboard names v w outcome good (inr (p, r, p_read, r_read, inr (texts,
 audited_same : (transcript report : List ℕ) (v : View) (good : AuditAccepts transcript report v) (tb rb : List ℕ) (t : TranscriptView) (rows : List ReportRow)
     → IsRead (v.held transcript) tb → IsRead (v.held report) rb → AreAuditTexts tb rb t rows → (good.lines ≡ t) × (good.rows ≡ rows)
 audited_same transcript report v good tb rb t rows t_read r_read texts = (
-  ok_same (read_of Two tb) good.lines t (ap (read_of Two) (sym (read_is v transcript good.transcript_bytes tb good.transcript_file t_read)) ∙ good.texts.transcript) texts.transcript,
-  ok_same (rows_of_text rb) good.rows rows (ap rows_of_text (sym (read_is v report good.report_bytes rb good.report_file r_read)) ∙ good.texts.report) texts.report,
+  ok_same (read_of Two tb) good.lines t (ap (read_of Two) (sym (read_is v transcript good.transcript_bytes tb good.transcript_file t_read)) ∙ good.transcript_read) texts.transcript,
+  ok_same (rows_of_text rb) good.rows rows (ap rows_of_text (sym (read_is v report good.report_bytes rb good.report_file r_read)) ∙ good.report_read) texts.report,
 )
 
 transcript_not_refused : (transcript report : List ℕ) (v : View) (good : AuditAccepts transcript report v) (tb : List ℕ) (fault : ReadError)
     → IsRead (v.held transcript) tb → read_of Two tb ≡ Err fault → ⊥
 transcript_not_refused transcript report v good tb fault t_read bad =
-    ok_or_err (read_of Two tb) good.lines fault (ap (read_of Two) (sym (read_is v transcript good.transcript_bytes tb good.transcript_file t_read)) ∙ good.texts.transcript) bad
+    ok_or_err (read_of Two tb) good.lines fault (ap (read_of Two) (sym (read_is v transcript good.transcript_bytes tb good.transcript_file t_read)) ∙ good.transcript_read) bad
 
 report_not_refused : (transcript report : List ℕ) (v : View) (good : AuditAccepts transcript report v) (rb : List ℕ) (line : ℕ)
     → IsRead (v.held report) rb → rows_of_text rb ≡ Err line → ⊥
 report_not_refused transcript report v good rb line r_read bad =
-    ok_or_err (rows_of_text rb) good.rows line (ap rows_of_text (sym (read_is v report good.report_bytes rb good.report_file r_read)) ∙ good.texts.report) bad
+    ok_or_err (rows_of_text rb) good.rows line (ap rows_of_text (sym (read_is v report good.report_bytes rb good.report_file r_read)) ∙ good.report_read) bad
 
 -- possible lines have no first impossible one
 all_possible : (t : TranscriptView) (k : ℕ) → IsPossible t.plan.groups (lines_in t) → IsFirstImpossible t k → ⊥

@@ -3,6 +3,7 @@ mod PartsLemmas
 pub mod AcceptedLemmas
 mod CommandEndings
 mod CupboardLemmas
+mod MadePlanLemmas
 pub mod RunLemmas
 pub mod StoredLemmas
 mod StreamLemmas

@@ -27,9 +27,11 @@ honest : (cupboard : List Meaning) (p r : List ℕ) (texts : Texts) (made : Make
     → IsHonest (transcript_in made.values made.entries) (readings_in made.values) (streams made.values.file.keys) (row_in made.values made.entries)
 honest cupboard p r texts made = record {
   is_one = made.told.sound;
-  of_plan = made.sound.table.of_members;
-  small = (bounded (plan_in made.values) made.values.readings.table made.sound.limits made.sound.table).readings;
-  lines = made.run.lines;
+  explain = record {
+    of_plan = made.sound.table.of_members;
+    small = (bounded (plan_in made.values) made.values.readings.table made.sound.limits made.sound.table).readings;
+    lines = made.run.lines;
+  };
   rows = made.run.rows;
 }
 
@@ -49,7 +51,13 @@ pub runs_are_confirmed : RunsAreConfirmed
 runs_are_confirmed cupboard p r texts made = record {
   transcript = transcript_in made.values made.entries;
   rows = report_rows (plan_in made.values) (row_in made.values made.entries);
-  read = record { sound = made.told.sound; transcript = made.told.read_back; report = made.told.rows_back };
+  read = record {
+    sound = made.told.sound;
+    transcript_is = made.told.transcript;
+    transcript = made.told.read_back;
+    report_is = made.told.report;
+    report = made.told.rows_back;
+  };
   none = no_fault cupboard p r texts made;
 }
 

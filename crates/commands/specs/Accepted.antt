@@ -4,10 +4,12 @@ use Rattle.desk_outside.specs.Desk.{View, Rose}
 use Rattle.link_lanes.specs.Lanes.{Meaning, Slot}
 use Rattle.link_lanes.specs.Fits.{hung_by}
 use Rattle.transcript_log.specs.Frames.{IsPossible}
+use Rattle.totals_report.specs.Reading.{rows_of_text}
 use Rattle.totals_report.specs.declared.row.ReportRow.{ReportRow}
 use Rattle.audit_check.specs.Audits.{lines_in, rows_by_frames}
-use Rattle.transcript_text.specs.declared.version.Version.TheVariants.{One}
+use Rattle.transcript_text.specs.declared.version.Version.TheVariants.{One, Two}
 use Rattle.transcript_log.specs.Transcripts.{TranscriptView}
+use Rattle.transcript_text.specs.Heads.{read_of}
 use Rattle.transcript_text.specs.ReadBack.{HasText}
 use Rattle.transcript_text.specs.Spelling.{text_of}
 use Rattle.group_plan.specs.Tables.{reading}
@@ -18,7 +20,6 @@ use Rattle.twin_worlds.specs.Twins.{IsRecord}
 use Rattle.command_words.specs.Words.{RunNames, TwinNames, Size, Command, Run, Audit, Twin, Make, Load, Convert, Help, Version}
 use Rattle.commands.specs.Calls.{most_bytes}
 use Rattle.commands.specs.Ends.{made_file_of}
-use Rattle.commands.specs.Audits.{AreAuditTexts}
 use Rattle.commands.specs.Twins.{TwinBytes, TwinValues, AreTwinValues}
 use Rattle.commands.specs.Runs.{Values, AreValues}
 
@@ -44,7 +45,8 @@ pub record AuditAccepts (transcript report : List ℕ) (v : View) : Type 0 where
   pub report_file : HoldsFile v report report_bytes
   pub lines : TranscriptView
   pub rows : List ReportRow
-  pub texts : AreAuditTexts transcript_bytes report_bytes lines rows
+  pub transcript_read : read_of Two transcript_bytes ≡ Ok lines
+  pub report_read : rows_of_text report_bytes ≡ Ok rows
   pub possible : IsPossible lines.plan.groups (lines_in lines)
   pub given : rows ≡ rows_by_frames lines
 

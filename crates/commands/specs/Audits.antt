@@ -3,8 +3,10 @@ use Rattle.std.specs.Prelude.{◌≡◌, ℕ, List, Result, Ok, Err, ⊤}
 use Rattle.link_lanes.specs.Lanes.{Meaning}
 use Rattle.transcript_text.specs.declared.version.Version.TheVariants.{Two}
 use Rattle.transcript_log.specs.Transcripts.{TranscriptView, IsTranscript}
+use Rattle.transcript_text.specs.Spelling.{transcript_text}
 use Rattle.transcript_text.specs.Heads.{read_of}
 use Rattle.totals_report.specs.declared.row.ReportRow.{ReportRow}
+use Rattle.totals_report.specs.Texts.{rows_text}
 use Rattle.totals_report.specs.Reading.{rows_of_text}
 use Rattle.audit_check.specs.declared.answers.AuditCounts.{AuditCounts}
 use Rattle.audit_check.specs.declared.answers.AuditError.{AuditError}
@@ -15,10 +17,12 @@ use Rattle.command_words.specs.declared.outcome.Outcome.{Outcome}
 use Rattle.command_words.specs.declared.outcome.Outcome.TheVariants.{NoMemory, BadTranscript, BadReport, Impossible, OtherRow}
 use Rattle.commands.specs.Runs.{Texts, Makes}
 
--- the bytes are those of a transcript and of a report with these rows
+-- the bytes are the texts of a transcript and of a report with these rows, and are read as these
 pub record AreAuditTexts (transcript_bytes report_bytes : List ℕ) (t : TranscriptView) (rows : List ReportRow) : Type 0 where
   pub sound : IsTranscript t
+  pub transcript_is : transcript_bytes ≡ transcript_text t
   pub transcript : read_of Two transcript_bytes ≡ Ok t
+  pub report_is : report_bytes ≡ rows_text rows
   pub report : rows_of_text report_bytes ≡ Ok rows
 
 -- both texts are read, and this is what the audit of them answers

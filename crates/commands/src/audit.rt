@@ -3,8 +3,10 @@
 ghost use Rattle.std.specs.Prelude.{◌≡◌, ◌≤◌, ℕ, List, Ok, IfOk, IfErr, string_bytes};
 ghost use Rattle.desk_outside.specs.Desk.{Rose};
 ghost use Rattle.transcript_text.specs.declared.version.Version.TheVariants.{Two};
+ghost use Rattle.transcript_text.specs.Spelling.{transcript_text};
 ghost use Rattle.transcript_text.specs.Heads.{read_of};
 ghost use Rattle.transcript_log.specs.Transcripts.{TranscriptView, IsTranscript};
+ghost use Rattle.totals_report.specs.Texts.{rows_text};
 ghost use Rattle.totals_report.specs.Reading.{rows_of_text};
 ghost use Rattle.commands.specs.Ends.{audited_line, AuditCommandEnds};
 ghost use Rattle.command_words.specs.Outcomes.{IsFault};
@@ -22,6 +24,7 @@ use transcript_text::{ReadError, read};
 // The transcript of this name's bytes, or how the command ends.
 fn transcript_of<'a>(alloc: Global, name: &'a str, bytes: &[u8]) -> Result<Transcript, Outcome<'a>>
     ensures sound { IfOk result (λ transcript. IsTranscript transcript) }
+    ensures text { IfOk result (λ transcript. bytes.now ≡ transcript_text transcript) }
     ensures value { IfOk result (λ transcript. read_of Two bytes.now ≡ Ok transcript) }
     ensures refused { (report rb : List ℕ) → IfErr result (λ outcome. AuditRefuses name.now report bytes.now rb outcome) }
     ensures no_fault { IfErr result (λ outcome. ¬ IsFault outcome) }
@@ -35,6 +38,7 @@ fn transcript_of<'a>(alloc: Global, name: &'a str, bytes: &[u8]) -> Result<Trans
 
 // The report of this name's bytes, or how the command ends where the transcript's bytes are read.
 fn report_of<'a>(alloc: Global, name: &'a str, bytes: &[u8]) -> Result<Report, Outcome<'a>>
+    ensures text { IfOk result (λ rows. bytes.now ≡ rows_text rows) }
     ensures value { IfOk result (λ rows. rows_of_text bytes.now ≡ Ok rows) }
     ensures refused { (transcript tb : List ℕ) (t : TranscriptView) → read_of Two tb ≡ Ok t → IfErr result (λ outcome. AuditRefuses transcript name.now tb bytes.now outcome) }
     ensures no_fault { IfErr result (λ outcome. ¬ IsFault outcome) }

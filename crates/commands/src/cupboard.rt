@@ -4,7 +4,7 @@ ghost use Rattle.std.specs.Prelude.{◌≡◌, ◌↔◌, None, map, string_byte
 ghost use Rattle.command_words.specs.Words.{command_of};
 ghost use Rattle.commands.specs.Accepted.{AcceptedIsDone};
 ghost use Rattle.commands.specs.Promise.{EndsAndTells};
-ghost use Rattle.commands.specs.Cupboard.{full_cupboard};
+ghost use Rattle.commands.specs.Cupboard.{full_cupboard, MadeFilesAreDone, MadePlansGetLanes};
 
 use crate::program::meteragg;
 use collector_workers::Gate;
@@ -35,6 +35,9 @@ pub fn with_lanes<R: Threads + Wait + Sync, D: Desk, G: Gate>(
     ensures ends { IfOk result (λ status. EndsAndTells full_cupboard (command_of (map string_bytes words.now)) (D.view desk.old) (D.view desk.new) (D.faults desk.old) (D.faults desk.new) status) }
     ensures accepted { IfOk result (λ status. AcceptedIsDone full_cupboard (command_of (map string_bytes words.now)) (D.view desk.old) (D.faults desk.old) (D.faults desk.new) status) }
     ensures words { IfOk result (λ status. (status ≡ 2) ↔ (command_of (map string_bytes words.now) ≡ None)) }
+    // What `make` writes gets its lanes and is run.
+    ensures lanes { IfOk result (λ status. MadePlansGetLanes (command_of (map string_bytes words.now)) (D.view desk.old) status) }
+    ensures made { IfOk result (λ status. MadeFilesAreDone (command_of (map string_bytes words.now)) (D.view desk.old) (D.faults desk.old) (D.faults desk.new) status) }
     ensures no_memory { OnErr result (desk.new ≡ desk.old) }
 {
     let mut cupboard: Vec<Box<dyn Lane>> = Vec::new(alloc);

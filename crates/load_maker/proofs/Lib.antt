@@ -1,4 +1,5 @@
 pub mod DrawLemmas
+pub mod MadeLane
 pub mod MadeLengths
 pub mod MadePlan
 pub mod MadeReadings

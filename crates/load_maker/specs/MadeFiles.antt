@@ -1,5 +1,6 @@
 -- The files of the load maker are read as what they say.
-use Rattle.std.specs.Prelude.{◌≡◌, ℕ, ◌<◌, ◌≤◌, ◌^◌, true, length, Ok}
+use Rattle.std.specs.Prelude.{◌≡◌, ℕ, ◌<◌, ◌≤◌, ◌^◌, ◌++◌, true, length, Some, Ok, codes, decimal}
+use Rattle.link_lanes.specs.Kinds.{chances_of}
 use Rattle.plan_files.specs.PlanFiles.{plan_of}
 use Rattle.plan_files.specs.Readings.{readings_of}
 use Rattle.plan_files.specs.Spelling.{plan_text, readings_text}
@@ -16,3 +17,7 @@ pub record AreRead (seed groups meters rounds : ℕ) : Type 0 where
 -- so it is for every seed and all numbers within the limits
 abbrev pub MadeFilesAreRead : Type 0
 MadeFilesAreRead = (seed groups meters rounds : ℕ) → seed < 2 ^ 64 → is_within groups meters rounds ≡ true → AreRead seed groups meters rounds
+
+-- the argument of the made lane row says the seed, and that of 1000 posts 5 are lost and 10 doubled, with delays of 1 and 2
+abbrev pub MadeLaneFits : Type 0
+MadeLaneFits = (seed : ℕ) → seed < 2 ^ 64 → chances_of (decimal seed ++ codes ":5:10:2") ≡ Some (record { seed = seed; loss = 5; again = 10; spread = 2 })

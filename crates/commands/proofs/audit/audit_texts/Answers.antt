@@ -9,6 +9,8 @@ returns-in-Err-report_of-clause-ends c = c.in-Err-report_of.ensures.refused _ _ 
 pub returns-clause-ends : goal.returns-clause-ends
 returns-clause-ends c = c.audit_values.ensures.ends _ _ _ (record {
   sound = c.in-Ok.ensures.sound;
+  transcript_is = c.in-Ok.ensures.text;
   transcript = c.in-Ok.ensures.value;
+  report_is = c.in-Ok-report_of.ensures.text;
   report = c.in-Ok-report_of.ensures.value;
 })

@@ -5,6 +5,7 @@ use Rattle.link_lanes.specs.MadeLanes.{clear_lane, rules_lane, seeded_lane, ever
 use Rattle.commands.specs.Cupboard.{four}
 use Rattle.command_words.specs.Words.{command_of}
 use Rattle.commands.proofs.CupboardLemmas.{boxed, one_more, ends_with_full, done_with_full}
+use Rattle.commands.proofs.MadePlanLemmas.{made_files_are_done, made_plans_get_lanes}
 use Rattle.commands.proofs.cupboard.with_lanes.OwnLists.{own-1}
 use Rattle.commands.proofs.cupboard.with_lanes.Goals as goal
 
@@ -40,3 +41,13 @@ returns-clause-ends g c =
 pub returns-clause-accepted : goal.returns-clause-accepted
 returns-clause-accepted g c =
     done_with_full _ _ (command_of (map string_bytes c.args.words.now)) _ _ _ _ c.loop-5.invariant (omega arith) c.meteragg.ensures.accepted
+
+pub returns-clause-lanes : goal.returns-clause-lanes
+returns-clause-lanes g c =
+    made_plans_get_lanes (command_of (map string_bytes c.args.words.now)) _ _ _ _ _
+    (ends_with_full _ _ (command_of (map string_bytes c.args.words.now)) _ _ _ _ _ c.loop-5.invariant (omega arith) c.meteragg.ensures.ends)
+
+pub returns-clause-made : goal.returns-clause-made
+returns-clause-made g c =
+    made_files_are_done (command_of (map string_bytes c.args.words.now)) _ _ _ _
+    (done_with_full _ _ (command_of (map string_bytes c.args.words.now)) _ _ _ _ c.loop-5.invariant (omega arith) c.meteragg.ensures.accepted)
