@@ -164,6 +164,53 @@ fn frames_outside_plan(rt: HostRuntime) -> Result<(), Fail> {
     check_outside(&rt, &mut book)
 }
 
+// The set of meter 2 alone.
+fn third() -> MeterSet {
+    MeterSet::empty().with(2)
+}
+
+// Takes the readings of meters 0 and 1, closes the round, and takes the others then.
+fn check_late(rt: &impl Abort, book: &mut Book) -> Result<(), Fail> {
+    check_readings(rt, book)?;
+    check_take(rt, book, &reading_frame(0, 122), &Ok(Verdict::Fresh))?;
+    check_take(rt, book, &reading_frame(1, 226), &Ok(Verdict::Fresh))?;
+    check_close(rt, book, &Closing::Announced(third()))?;
+    check_take(rt, book, &reading_frame(2, 312), &Ok(Verdict::Late))?;
+    check_take(rt, book, &reading_frame(0, 122), &Ok(Verdict::Again))
+}
+
+// A frame of a meter to the missing set, which is sent and taken.
+fn check_reached(
+    rt: &impl Abort,
+    book: &mut Book,
+    kind: Kind,
+    meter: u8,
+    word: u64,
+) -> Result<(), Fail> {
+    let sent = frame(kind, meter, third(), word);
+    check_send(rt, book, sent, &SendAnswer::Sent)?;
+    check_take(rt, book, &sent, &Ok(Verdict::Fresh))
+}
+
+// Announces the missing meter to the others, which answer.
+fn check_answered(rt: &impl Abort, book: &mut Book) -> Result<(), Fail> {
+    check_reached(rt, book, Kind::Announcement, 0, 0)?;
+    check_reached(rt, book, Kind::Announcement, 1, 0)?;
+    let missing = frame(Kind::Announcement, 2, third(), 0);
+    check_send(rt, book, missing, &SendAnswer::NotAllowed)?;
+    check_reached(rt, book, Kind::Answer, 0, 107)?;
+    check_reached(rt, book, Kind::Answer, 1, 211)?;
+    check_end(rt, book, &Ending::Total(30))?;
+    check_end(rt, book, &Ending::Already)
+}
+
+#[test]
+fn late_reading_left_out(rt: HostRuntime) -> Result<(), Fail> {
+    let mut book = book_of_north(rt.alloc(), &[10, 20, 30], 21)?;
+    check_late(&rt, &mut book)?;
+    check_answered(&rt, &mut book)
+}
+
 fn are_same(lines: &Lines, others: &Lines) -> bool {
     if lines.len() != others.len() {
         return false;

@@ -1,6 +1,6 @@
 //! Worked rows of the book, of what feeds it and of what is made of it: sets, frames, rounds, meters, mask words, the link,
-//! workers, whole runs, the report of a book, the plain program that the book is compared with, and the worlds of a twin. They
-//! are tests alone, in modules that are named after the crates below; those of plans, lanes, texts and files are in `file_rows`.
+//! workers, whole runs, the report of a book, and the worlds of a twin. They are tests alone, in modules that are named after the
+//! crates below; those of plans, lanes, texts and files are in `file_rows`.
 //! They stand here because a crate that has tests is proved twice, so those crates have none of their own.
 #![tactic(auto)]
 
@@ -23,10 +23,6 @@ mod meter_frames_rows;
 #[cfg(test)]
 mod missing_round_rows;
 #[cfg(test)]
-mod plain_transcript_book_rows;
-#[cfg(test)]
-mod plain_transcript_rows;
-#[cfg(test)]
 mod round_machine_rows;
 #[cfg(test)]
 mod shared_book_rows;
@@ -38,7 +34,5 @@ mod totals_report_book_rows;
 mod transcripts;
 #[cfg(test)]
 mod twin_worlds_rows;
-#[cfg(test)]
-mod twin_worlds_schedule_rows;
 #[cfg(test)]
 mod twin_worlds_table_rows;

@@ -399,3 +399,43 @@ fn bad_words(rt: HostRuntime) -> Result<(), Fail> {
     }
     Ok(())
 }
+
+// Names with bytes that a terminal may obey. Each row: the failing call, the words, the status, and the complaint.
+static NAMES: [(u64, &str, u8, &str); 7] = [
+    (9, "run a\nb c r t", 3, "cannot read a\\x0ab"),
+    (9, "audit \x1b[31mred c", 3, "cannot read \\x1b[31mred"),
+    (
+        9,
+        "audit \x7f\x1f\\x1b~é c",
+        3,
+        "cannot read \\x7f\\x1f\\x1b~é",
+    ),
+    (0, "make 1 1 2 1 p\r\n q", 4, "cannot write p\\x0d\\x0a"),
+    (9, "run x\ty c r t", 5, "x\\x09y row 1: Row"),
+    (9, "audit x\ty c", 7, "x\\x09y line 1: Head"),
+    (9, "convert x\ty c", 7, "x\\x09y line 1: Head"),
+];
+
+// Runs the program on these words, at a desk that fails a call, and holds two files that are neither plans nor texts.
+fn check_shown_name(
+    rt: &(impl Threads + Wait + Abort + Sync),
+    alloc: Global,
+    failing: u64,
+    words: &str,
+    status: u8,
+    complaint: &str,
+) -> Result<(), Fail> {
+    let mut desk = MemoryDesk::new(Vec::from_slice(alloc, &[failing])?);
+    desk.place("x\ty", b"x\n")?;
+    desk.place("c", b"x\n")?;
+    check_refused(rt, alloc, words, &mut desk, status, complaint, complaint)
+}
+
+#[test]
+fn names_of_many_lines(rt: HostRuntime) -> Result<(), Fail> {
+    for case in NAMES.iter() {
+        let (failing, words, status, complaint) = *case;
+        check_shown_name(&rt, rt.alloc(), failing, words, status, complaint)?;
+    }
+    Ok(())
+}

@@ -1,6 +1,8 @@
 -- How a command ends: its status and its complaint.
-use Rattle.std.specs.Prelude.{ℕ, List, [], ◌++◌, codes, Option, Some, None, ⊤}
+use Rattle.std.specs.Prelude.{ℕ, ◌==◌, ◌||◌, nat_lt, if◌then◌else◌, Bool, List, [], ◌∷◌, ◌++◌, codes, Option, Some, None, ⊤}
 use Rattle.std.specs.Fmt.{decimal}
+use Rattle.std.specs.List.{flat_map}
+use Rattle.hex.specs.Hex.{encode_lower}
 use Rattle.plan_files.specs.declared.fault.FileError.{FileError}
 use Rattle.command_words.specs.declared.outcome.Outcome.{Outcome}
 use Rattle.command_words.specs.declared.outcome.Outcome.TheVariants.{Done, NoMemory, BadWords, CannotRead, TooLong, CannotWrite, CannotPrint, BadPlan, BadReadings, BadTranscript, BadReport, Impossible, OtherRow, OtherPlan, OtherLine, OtherPresence, OtherTotal, BadLane}
@@ -32,15 +34,27 @@ status_of (OtherPresence group round meter) = 8
 status_of (OtherTotal group round first second) = 8
 status_of (BadLane fault) = 10
 
+-- a byte that a terminal may obey: it is below 0x20, or 0x7f
+abbrev pub is_control : ℕ → Bool
+is_control c = nat_lt c 0x20 || (c == 0x7f)
+
+-- a byte of a name as a complaint shows it: `\x` and two hexadecimal digits for one that a terminal may obey
+abbrev pub shown_byte : ℕ → List ℕ
+shown_byte c = if is_control c then codes "\\x" ++ encode_lower (c ∷ []) else c ∷ []
+
+-- a name as a complaint shows it
+unfoldable pub shown_name : List ℕ → List ℕ
+shown_name name = flat_map shown_byte name
+
 -- the complaint of a file: its name, the row, and the cause
 unfoldable pub file_complaint : List ℕ → FileError → List ℕ
 file_complaint name fault =
-    codes "meteragg: " ++ (name ++ (codes " row " ++ (decimal fault.row ++ (codes ": " ++ (cause_text fault.cause ++ codes "\n")))))
+    codes "meteragg: " ++ (shown_name name ++ (codes " row " ++ (decimal fault.row ++ (codes ": " ++ (cause_text fault.cause ++ codes "\n")))))
 
 -- the complaint of a line of a file
 unfoldable pub line_complaint : List ℕ → ℕ → List ℕ → List ℕ
 line_complaint name line cause =
-    codes "meteragg: " ++ (name ++ (codes " line " ++ (decimal line ++ (codes ": " ++ (cause ++ codes "\n")))))
+    codes "meteragg: " ++ (shown_name name ++ (codes " line " ++ (decimal line ++ (codes ": " ++ (cause ++ codes "\n")))))
 
 -- a row of a report, as its line, or `nothing` for a row that is not there
 unfoldable pub row_or_nothing : Option ReportRow → List ℕ
@@ -57,9 +71,9 @@ unfoldable pub complaint_of : Outcome → List ℕ
 complaint_of Done = []
 complaint_of NoMemory = codes "meteragg: no memory\n"
 complaint_of BadWords = codes "meteragg: bad words\n"
-complaint_of (CannotRead name) = codes "meteragg: cannot read " ++ name.now ++ codes "\n"
-complaint_of (TooLong name) = codes "meteragg: " ++ name.now ++ codes " is longer than 268435456 bytes\n"
-complaint_of (CannotWrite name) = codes "meteragg: cannot write " ++ name.now ++ codes "\n"
+complaint_of (CannotRead name) = codes "meteragg: cannot read " ++ (shown_name name.now ++ codes "\n")
+complaint_of (TooLong name) = codes "meteragg: " ++ (shown_name name.now ++ codes " is longer than 268435456 bytes\n")
+complaint_of (CannotWrite name) = codes "meteragg: cannot write " ++ (shown_name name.now ++ codes "\n")
 complaint_of CannotPrint = codes "meteragg: cannot print\n"
 complaint_of (BadPlan name fault) = file_complaint name.now fault
 complaint_of (BadReadings name fault) = file_complaint name.now fault
@@ -67,7 +81,7 @@ complaint_of (BadTranscript name fault) = line_complaint name.now (fault_line fa
 complaint_of (BadReport name line) = line_complaint name.now line (codes "Line")
 complaint_of (Impossible name line) = line_complaint name.now line (codes "impossible")
 complaint_of (OtherRow at from_frames reported) = row_complaint at from_frames reported
-complaint_of (OtherPlan name) = codes "meteragg: " ++ name.now ++ codes ": other plan\n"
+complaint_of (OtherPlan name) = codes "meteragg: " ++ (shown_name name.now ++ codes ": other plan\n")
 complaint_of (OtherLine name line expected) = line_complaint name.now line (codes "expected " ++ entry_text Two expected)
 complaint_of (OtherPresence group round meter) =
     codes "meteragg: presence " ++ (decimal group ++ (codes " " ++ (decimal round ++ (codes " " ++ (decimal meter ++ codes "\n")))))
@@ -75,26 +89,29 @@ complaint_of (OtherTotal group round first second) =
     codes "meteragg: total " ++ (decimal group ++ (codes " " ++ (decimal round ++ (codes " " ++ (decimal first ++ (codes " " ++ (decimal second ++ codes "\n")))))))
 complaint_of (BadLane fault) = codes "meteragg: lane row " ++ (decimal fault.row ++ (codes ": " ++ (rack_cause_name fault.cause ++ codes "\n")))
 
--- the outcomes whose complaint is a text of its own, without a row of a report or a line of a transcript
+-- the outcomes whose complaint names no file and tells no row of a report
 abbrev pub IsText : Outcome → Type 0
-IsText (OtherRow at from_frames reported) = ⊥
 IsText Done = ⊤
 IsText NoMemory = ⊤
 IsText BadWords = ⊤
-IsText (CannotRead name) = ⊤
-IsText (TooLong name) = ⊤
-IsText (CannotWrite name) = ⊤
 IsText CannotPrint = ⊤
-IsText (BadPlan name fault) = ⊤
-IsText (BadReadings name fault) = ⊤
-IsText (BadTranscript name fault) = ⊤
-IsText (BadReport name line) = ⊤
-IsText (Impossible name line) = ⊤
-IsText (OtherPlan name) = ⊤
-IsText (OtherLine name line expected) = ⊥
 IsText (OtherPresence group round meter) = ⊤
 IsText (OtherTotal group round first second) = ⊤
 IsText (BadLane fault) = ⊤
+IsText other = ⊥
+
+-- the outcomes whose complaint is a file's name and what is wrong with the file
+abbrev pub HasName : Outcome → Type 0
+HasName (CannotRead name) = ⊤
+HasName (TooLong name) = ⊤
+HasName (CannotWrite name) = ⊤
+HasName (BadPlan name fault) = ⊤
+HasName (BadReadings name fault) = ⊤
+HasName (BadTranscript name fault) = ⊤
+HasName (BadReport name line) = ⊤
+HasName (Impossible name line) = ⊤
+HasName (OtherPlan name) = ⊤
+HasName other = ⊥
 
 -- an expected line has a text
 abbrev pub HasComplaint : Outcome → Type 0

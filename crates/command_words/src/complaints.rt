@@ -1,9 +1,9 @@
 //! The texts of complaints.
 
-ghost use Rattle.std.specs.Prelude.{◌≡◌, ◌++◌, IfOk, codes, string_bytes};
+ghost use Rattle.std.specs.Prelude.{◌≡◌, ◌++◌, IfOk, OnOk, codes, string_bytes};
 ghost use Rattle.command_words.specs.Causes.{key_text, plan_error_name, span_error_name, key_error_text, cause_text, rack_cause_name, read_error_name};
 ghost use Rattle.transcript_text.specs.Faults.{fault_line};
-ghost use Rattle.command_words.specs.Outcomes.{file_complaint, line_complaint, row_or_nothing, row_complaint, IsText, HasComplaint, complaint_of};
+ghost use Rattle.command_words.specs.Outcomes.{HasComplaint, HasName, IsText, complaint_of, file_complaint, line_complaint, row_complaint, row_or_nothing, shown_byte, shown_name};
 ghost use Rattle.transcript_text.specs.declared.version.Version.TheVariants.{Two};
 ghost use Rattle.transcript_text.specs.Spelling.{entry_text};
 ghost use Rattle.transcript_text.specs.Writing.{IsWritable};
@@ -17,6 +17,32 @@ use std::alloc::{AllocError, Global};
 use totals_report::{ReportRow, row_text};
 use transcript_log::Entry;
 use transcript_text::{ReadError, line_text};
+
+// Adds a byte of a name as a complaint shows it.
+fn push_shown(text: &mut Vec<u8>, byte: u8) -> Result<(), AllocError>
+    ensures { OnOk result (text.new.items ≡ text.old.items ++ shown_byte byte) }
+{
+    if !byte.is_ascii_control() {
+        text.push(byte)?;
+        return Ok(());
+    }
+    let mut digits = [0u8; 2];
+    let _ = hex::encode_to_slice([byte], &mut digits);
+    text.extend_from_slice(b"\\x")?;
+    text.extend_from_slice(&digits)
+}
+
+// A text, a name as it is shown, and another text.
+fn named(alloc: Global, before: &str, name: &str, after: &str) -> Result<Vec<u8>, AllocError>
+    ensures { IfOk result (λ text. text.items ≡ before.now ++ (shown_name name.now ++ after.now)) }
+{
+    let mut text = Vec::from_slice(alloc, before.as_bytes())?;
+    for byte in name.as_bytes() {
+        push_shown(&mut text, *byte)?;
+    }
+    text.extend_from_slice(after.as_bytes())?;
+    Ok(text)
+}
 
 // A key by its numbers: `own G I` or `pair G I J`.
 #[tactic(auto, unfolding(crate::specs::Causes::key_text))]
@@ -117,12 +143,13 @@ fn rack_cause_name(cause: RackCause) -> &'static str
 
 // The complaint of a faulty plan file or readings file.
 #[tactic(auto, unfolding(crate::specs::Outcomes::file_complaint))]
-fn file_complaint(alloc: Global, name: &str, fault: FileError) -> Result<String, AllocError>
-    ensures { IfOk result (λ text. string_bytes text ≡ file_complaint name.now fault) }
+fn file_complaint(alloc: Global, name: &str, fault: FileError) -> Result<Vec<u8>, AllocError>
+    ensures { IfOk result (λ text. text.items ≡ file_complaint name.now fault) }
 {
     let row = fault.row;
     let cause = cause_text(alloc, fault.cause)?;
-    format!(in alloc; "meteragg: {name} row {row}: {cause}\n")
+    let after = format!(in alloc; " row {row}: {cause}\n")?;
+    named(alloc, "meteragg: ", name, &after)
 }
 
 // The faulty line of a transcript.
@@ -158,10 +185,11 @@ fn read_error_name(alloc: Global, fault: ReadError) -> Result<String, AllocError
 
 // The complaint of a faulty line of a transcript or a report.
 #[tactic(auto, unfolding(crate::specs::Outcomes::line_complaint))]
-fn line_complaint(alloc: Global, name: &str, line: u64, cause: &str) -> Result<String, AllocError>
-    ensures { IfOk result (λ text. string_bytes text ≡ line_complaint name.now line cause.now) }
+fn line_complaint(alloc: Global, name: &str, line: u64, cause: &str) -> Result<Vec<u8>, AllocError>
+    ensures { IfOk result (λ text. text.items ≡ line_complaint name.now line cause.now) }
 {
-    format!(in alloc; "meteragg: {name} line {line}: {cause}\n")
+    let after = format!(in alloc; " line {line}: {cause}\n")?;
+    named(alloc, "meteragg: ", name, &after)
 }
 
 // A row of a report, or `nothing` where there is none.
@@ -204,29 +232,29 @@ fn expected_complaint(
     requires { IsWritable expected.now.line }
     ensures { IfOk result (λ text. text.items ≡ line_complaint name.now line (codes "expected " ++ entry_text Two expected.now)) }
 {
-    let mut text = format!(in alloc; "meteragg: {name} line {line}: expected ")?.into_bytes();
+    let after = format!(in alloc; " line {line}: expected ")?;
+    let mut text = named(alloc, "meteragg: ", name, &after)?;
     text.extend_from_slice(&line_text(alloc, expected)?)?;
     text.extend_from_slice(b"\n")?;
     Ok(text)
 }
 
-// The text of a complaint of one line of text.
+// The complaint of a name, and what is wrong with its file.
 #[tactic(auto, unfolding(crate::specs::Outcomes::complaint_of))]
-fn text_complaint(alloc: Global, outcome: &Outcome<'_>) -> Result<String, AllocError>
-    ensures { IfOk result (λ text. IsText outcome.now → string_bytes text ≡ complaint_of outcome.now) }
+fn name_complaint(alloc: Global, outcome: &Outcome<'_>) -> Result<Vec<u8>, AllocError>
+    ensures { IfOk result (λ text. HasName outcome.now → text.items ≡ complaint_of outcome.now) }
 {
     match outcome {
-        Outcome::Done | Outcome::OtherRow { .. } | Outcome::OtherLine { .. } => {
-            Ok(String::new(alloc))
+        Outcome::CannotRead(name) => named(alloc, "meteragg: cannot read ", name, "\n"),
+        Outcome::TooLong(name) => {
+            named(
+                alloc,
+                "meteragg: ",
+                name,
+                " is longer than 268435456 bytes\n",
+            )
         }
-        Outcome::NoMemory => String::from_str(alloc, "meteragg: no memory\n"),
-        Outcome::BadWords => String::from_str(alloc, "meteragg: bad words\n"),
-        Outcome::CannotRead(name) => format!(in alloc; "meteragg: cannot read {name}\n"),
-        Outcome::TooLong(name) => format!(in alloc;
-            "meteragg: {name} is longer than 268435456 bytes\n"
-        ),
-        Outcome::CannotWrite(name) => format!(in alloc; "meteragg: cannot write {name}\n"),
-        Outcome::CannotPrint => String::from_str(alloc, "meteragg: cannot print\n"),
+        Outcome::CannotWrite(name) => named(alloc, "meteragg: cannot write ", name, "\n"),
         Outcome::BadPlan(name, fault) | Outcome::BadReadings(name, fault) => {
             file_complaint(alloc, name, *fault)
         }
@@ -236,7 +264,20 @@ fn text_complaint(alloc: Global, outcome: &Outcome<'_>) -> Result<String, AllocE
         }
         Outcome::BadReport(name, line) => line_complaint(alloc, name, *line, "Line"),
         Outcome::Impossible(name, line) => line_complaint(alloc, name, *line, "impossible"),
-        Outcome::OtherPlan(name) => format!(in alloc; "meteragg: {name}: other plan\n"),
+        Outcome::OtherPlan(name) => named(alloc, "meteragg: ", name, ": other plan\n"),
+        _ => Ok(Vec::new(alloc)),
+    }
+}
+
+// The text of a complaint that names no file.
+#[tactic(auto, unfolding(crate::specs::Outcomes::complaint_of))]
+fn text_complaint(alloc: Global, outcome: &Outcome<'_>) -> Result<String, AllocError>
+    ensures { IfOk result (λ text. IsText outcome.now → string_bytes text ≡ complaint_of outcome.now) }
+{
+    match outcome {
+        Outcome::NoMemory => String::from_str(alloc, "meteragg: no memory\n"),
+        Outcome::BadWords => String::from_str(alloc, "meteragg: bad words\n"),
+        Outcome::CannotPrint => String::from_str(alloc, "meteragg: cannot print\n"),
         Outcome::OtherPresence {
             group,
             round,
@@ -253,6 +294,7 @@ fn text_complaint(alloc: Global, outcome: &Outcome<'_>) -> Result<String, AllocE
             let cause = rack_cause_name(fault.cause);
             format!(in alloc; "meteragg: lane row {row}: {cause}\n")
         }
+        _ => Ok(String::new(alloc)),
     }
 }
 
@@ -273,6 +315,13 @@ pub fn complaint(alloc: Global, outcome: &Outcome<'_>) -> Result<Vec<u8>, AllocE
             line,
             expected,
         } => expected_complaint(alloc, name, *line, expected),
-        _ => Ok(text_complaint(alloc, outcome)?.into_bytes()),
+        Outcome::Done
+        | Outcome::NoMemory
+        | Outcome::BadWords
+        | Outcome::CannotPrint
+        | Outcome::OtherPresence { .. }
+        | Outcome::OtherTotal { .. }
+        | Outcome::BadLane(_) => Ok(text_complaint(alloc, outcome)?.into_bytes()),
+        _ => name_complaint(alloc, outcome),
     }
 }

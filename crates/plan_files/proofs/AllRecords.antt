@@ -1,9 +1,7 @@
 -- Records read in turn, until there is no more, are all records of the text; and there are few of them.
-use Rattle.std.proofs.Common.{◌≡◌, ◌<◌, ◌≤◌, ◌+◌, ◌-◌, ◌==◌, ℕ, zero, suc, Bool, true, false, List, [], ◌∷◌, ◌++◌, length, Option, Some, None, sym, refl, ap, map, arith, if◌then◌else◌}
-use Rattle.std.proofs.lemmas.List.{length-map}
+use Rattle.std.proofs.Common.{◌≡◌, ◌<◌, ◌≤◌, ◌+◌, ◌-◌, ◌==◌, ℕ, zero, suc, Bool, true, false, List, [], ◌∷◌, ◌++◌, length, Option, Some, None, sym, refl, ap, arith, if◌then◌else◌}
 use Rattle.csv.specs.Machine.{Read, step, ends_with, in_field, start_field, start_record, after_end, next_record, is_end, ends_at_end, fields_after, field_after}
 use Rattle.csv.specs.Reading.{strip_bom, is_bom, Reached, AreRecords, default_config, records, records_from, records_next}
-use Rattle.csv.specs.Records.{Row, fields_of}
 use Rattle.csv.specs.declared.parser.Action.{Action}
 use Rattle.csv.specs.declared.parser.Action.TheVariants as act
 use Rattle.csv.specs.declared.parser.State.{State}
@@ -115,10 +113,3 @@ few_rows bytes =
     let few = few_from (length (strip_bom bytes) + 1) st.StartRecord (strip_bom bytes) in
     let short = length-strip_bom bytes in
     omega arith
-
--- and so has what is read of them
-pub rows_few : (rows : List Row) (bytes : List ℕ) → map fields_of rows ≡ file_rows bytes → length rows ≤ length bytes + 1
-rows_few rows bytes e =
-    let few = few_rows bytes in
-    let long = ap length e in
-    omega (arith, length-map rows fields_of)

@@ -1,11 +1,12 @@
 pub mod AcceptedFiles
 pub mod AllRecords
 pub mod DistinctLemmas
+pub mod FieldLemmas
 pub mod FormLemmas
 pub mod GatherLemmas
 pub mod KeyLemmas
 pub mod KeyOrder
-pub mod LineLemmas
+pub mod KeptLemmas
 pub mod MissingLemmas
 pub mod PlainRowLemmas
 pub mod PlainTexts

@@ -129,6 +129,17 @@ rows_whole plan rows k h past =
     let t : nat_lt k (rows_due plan) ≡ false = grind (arith, nat_tests) in
     rw (drop_end rows k h) (rw t refl)
 
+-- the first of the rows that are left is the one at this place
+first_same : {A : Type 0} (x y : A) (xs ys : List A) → x ∷ xs ≡ y ∷ ys → x ≡ y
+first_same {A = A} x y xs ys same = ap (λ (l : List A). get_or l 0 x) same
+
+pub row_at : (rows left : List (List (List ℕ))) (at : ℕ) (fields : List (List ℕ)) → left ≡ drop at rows → at + length left ≡ length rows → left ≡ fields ∷ drop 1 left
+    → (at < length rows) × (get_or rows at [] ≡ fields)
+row_at rows left at fields rest long first =
+    let some = ap length first in
+    let inside : at < length rows = omega (arith, some, long) in
+    (inside, first_same (get_or rows at []) fields (drop (at + 1) rows) (drop 1 left) (sym (drop_at rows at [] inside) ∙ sym rest ∙ first))
+
 -- what holds of a plan, a number and a row holds of equal ones
 pub moved : (P : PlanView → ℕ → List (List ℕ) → Type 0) (p q : PlanView) (m n : ℕ) (x y : List (List ℕ)) → p ≡ q → m ≡ n → x ≡ y → P p m x → P q n y
 moved P p q m n x y plans numbers rows holds = subst (λ (z : PlanView). P z n y) plans (subst (λ (z : ℕ). P p z y) numbers (subst (λ (z : List (List ℕ)). P p m z) rows holds))

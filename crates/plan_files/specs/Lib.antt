@@ -1,12 +1,13 @@
 pub mod AcceptedFiles
 pub mod DigitValues
 pub mod Faults
+pub mod Fields
 pub mod Filling
 pub mod Gathering
+pub mod KeptRows
 pub mod MissingKeys
-pub mod PlanFiles
-pub mod PlainLines
 pub mod PlainRows
+pub mod PlanFiles
 pub mod PlanForms
 pub mod PlanRows
 pub mod Readings

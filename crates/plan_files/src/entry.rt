@@ -1,17 +1,17 @@
 //! The rows of a plan file after the groups: keys, lanes and members.
-ghost use Rattle.std.specs.Prelude.{◌≡◌, ◌≤◌, ◌+◌, ◌^◌, IfErr, IfOk, Ok, Err, length};
-ghost use Rattle.csv.specs.Records.{fields_of};
+ghost use Rattle.std.specs.Prelude.{◌≡◌, ◌<◌, ◌≤◌, ◌+◌, ◌^◌, ◌∷◌, [], IfErr, IfOk, Ok, Err, length};
 ghost use Rattle.plan_files.specs.Faults.{Answers, ButMemory};
+ghost use Rattle.plan_files.specs.KeptRows.{IsKept, fields_in};
 ghost use Rattle.plan_files.specs.PlanForms.{entries_from};
 ghost use Rattle.plan_files.specs.PlanRows.{arg_in, entry_of, key_or_lane, lane_row, member_row, own_row, pair_row};
-ghost use Rattle.plan_files.specs.RowsLeft.{CanGoOn, rows_left};
+ghost use Rattle.plan_files.specs.RowsLeft.{IsSound, rows_left};
 
 use crate::fault::{FileCause, FileError, NO_MEMORY};
+use crate::fields::{is_quoted, plain_end, read_quoted};
 use crate::form::PlanForm;
-use crate::row::{check_fields, key_field, name_field, number_field, starts_with};
+use crate::kept_row::Row;
+use crate::row::{check_fields, is_word, key_field, name_field, number_field};
 use crate::row_reader::RowReader;
-use crate::table::field;
-use csv::ByteRecord;
 use group_plan::Span;
 use link_lanes::{Arg, ArgError, LaneRow};
 use std::alloc::Global;
@@ -40,8 +40,9 @@ pub enum Entry {
 
 /// What a row `own,GROUP,METER,KEY` says.
 #[tactic(auto, unfolding(crate::specs::PlanRows::own_row))]
-fn own_row(row: &ByteRecord) -> Result<Entry, FileCause>
-    ensures { result ≡ own_row (fields_of row.now) }
+fn own_row(row: &Row<'_>) -> Result<Entry, FileCause>
+    requires kept { IsKept row.now }
+    ensures { result ≡ own_row (fields_in row.now) }
 {
     check_fields(row, 4)?;
     let group = number_field(row, 1)?;
@@ -52,8 +53,9 @@ fn own_row(row: &ByteRecord) -> Result<Entry, FileCause>
 
 /// What a row `pair,GROUP,LOW,HIGH,KEY` says.
 #[tactic(auto, unfolding(crate::specs::PlanRows::pair_row))]
-fn pair_row(row: &ByteRecord) -> Result<Entry, FileCause>
-    ensures { result ≡ pair_row (fields_of row.now) }
+fn pair_row(row: &Row<'_>) -> Result<Entry, FileCause>
+    requires kept { IsKept row.now }
+    ensures { result ≡ pair_row (fields_in row.now) }
 {
     check_fields(row, 5)?;
     let group = number_field(row, 1)?;
@@ -70,8 +72,9 @@ fn pair_row(row: &ByteRecord) -> Result<Entry, FileCause>
 
 /// What a row `member,GROUP,METER,FROM,UNTIL` says.
 #[tactic(auto, unfolding(crate::specs::PlanRows::member_row))]
-fn member_row(row: &ByteRecord) -> Result<Entry, FileCause>
-    ensures { result ≡ member_row (fields_of row.now) }
+fn member_row(row: &Row<'_>) -> Result<Entry, FileCause>
+    requires kept { IsKept row.now }
+    ensures { result ≡ member_row (fields_in row.now) }
 {
     check_fields(row, 5)?;
     let group = number_field(row, 1)?;
@@ -86,26 +89,44 @@ fn member_row(row: &ByteRecord) -> Result<Entry, FileCause>
     }))
 }
 
-/// The argument in the field at a place.
+/// The argument that a text is.
 #[tactic(auto, unfolding(crate::specs::PlanRows::arg_in))]
-fn arg_field(alloc: Global, row: &ByteRecord, place: usize) -> Result<Arg, FileCause>
-    ensures { Answers (arg_in (fields_of row.now) place) result }
+fn arg_of(alloc: Global, text: &[u8]) -> Result<Arg, FileCause>
+    ensures { Answers (arg_in (text.now ∷ []) 0) result }
 {
-    match Arg::new(alloc, field(row, place)) {
+    match Arg::new(alloc, text) {
         Ok(arg) => Ok(arg),
         Err(ArgError::Byte(_)) => Err(FileCause::Name),
         Err(ArgError::Memory) => Err(FileCause::Memory),
     }
 }
 
+/// The argument in the third field.
+fn arg_field(alloc: Global, row: &Row<'_>) -> Result<Arg, FileCause>
+    requires kept { IsKept row.now }
+    requires long { 2 < length (fields_in row.now) }
+    ensures { Answers (arg_in (fields_in row.now) 2) result }
+{
+    let bytes = row.third;
+    if !is_quoted(bytes) {
+        return arg_of(alloc, &bytes[..plain_end(bytes)]);
+    }
+    let mut text = Vec::new(alloc);
+    match read_quoted(&mut text, bytes, bytes.len()) {
+        Ok(_) => arg_of(alloc, &text),
+        Err(_) => Err(FileCause::Memory),
+    }
+}
+
 /// What a row `lane,NAME,ARGUMENT,FROM,TO` says. The number is the row's in the file.
 #[tactic(auto, unfolding(crate::specs::PlanRows::lane_row))]
-fn lane_row(alloc: Global, number: u32, row: &ByteRecord) -> Result<Entry, FileCause>
-    ensures { Answers (lane_row number (fields_of row.now)) result }
+fn lane_row(alloc: Global, number: u32, row: &Row<'_>) -> Result<Entry, FileCause>
+    requires kept { IsKept row.now }
+    ensures { Answers (lane_row number (fields_in row.now)) result }
 {
     check_fields(row, 5)?;
     let name = name_field(row, 1)?;
-    let arg = arg_field(alloc, row, 2)?;
+    let arg = arg_field(alloc, row)?;
     let from = number_field(row, 3)?;
     let to = number_field(row, 4)?;
     Ok(Entry::Lane(LaneRow {
@@ -119,14 +140,15 @@ fn lane_row(alloc: Global, number: u32, row: &ByteRecord) -> Result<Entry, FileC
 
 /// What a row of a key or a lane says. The number is the row's in the file.
 #[tactic(auto, unfolding(crate::specs::PlanRows::key_or_lane))]
-fn key_or_lane(alloc: Global, number: u32, row: &ByteRecord) -> Result<Entry, FileCause>
-    ensures { Answers (key_or_lane number (fields_of row.now)) result }
+fn key_or_lane(alloc: Global, number: u32, row: &Row<'_>) -> Result<Entry, FileCause>
+    requires kept { IsKept row.now }
+    ensures { Answers (key_or_lane number (fields_in row.now)) result }
 {
-    if starts_with(row, b"own") {
+    if is_word(row, 0, b"own") {
         own_row(row)
-    } else if starts_with(row, b"pair") {
+    } else if is_word(row, 0, b"pair") {
         pair_row(row)
-    } else if starts_with(row, b"lane") {
+    } else if is_word(row, 0, b"lane") {
         lane_row(alloc, number, row)
     } else {
         Err(FileCause::Row)
@@ -139,11 +161,12 @@ pub fn read_entry(
     alloc: Global,
     form: PlanForm,
     number: u32,
-    row: &ByteRecord,
+    row: &Row<'_>,
 ) -> Result<Entry, FileCause>
-    ensures { Answers (entry_of form number (fields_of row.now)) result }
+    requires kept { IsKept row.now }
+    ensures { Answers (entry_of form number (fields_in row.now)) result }
 {
-    if starts_with(row, b"member") {
+    if is_word(row, 0, b"member") {
         return member_row(row);
     }
     match form {
@@ -159,7 +182,7 @@ pub fn read_entries(
     first: u32,
     rows: &mut RowReader<'_>,
 ) -> Result<Vec<Entry>, FileError>
-    requires sound { CanGoOn rows.old }
+    requires sound { IsSound rows.old }
     requires few { first + length (rows_left rows.old) ≤ 2 ^ 28 + 2 }
     ensures read { IfOk result (λ entries. entries_from form first (rows_left rows.old) ≡ Ok entries.items) }
     ensures few { IfOk result (λ entries. length entries.items ≤ length (rows_left rows.old)) }

@@ -1,17 +1,16 @@
 //! The first rows of a plan file: its version, its rounds and windows, and its groups.
 ghost use Rattle.std.specs.Prelude.{◌≡◌, ◌≤◌, ◌+◌, ◌^◌, IfErr, IfOk, OnOk, Ok, Err, drop, length};
-ghost use Rattle.csv.specs.Records.{fields_of};
 ghost use Rattle.plan_files.specs.Faults.{ButMemory};
+ghost use Rattle.plan_files.specs.KeptRows.{IsKept, fields_in};
 ghost use Rattle.plan_files.specs.PlanForms.{first_due, groups_from, head_of};
 ghost use Rattle.plan_files.specs.PlanRows.{group_row, rounds_row, version_row, windows_row};
-ghost use Rattle.plan_files.specs.RowsLeft.{CanGoOn, rows_left};
+ghost use Rattle.plan_files.specs.RowsLeft.{IsSound, rows_left};
 
 use crate::fault::{FileCause, FileError, NO_MEMORY};
 use crate::form::PlanForm;
-use crate::row::{check_fields, name_field, number_field, starts_with};
+use crate::kept_row::Row;
+use crate::row::{check_fields, is_long, is_word, name_field, number_field};
 use crate::row_reader::RowReader;
-use crate::table::is_row;
-use csv::ByteRecord;
 use group_plan::GroupPlan;
 use std::alloc::Global;
 
@@ -31,21 +30,24 @@ pub struct Head {
 
 /// The first row is the form's title and `1`.
 #[tactic(auto, unfolding(crate::specs::PlanRows::version_row))]
-fn check_version(form: PlanForm, row: &ByteRecord) -> Result<(), FileCause>
-    ensures { result ≡ version_row form (fields_of row.now) }
+fn check_version(form: PlanForm, row: &Row<'_>) -> Result<(), FileCause>
+    requires kept { IsKept row.now }
+    ensures { result ≡ version_row form (fields_in row.now) }
 {
-    if !is_row(row, &[form.title(), b"1"]) {
-        return Err(FileCause::Row);
+    if is_long(row, 2) && is_word(row, 0, form.title()) && is_word(row, 1, b"1") {
+        Ok(())
+    } else {
+        Err(FileCause::Row)
     }
-    Ok(())
 }
 
 /// The number in a row `rounds,ROUNDS`.
 #[tactic(auto, unfolding(crate::specs::PlanRows::rounds_row))]
-fn read_rounds(row: &ByteRecord) -> Result<u32, FileCause>
-    ensures { result ≡ rounds_row (fields_of row.now) }
+fn read_rounds(row: &Row<'_>) -> Result<u32, FileCause>
+    requires kept { IsKept row.now }
+    ensures { result ≡ rounds_row (fields_in row.now) }
 {
-    if !starts_with(row, b"rounds") {
+    if !is_word(row, 0, b"rounds") {
         return Err(FileCause::Row);
     }
     check_fields(row, 2)?;
@@ -54,10 +56,11 @@ fn read_rounds(row: &ByteRecord) -> Result<u32, FileCause>
 
 /// The windows in a row `windows,READING,RECOVERY`.
 #[tactic(auto, unfolding(crate::specs::PlanRows::windows_row))]
-fn read_windows(row: &ByteRecord) -> Result<Windows, FileCause>
-    ensures { result ≡ windows_row (fields_of row.now) }
+fn read_windows(row: &Row<'_>) -> Result<Windows, FileCause>
+    requires kept { IsKept row.now }
+    ensures { result ≡ windows_row (fields_in row.now) }
 {
-    if !starts_with(row, b"windows") {
+    if !is_word(row, 0, b"windows") {
         return Err(FileCause::Row);
     }
     check_fields(row, 3)?;
@@ -68,8 +71,9 @@ fn read_windows(row: &ByteRecord) -> Result<Windows, FileCause>
 
 /// The group of a row `group,NAME,METERS,FLOOR`.
 #[tactic(auto, unfolding(crate::specs::PlanRows::group_row))]
-fn read_group(row: &ByteRecord) -> Result<GroupPlan, FileCause>
-    ensures { result ≡ group_row (fields_of row.now) }
+fn read_group(row: &Row<'_>) -> Result<GroupPlan, FileCause>
+    requires kept { IsKept row.now }
+    ensures { result ≡ group_row (fields_in row.now) }
 {
     check_fields(row, 4)?;
     let name = name_field(row, 1)?;
@@ -84,6 +88,7 @@ fn read_group(row: &ByteRecord) -> Result<GroupPlan, FileCause>
 
 /// Whether the file starts with its version.
 fn check_first_row(form: PlanForm, rows: &RowReader<'_>) -> Result<(), FileError>
+    requires { IsSound rows.now }
     ensures { result ≡ first_due (version_row form) 1 (rows_left rows.now) }
 {
     let Some(row) = rows.current() else {
@@ -100,6 +105,7 @@ fn check_first_row(form: PlanForm, rows: &RowReader<'_>) -> Result<(), FileError
 
 /// The rounds of the plan, in its second row.
 fn read_second_row(rows: &RowReader<'_>) -> Result<u32, FileError>
+    requires { IsSound rows.now }
     ensures { result ≡ first_due rounds_row 2 (rows_left rows.now) }
 {
     let Some(row) = rows.current() else {
@@ -116,6 +122,7 @@ fn read_second_row(rows: &RowReader<'_>) -> Result<u32, FileError>
 
 /// The windows of the plan, in its third row.
 fn read_third_row(rows: &RowReader<'_>) -> Result<Windows, FileError>
+    requires { IsSound rows.now }
     ensures { result ≡ first_due windows_row 3 (rows_left rows.now) }
 {
     let Some(row) = rows.current() else {
@@ -132,10 +139,10 @@ fn read_third_row(rows: &RowReader<'_>) -> Result<Windows, FileError>
 
 /// What the first three rows say.
 pub fn read_head(form: PlanForm, rows: &mut RowReader<'_>) -> Result<Head, FileError>
-    requires { CanGoOn rows.old }
+    requires { IsSound rows.old }
     ensures read { IfOk result (λ head. head_of form (rows_left rows.old) ≡ Ok head) }
     ensures rest { OnOk result (rows_left rows.new ≡ drop 3 (rows_left rows.old)) }
-    ensures sound { OnOk result (CanGoOn rows.new) }
+    ensures sound { OnOk result (IsSound rows.new) }
     ensures fault { IfErr result (λ fault. ButMemory fault.cause (head_of form (rows_left rows.old) ≡ Err fault)) }
 {
     check_first_row(form, rows)?;
@@ -149,17 +156,17 @@ pub fn read_head(form: PlanForm, rows: &mut RowReader<'_>) -> Result<Head, FileE
 
 /// The group rows with which these rows start. The first of these is row 4 of the file.
 pub fn read_groups(alloc: Global, rows: &mut RowReader<'_>) -> Result<Vec<GroupPlan>, FileError>
-    requires sound { CanGoOn rows.old }
+    requires sound { IsSound rows.old }
     requires few { length (rows_left rows.old) ≤ 2 ^ 28 + 1 }
     ensures read { IfOk result (λ groups. groups_from 4 (rows_left rows.old) ≡ Ok groups.items) }
     ensures few { IfOk result (λ groups. length groups.items ≤ length (rows_left rows.old)) }
     ensures rest { IfOk result (λ groups. rows_left rows.new ≡ drop (length groups.items) (rows_left rows.old)) }
-    ensures sound { OnOk result (CanGoOn rows.new) }
+    ensures sound { OnOk result (IsSound rows.new) }
     ensures fault { IfErr result (λ fault. ButMemory fault.cause (groups_from 4 (rows_left rows.old) ≡ Err fault)) }
 {
     let mut groups = Vec::new(alloc);
     while let Some(row) = rows.current() {
-        if !starts_with(row, b"group") {
+        if !is_word(row, 0, b"group") {
             return Ok(groups);
         }
         match read_group(row) {

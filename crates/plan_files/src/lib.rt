@@ -3,17 +3,17 @@
 
 mod entry;
 mod fault;
+mod fields;
 mod form;
 mod gathering;
 mod head;
+mod kept_row;
 mod key;
 pub mod laws;
-mod lines;
 mod plan;
 mod readings;
 mod row;
 mod row_reader;
-mod table;
 
 pub use fault::{FileCause, FileError};
 pub use plan::{PlanFile, read_plan, read_public};

@@ -6,7 +6,7 @@ ghost use Rattle.plan_files.specs.Faults.{in_row};
 ghost use Rattle.plan_files.specs.Gathering.{gathered_by, spans_of};
 ghost use Rattle.plan_files.specs.MissingKeys.{first_missing};
 ghost use Rattle.plan_files.specs.PlanFiles.{OpeningEnds, PlanEnds, PublicEnds, completed, opened_from, place_of, plan_from, plan_of, public_from, public_of, stated_plan, with_entries, with_members};
-ghost use Rattle.plan_files.specs.RowsLeft.{CanGoOn, rows_left};
+ghost use Rattle.plan_files.specs.RowsLeft.{IsSound, rows_left};
 
 use crate::entry::{Entry, read_entries};
 use crate::fault::{FileCause, FileError, NO_MEMORY};
@@ -118,7 +118,7 @@ fn read_opening(
     form: PlanForm,
     rows: &mut RowReader<'_>,
 ) -> Result<Opening, FileError>
-    requires sound { CanGoOn rows.old }
+    requires sound { IsSound rows.old }
     requires few { length (rows_left rows.old) ≤ 2 ^ 28 + 1 }
     ensures opened { OpeningEnds (opened_from form (rows_left rows.old)) result }
     ensures few { IfOk result (λ opening. opening.first + length opening.entries.items ≤ 2 ^ 28 + 2) }
@@ -137,7 +137,7 @@ fn read_opening(
 
 /// What the rows of a plan file say.
 fn plan_from(alloc: Global, rows: &mut RowReader<'_>) -> Result<PlanFile, FileError>
-    requires sound { CanGoOn rows.old }
+    requires sound { IsSound rows.old }
     requires few { length (rows_left rows.old) ≤ 2 ^ 28 + 1 }
     ensures file { PlanEnds (plan_from (rows_left rows.old)) result }
     ensures same { IfOk result (λ file. (table_of file.keys).plan ≡ file.plan) }
@@ -185,7 +185,7 @@ fn with_members(alloc: Global, plan: Plan, first: u32, entries: &[Entry]) -> Res
 
 /// What the rows of a public plan say.
 fn public_from(alloc: Global, rows: &mut RowReader<'_>) -> Result<Plan, FileError>
-    requires sound { CanGoOn rows.old }
+    requires sound { IsSound rows.old }
     requires few { length (rows_left rows.old) ≤ 2 ^ 28 + 1 }
     ensures { PublicEnds (public_from (rows_left rows.old)) result }
 {

@@ -1,15 +1,18 @@
-use Rattle.std.proofs.Common.{◌≡◌, List, ℕ, [], false, get_or, refl, subst}
-use Rattle.std.specs.List.{list_all}
-use Rattle.csv.specs.Records.{fields_of}
-use Rattle.link_lanes.specs.ArgBytes.{is_arg_byte}
-use Rattle.plan_files.specs.PlanRows.{arg_in}
-use Rattle.plan_files.proofs.FormLemmas.{no_argument}
+use Rattle.std.proofs.Common.{◌∙◌, List, ℕ, ap, sym, subst, take_all}
+use Rattle.plan_files.specs.Faults.{Answers}
+use Rattle.plan_files.specs.KeptRows.{fields_in}
+use Rattle.plan_files.proofs.KeptLemmas.{same_arg}
 use Rattle.plan_files.proofs.entry.arg_field.Goals as goal
 
-pub returns-in-Err-Byte : goal.returns-in-Err-Byte
-unfolding arg_in
-returns-in-Err-Byte c =
-    let other = no_argument c.field.result.now c.in-Err-Byte.field-0 c.in-Err-Byte.field-0-0 c.in-Err-Byte.field-0-is c.in-Err-Byte.ensures in
-    let none : list_all is_arg_byte (get_or (fields_of c.args.row.now) c.args.place []) ≡ false =
-    subst (λ (text : List ℕ). list_all is_arg_byte text ≡ false) c.field.ensures other in
-    rw none refl
+pub returns-then-not-is_quoted : goal.returns-then-not-is_quoted
+returns-then-not-is_quoted c =
+    let fields = fields_in c.args.row.now in
+    let text = ap (λ (f : List ℕ × List ℕ). f.0) (sym c.plain_end.ensures.field) ∙ c.requires.kept.third c.requires.long in
+    subst (λ v. Answers v c.arg_of.result) (same_arg fields _ text) c.arg_of.ensures
+
+pub returns-in-Ok : goal.returns-in-Ok
+returns-in-Ok c =
+    let fields = fields_in c.args.row.now in
+    let read = c.in-Ok.ensures in
+    let text = c.deref.ensures.value ∙ read.cut ∙ take_all _ read.text read.short ∙ ap (λ (f : List ℕ × List ℕ). f.0) (sym read.field) ∙ c.requires.kept.third c.requires.long in
+    subst (λ v. Answers v c.arg_of-in-Ok.result) (same_arg fields _ text) c.arg_of-in-Ok.ensures

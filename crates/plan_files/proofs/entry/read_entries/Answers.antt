@@ -1,6 +1,6 @@
 use Rattle.std.proofs.Common.{◌≡◌, ◌∙◌, ◌+◌, ℕ, List, [], ◌∷◌, ◌++◌, true, length, drop, ap, sym, arith, rules, length-append, Err}
 use Rattle.std.specs.Result.{is_ok}
-use Rattle.csv.specs.Records.{fields_of}
+use Rattle.plan_files.specs.KeptRows.{fields_in}
 use Rattle.plan_files.specs.PlanForms.{entries_from}
 use Rattle.plan_files.specs.PlanRows.{entry_of}
 use Rattle.plan_files.specs.RowsLeft.{rows_left}
@@ -10,29 +10,29 @@ use Rattle.plan_files.proofs.entry.read_entries.Goals as goal
 pub returns-in-Err-clause-fault : goal.returns-in-Err-clause-fault
 returns-in-Err-clause-fault c =
     let rows = rows_left c.loop-row.rows in
-    let row = fields_of c.in-Some.row.now in
+    let row = fields_in c.in-Some.row.now in
     but_memory c.in-Err.cause
     (λ (wrong : entry_of c.args.form c.loop-row.number row ≡ Err c.in-Err.cause). c.loop-row.invariant.so_far
-    ∙ entries_fault c.args.form rows (drop 1 rows) c.loop-row.number row c.loop-row.entries.items c.in-Err.cause c.in-Some.ensures wrong)
+    ∙ entries_fault c.args.form rows (drop 1 rows) c.loop-row.number row c.loop-row.entries.items c.in-Err.cause c.in-Some.ensures.first wrong)
     c.in-Err.ensures
 
 pub loop-row-preserved : goal.loop-row-preserved
 loop-row-preserved c =
     let entries = c.loop-row.entries.items in
     let rows = rows_left c.loop-row.rows in
-    let row = fields_of c.in-Some.row.now in
+    let row = fields_in c.in-Some.row.now in
     let pushed : is_ok c.push.result ≡ true = search rules in
     let items : c.push.new.self.items ≡ entries ++ c.in-Ok.entry ∷ [] = rw pushed at c.push.ensures.items in
     let long : length c.push.new.self.items ≡ length entries + 1 = ap length items ∙ length-append entries (c.in-Ok.entry ∷ []) in
     let left : rows_left c.advance.new.self ≡ drop 1 rows = c.in_ok-advance.ensures.rows in
-    let one : length rows ≡ length (row ∷ drop 1 rows) = ap length c.in-Some.ensures in
+    let one : length rows ≡ length (row ∷ drop 1 rows) = ap length c.in-Some.ensures.first in
     let others : length (rows_left c.advance.new.self) ≡ length (drop 1 rows) = ap length left in
     record {
       sound = c.in_ok-advance.ensures.sound;
       number = omega arith;
       long = omega arith;
       so_far = c.loop-row.invariant.so_far
-          ∙ entries_more c.args.form rows (drop 1 rows) c.loop-row.number row entries c.in-Ok.entry c.in-Some.ensures c.in-Ok.ensures
+          ∙ entries_more c.args.form rows (drop 1 rows) c.loop-row.number row entries c.in-Ok.entry c.in-Some.ensures.first c.in-Ok.ensures
           ∙ ap (λ l. after l (entries_from c.args.form (c.loop-row.number + 1) (drop 1 rows))) (sym items)
           ∙ ap (λ (l : List (List (List ℕ))). after c.push.new.self.items (entries_from c.args.form (c.loop-row.number + 1) l)) (sym left);
     }

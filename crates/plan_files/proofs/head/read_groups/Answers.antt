@@ -1,16 +1,16 @@
 use Rattle.std.proofs.Common.{◌≡◌, ◌∙◌, ◌+◌, ℕ, List, [], ◌∷◌, ◌++◌, true, length, drop, ap, sym, arith, rules, length-append, drop-drop}
 use Rattle.std.specs.Result.{is_ok}
-use Rattle.csv.specs.Records.{fields_of}
+use Rattle.plan_files.specs.KeptRows.{fields_in}
 use Rattle.plan_files.specs.PlanForms.{groups_from}
 use Rattle.plan_files.specs.RowsLeft.{rows_left}
 use Rattle.plan_files.proofs.FormLemmas.{after, always, groups_end, groups_fault, groups_more, groups_stop}
 use Rattle.plan_files.proofs.head.read_groups.Goals as goal
 
-pub returns-then-not-starts_with-clause-read : goal.returns-then-not-starts_with-clause-read
-returns-then-not-starts_with-clause-read c =
+pub returns-then-not-is_word-clause-read : goal.returns-then-not-is_word-clause-read
+returns-then-not-is_word-clause-read c =
     let rows = rows_left c.loop-row.rows in
     c.loop-row.invariant.so_far
-    ∙ groups_stop rows (drop 1 rows) (length c.loop-row.groups.items + 4) (fields_of c.in-Some.row.now) c.loop-row.groups.items c.in-Some.ensures (search rules)
+    ∙ groups_stop rows (drop 1 rows) (length c.loop-row.groups.items + 4) (fields_in c.in-Some.row.now) c.loop-row.groups.items c.in-Some.ensures.first (search rules)
 
 pub returns-in-Err-clause-fault : goal.returns-in-Err-clause-fault
 returns-in-Err-clause-fault c =
@@ -18,18 +18,18 @@ returns-in-Err-clause-fault c =
     let number : c.len.result ≡ length c.loop-row.groups.items = omega (arith, c.loop-row.groups.ok.0) in
     always c.in-Err.cause
     (rw number (c.loop-row.invariant.so_far
-    ∙ groups_fault rows (drop 1 rows) (length c.loop-row.groups.items + 4) (fields_of c.in-Some.row.now) c.loop-row.groups.items c.in-Err.cause c.in-Some.ensures (search rules) (search rules)))
+    ∙ groups_fault rows (drop 1 rows) (length c.loop-row.groups.items + 4) (fields_in c.in-Some.row.now) c.loop-row.groups.items c.in-Err.cause c.in-Some.ensures.first (search rules) (search rules)))
 
 pub loop-row-preserved : goal.loop-row-preserved
 loop-row-preserved c =
     let groups = c.loop-row.groups.items in
     let rows = rows_left c.loop-row.rows in
-    let row = fields_of c.in-Some.row.now in
+    let row = fields_in c.in-Some.row.now in
     let pushed : is_ok c.push.result ≡ true = search rules in
     let items : c.push.new.self.items ≡ groups ++ c.in-Ok.group ∷ [] = rw pushed at c.push.ensures.items in
     let long : length c.push.new.self.items ≡ length groups + 1 = ap length items ∙ length-append groups (c.in-Ok.group ∷ []) in
     let left : rows_left c.advance.new.self ≡ drop 1 rows = c.in_ok-advance.ensures.rows in
-    let one : length rows ≡ length (row ∷ drop 1 rows) = ap length c.in-Some.ensures in
+    let one : length rows ≡ length (row ∷ drop 1 rows) = ap length c.in-Some.ensures.first in
     let others : length (rows_left c.advance.new.self) ≡ length (drop 1 rows) = ap length left in
     let all = rows_left c.args.rows.now in
     record {
@@ -37,7 +37,7 @@ loop-row-preserved c =
       rest = left ∙ ap (drop 1) c.loop-row.invariant.rest ∙ drop-drop 1 (length groups) all ∙ ap (λ n. drop n all) (sym long);
       long = omega arith;
       so_far = c.loop-row.invariant.so_far
-          ∙ groups_more rows (drop 1 rows) (length groups + 4) (length c.push.new.self.items + 4) row groups c.in-Ok.group c.in-Some.ensures (omega arith) (search rules) (search rules)
+          ∙ groups_more rows (drop 1 rows) (length groups + 4) (length c.push.new.self.items + 4) row groups c.in-Ok.group c.in-Some.ensures.first (omega arith) (search rules) (search rules)
           ∙ ap (λ l. after l (groups_from (length c.push.new.self.items + 4) (drop 1 rows))) (sym items)
           ∙ ap (λ (l : List (List (List ℕ))). after c.push.new.self.items (groups_from (length c.push.new.self.items + 4) l)) (sym left);
     }

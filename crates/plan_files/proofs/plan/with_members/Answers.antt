@@ -1,8 +1,6 @@
-use Rattle.std.proofs.Common.{◌≡◌, ◌∙◌, ◌<◌, [], length, Err, Some, ap, sym, subst, arith}
-use Rattle.plan_files.specs.Faults.{in_row}
+use Rattle.std.proofs.Common.{◌∙◌, [], length, Err, ap, sym, subst, arith}
 use Rattle.plan_files.specs.Gathering.{Settles, spans_of}
-use Rattle.plan_files.specs.PlanFiles.{PublicEnds, place_of, with_members}
-use Rattle.plan_files.specs.declared.fault.FileCause.TheVariants as cause
+use Rattle.plan_files.specs.PlanFiles.{PublicEnds, with_members}
 use Rattle.plan_files.proofs.PlanLemmas.{fault_within, few_spans, members_refused, members_settled}
 use Rattle.plan_files.proofs.plan.with_members.Goals as goal
 

@@ -1,2 +1,0 @@
-pub mod SetLoops
-pub mod Written

@@ -1,0 +1,90 @@
+#!/usr/bin/env python3
+"""Runs the built program on plan files and readings files of 64 MB with rows that no such file has, and looks at how each is
+refused, and in how much memory.
+
+    tests/long_rows.py [--program PROGRAM]
+
+A run is a finding where its status or its complaint is another than the rules of the file say, or where it takes more than
+64 MB beside the file's bytes. The exit status is 0 where there is no finding, and 1 where there is one.
+"""
+import argparse
+import os
+import subprocess
+import sys
+import tempfile
+
+HERE = os.path.dirname(os.path.abspath(__file__))
+PROGRAM = os.path.join(HERE, "..", "crates", "meteragg", "out", "meteragg")
+SIZE = 1 << 26
+MOST_BESIDE = 64 << 20
+
+ZEROS = b"0" * 64
+HEAD = b"plan,1\nrounds,1\nwindows,1,2\n"
+NORTH = b"group,north,3,2\n" + b"".join(
+    b"own,0,%d,%s\n" % (meter, ZEROS) for meter in range(3)
+) + b"".join(b"pair,0,%d,%d,%s\n" % (low, high, ZEROS) for low, high in ((0, 1), (0, 2), (1, 2)))
+READINGS = b"north,0,10,20,30\n"
+
+# Each row: what it is, the file that it is, its beginning, the bytes that fill it, its end, the status and the complaint.
+FILES = [
+    ("commas", "readings", b"", b",", b"", 6, "readings row 1: Row"),
+    ("commas behind a name", "readings", b"north,0", b",", b"", 6, "readings row 1: Fields"),
+    ("a long reading", "readings", b"north,0,10,20,", b"7", b"\n", 6, "readings row 1: Number"),
+    ("a quote that isn't closed", "readings", b'north,0,10,20,"', b"7", b"", 6, "readings row 1: Fields"),
+    ("quotes in quotes", "readings", b'north,0,10,20,"', b'""', b'"\n', 6, "readings row 1: Number"),
+    ("newlines", "readings", b"", b"\n", b"", 6, "readings row 1: Short"),
+    ("carriage returns", "readings", READINGS, b"\r", b"x", 6, "readings row 2: Extra"),
+    ("rows of one field", "readings", READINGS, b"x\n", b"", 6, "readings row 2: Extra"),
+    ("commas", "plan", b"", b",", b"", 5, "plan row 1: Row"),
+    ("commas behind a word", "plan", HEAD + b"group", b",", b"\n", 5, "plan row 4: Fields"),
+    ("a long key", "plan", HEAD + NORTH + b"own,0,0,", b"0", b"\n", 5, "plan row 11: Hex"),
+    ("a quoted name", "plan", HEAD + b'group,"', b"n", b'",3,2\n', 5, "plan row 4: Name"),
+    ("an argument of commas", "plan", HEAD + NORTH + b"lane,every", b",", b"\n", 5, "plan row 11: Fields"),
+    ("a quoted argument", "plan", HEAD + NORTH + b'lane,every,"', b"\1", b'",0,1\n', 5, "plan row 11: Name"),
+    ("an argument before a word", "plan", HEAD + NORTH + b"lane,every,", b"1", b",x,1\n", 5, "plan row 11: Number"),
+]
+
+
+def write(path, head, filling, tail):
+    """A file of this beginning and this end, as long as `SIZE` allows."""
+    with open(path, "wb") as file:
+        file.write(head + filling * ((SIZE - len(head) - len(tail)) // len(filling)) + tail)
+
+
+def run(program, folder):
+    """The status of a run in the folder, what it complains of, and the most memory that it had."""
+    process = subprocess.Popen(
+        [program, "run", "plan", "readings", "report", "transcript"],
+        cwd=folder,
+        stdout=subprocess.DEVNULL,
+        stderr=subprocess.PIPE,
+    )
+    complaint = process.stderr.read().decode()
+    _, status, usage = os.wait4(process.pid, 0)
+    process.stderr.close()
+    process.returncode = os.waitstatus_to_exitcode(status)
+    return process.returncode, complaint, usage.ru_maxrss << 10
+
+
+def main():
+    parser = argparse.ArgumentParser(description=__doc__.splitlines()[0])
+    parser.add_argument("--program", default=PROGRAM)
+    program = os.path.abspath(parser.parse_args().program)
+    findings = 0
+    with tempfile.TemporaryDirectory() as folder:
+        for what, name, head, filling, tail, status, complaint in FILES:
+            for other, text in (("plan", HEAD + NORTH), ("readings", READINGS)):
+                with open(os.path.join(folder, other), "wb") as file:
+                    file.write(text)
+            write(os.path.join(folder, name), head, filling, tail)
+            came = run(program, folder)
+            wanted = (status, f"meteragg: {complaint}\n")
+            beside = came[2] - SIZE
+            if came[:2] != wanted or beside > MOST_BESIDE:
+                findings += 1
+                print(f"{what} ({name}): status {came[0]}, {came[1]!r}, {beside >> 20} MB beside the file", file=sys.stderr)
+    return 1 if findings else 0
+
+
+if __name__ == "__main__":
+    sys.exit(main())
