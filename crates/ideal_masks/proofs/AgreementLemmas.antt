@@ -86,9 +86,19 @@ pub opened-if : (s : Shape) (g r : ℕ) (p : List Event) → is_announced s g r 
 opened-if s g r p announced same =
     ap (λ b. b && all_answered s g r p) announced ∙ all-filtered (λ i. is_answer_sent s g r i p) (survivors s g r p) (survivors s g r p) same
 
-pub one_total-lacking : (s : Shape) (x y : Readings) (p : List Event) (g r : ℕ) → (answered s g r p ≡ survivors s g r p → ⊥) → HasOneTotal s x y p g r
-one_total-lacking s x y p g r lacks = λ opened.
-    absurd (lacks (filter-all (λ i. is_answer_sent s g r i p) (survivors s g r p) (and_parts (is_announced s g r p) (all_answered s g r p) opened).1))
+-- a round that isn't announced, and one where a survivor's answer lacks, isn't opened
+pub not_opened-unannounced : (s : Shape) (g r : ℕ) (p : List Event) → is_announced s g r p ≡ false → is_opened s g r p ≡ false
+not_opened-unannounced s g r p none = ap (λ b. b && all_answered s g r p) none
+
+pub not_opened : (s : Shape) (g r : ℕ) (p : List Event) → (answered s g r p ≡ survivors s g r p → ⊥) → is_opened s g r p ≡ false
+not_opened s g r p lacks = step (is_opened s g r p) refl
+  where
+    step : (b : Bool) → is_opened s g r p ≡ b → b ≡ false
+    step true opened = absurd (lacks (filter-all (λ i. is_answer_sent s g r i p) (survivors s g r p) (and_parts (is_announced s g r p) (all_answered s g r p) opened).1))
+    step false _ = refl
+
+pub one_total-closed : (s : Shape) (x y : Readings) (p : List Event) (g r : ℕ) → is_opened s g r p ≡ false → HasOneTotal s x y p g r
+one_total-closed s x y p g r closed = λ opened. absurd (false≢true (sym closed ∙ opened))
 
 pub bounded : (plan : PlanView) (t : Table (Option ℕ)) → IsWithinLimits plan → IsReadingTable plan t → IsBounded plan.groups (reading t)
 bounded plan t limits fits = record { meters = limits.meters; readings = λ g r i. small (reading t g r i) (fits.small g r i) }

@@ -5,7 +5,7 @@ use Rattle.missing_round.specs.Words.{word}
 use Rattle.group_plan.specs.Plans.{size}
 use Rattle.group_plan.specs.Tables.{ReadingsView, reading}
 use Rattle.transcript_log.specs.declared.Event.{Event}
-use Rattle.transcript_log.specs.Schedule.{Shape, is_announced, survivors, answered}
+use Rattle.transcript_log.specs.Schedule.{Shape, is_announced, is_opened, survivors, answered}
 use Rattle.transcript_log.specs.Tables.{Masks}
 use Rattle.group_book.specs.Books.{BookView, shape_of, past, has_round}
 use Rattle.ideal_masks.specs.declared.chain.Chain.{Chain}
@@ -52,6 +52,11 @@ pub record IsChainOf (s : Shape) (g r : ℕ) (p : List Event) (c : Chain) : Type
 abbrev pub IsChain : Shape → ℕ → ℕ → List Event → Option Chain → Type 0
 IsChain s g r p (Some c) = IsChainOf s g r p c
 IsChain s g r p None = is_announced s g r p ≡ false
+
+-- the survivors of a round, exactly where it is opened
+abbrev pub IsOpened : Shape → ℕ → ℕ → List Event → Option (List ℕ) → Type 0
+IsOpened s g r p (Some set) = (is_opened s g r p ≡ true) × (set ≡ survivors s g r p)
+IsOpened s g r p None = is_opened s g r p ≡ false
 
 -- the one pair word of a row that moves: f is by how much the word of the lower meter and each meter above it moves, in a group of n
 abbrev pub IsRow : (ℕ → ℕ) → ℕ → ℕ → Option Link → Type 0

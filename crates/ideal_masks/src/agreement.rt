@@ -10,7 +10,7 @@ ghost use Rattle.ideal_masks.specs.AgreementParts.{PresenceGoesOn, PresenceEnds,
 ghost use Rattle.ideal_masks.specs.Chains.{IsCompared, are_below};
 
 use crate::Differ;
-use crate::chain::chain_of;
+use crate::chain::opened_survivors;
 use crate::compared::{Compared, reading_or_zero};
 use group_book::Book;
 use group_plan::Readings;
@@ -103,14 +103,11 @@ impl<'a> Compared<'a> {
         requires before { HaveOneTotalBefore (shape_of self.now.book.now) (reading self.now.first.now.table) (reading self.now.second.now.table) (past self.now.book.now) self.now.group self.now.round }
         ensures { TotalsGoOn self.now.first.now self.now.second.now self.now.book.now self.now.group (self.now.round + 1) result }
     {
-        let Some(chain) = chain_of(self.book, self.group, self.round) else {
+        let Some(survivors) = opened_survivors(self.book, self.group, self.round) else {
             return Ok(());
         };
-        if chain.answered != chain.survivors {
-            return Ok(());
-        }
-        let first = sum_of_readings(self.first, self.group, self.round, chain.survivors);
-        let second = sum_of_readings(self.second, self.group, self.round, chain.survivors);
+        let first = sum_of_readings(self.first, self.group, self.round, survivors);
+        let second = sum_of_readings(self.second, self.group, self.round, survivors);
         if first != second {
             return Err(Differ::Total {
                 group: self.group,

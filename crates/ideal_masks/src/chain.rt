@@ -4,7 +4,7 @@ ghost use Rattle.missing_round.specs.Sets.{is_member};
 ghost use Rattle.std.specs.List.{filter};
 ghost use Rattle.transcript_log.specs.Schedule.{is_answer_sent, survivors as survivors_of};
 ghost use Rattle.group_book.specs.Books.{shape_of, past, has_round};
-ghost use Rattle.ideal_masks.specs.Chains.{IsChain};
+ghost use Rattle.ideal_masks.specs.Chains.{IsChain, IsOpened};
 
 use group_book::Book;
 use group_plan::{Kind, Tag};
@@ -74,4 +74,18 @@ pub(crate) fn chain_of(book: &Book, group: u16, round: u32) -> Option<Chain>
         answered,
         end: survivors.minus(answered).nth(0),
     })
+}
+
+/// The survivors of a round, where it is opened: it is announced, and all of them sent their answer.
+pub fn opened_survivors(book: &Book, group: u16, round: u32) -> Option<MeterSet>
+    requires { IsTrue (has_round book.now group round) }
+    ensures { IsOpened (shape_of book.now) group round (past book.now) result }
+{
+    let Some(chain) = chain_of(book, group, round) else {
+        return None;
+    };
+    if chain.answered != chain.survivors {
+        return None;
+    }
+    Some(chain.survivors)
 }

@@ -15,10 +15,12 @@ mod replay;
 mod shifting;
 mod worlds;
 
+pub use chain::opened_survivors;
 pub use mask_table::MaskTable;
 use mod_word::Word;
 pub use offset_list::Offsets;
 use pair_keys::KeyId;
+pub use replay::replay_events;
 pub use shifting::{shift, unshift};
 use std::alloc::AllocError;
 pub use worlds::offsets;

@@ -70,7 +70,7 @@ fn make_event(book: &mut Book, event: &Event)
 }
 
 /// A book of the readings' presence after the events of a transcript. No word of the transcript is read.
-pub(crate) fn replay(
+pub fn replay_events(
     alloc: Global,
     readings: &Readings,
     transcript: &Transcript,

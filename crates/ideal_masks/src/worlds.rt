@@ -11,7 +11,7 @@ ghost use Rattle.ideal_masks.specs.OffsetEnds.{OffsetsEnd, HasTwoWorlds, HasNoWo
 
 use crate::agreement::{check_presence, check_totals};
 use crate::compared::Compared;
-use crate::replay::replay;
+use crate::replay::replay_events;
 use crate::{Differ, Offset, Offsets};
 use group_book::Book;
 use group_plan::Readings;
@@ -78,7 +78,7 @@ pub fn offsets(
     ensures converse { IfErr result (HasNoWorlds first.now second.now (events_of transcript.now.entries)) }
 {
     check_presence(first, second)?;
-    let book = replay(alloc, first, transcript)?;
+    let book = replay_events(alloc, first, transcript)?;
     check_totals(first, second, &book)?;
     Ok(Offsets::of(all_moves(alloc, first, second, &book)?))
 }

@@ -20,3 +20,4 @@ pub mod SpelledKeys
 pub mod SpelledPlan
 pub mod SpelledReadings
 pub mod SpelledSpans
+pub mod WrittenRows

@@ -14,7 +14,9 @@ mod plan;
 mod readings;
 mod row;
 mod row_reader;
+mod writing;
 
 pub use fault::{FileCause, FileError};
 pub use plan::{PlanFile, read_plan, read_public};
 pub use readings::read_readings;
+pub use writing::write_readings;

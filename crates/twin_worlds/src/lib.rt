@@ -13,7 +13,7 @@ mod writing;
 
 pub use answers::TwinError;
 pub use rows::{MovedRow, MovedWords};
-pub use twins::twin;
+pub use twins::{transcript_of_plan, twin};
 pub use writing::moved_text;
 
 pub mod laws;

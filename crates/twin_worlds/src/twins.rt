@@ -30,8 +30,8 @@ fn transcript_of(alloc: Global, text: &[u8]) -> Result<Transcript, TwinError>
     }
 }
 
-// The transcript of a text, where it is of this plan.
-fn transcript_of_plan(alloc: Global, plan: &Plan, text: &[u8]) -> Result<Transcript, TwinError>
+/// The transcript of a text, where it is of this plan; else `Transcript`, `Head` or `Memory`.
+pub fn transcript_of_plan(alloc: Global, plan: &Plan, text: &[u8]) -> Result<Transcript, TwinError>
     ensures { HeadEnds plan.now text.now result }
 {
     let transcript = transcript_of(alloc, text)?;

@@ -7,45 +7,35 @@ use Rattle.transcript_log.specs.Tables.{plain_sum}
 use Rattle.group_book.specs.Books.{shape_of, past}
 use Rattle.ideal_masks.proofs.ChainLemmas.{below-tests}
 use Rattle.ideal_masks.proofs.LinkLemmas.{survivors-below}
-use Rattle.ideal_masks.proofs.AgreementLemmas.{totals-round, one_total-lacking, opened-if, sum-is, sets-same, sets-differ}
+use Rattle.ideal_masks.proofs.AgreementLemmas.{totals-round, sum-is}
 use Rattle.ideal_masks.proofs.compared.Compared.check_total.Goals as goal
-
-pub returns-then-ne : goal.returns-then-ne
-returns-then-ne c =
-    let at = c.args.self.now in
-    let b = at.book.now in
-    let s = shape_of b in
-    let chain = c.in-Some.ensures in
-    totals-round s (reading at.first.now.table) (reading at.second.now.table) (past b) at.group at.round c.requires.before
-    (one_total-lacking s (reading at.first.now.table) (reading at.second.now.table) (past b) at.group at.round
-    (λ same. sets-differ c.in-Some.chain.answered c.in-Some.chain.survivors (sym c.if-ne.ensures) (chain.answered ∙ same ∙ sym chain.survivors)))
 
 pub sum_of_readings-first-requires-clause-meters : goal.sum_of_readings-first-requires-clause-meters
 sum_of_readings-first-requires-clause-meters c =
     let at = c.args.self.now in
     let b = at.book.now in
-    rw (c.requires.compared.first, c.in-Some.ensures.survivors) (below-tests (size b.presence.plan.groups at.group) (survivors (shape_of b) at.group at.round (past b)) (survivors-below (shape_of b) at.group at.round (past b)))
+    rw (c.requires.compared.first, c.in-Some.ensures.1) (below-tests (size b.presence.plan.groups at.group) (survivors (shape_of b) at.group at.round (past b)) (survivors-below (shape_of b) at.group at.round (past b)))
 
 pub sum_of_readings-second-requires-clause-meters : goal.sum_of_readings-second-requires-clause-meters
 sum_of_readings-second-requires-clause-meters c =
     let at = c.args.self.now in
     let b = at.book.now in
-    rw (c.requires.compared.second, c.in-Some.ensures.survivors) (below-tests (size b.presence.plan.groups at.group) (survivors (shape_of b) at.group at.round (past b)) (survivors-below (shape_of b) at.group at.round (past b)))
+    rw (c.requires.compared.second, c.in-Some.ensures.1) (below-tests (size b.presence.plan.groups at.group) (survivors (shape_of b) at.group at.round (past b)) (survivors-below (shape_of b) at.group at.round (past b)))
 
 pub returns-then-first-second : goal.returns-then-first-second
 returns-then-first-second c =
     let at = c.args.self.now in
     let b = at.book.now in
     let s = shape_of b in
-    let chain = c.in-Some.ensures in
+    let found = c.in-Some.ensures in
     let one = c.sum_of_readings-first.ensures in
     let two = c.sum_of_readings-second.ensures in
     record {
-      opened = opened-if s at.group at.round (past b) chain.announced (sym chain.answered ∙ sets-same c.in-Some.chain.answered c.in-Some.chain.survivors (sym c.if-ne.ensures) ∙ chain.survivors);
+      opened = found.0;
       first = sum-is s at.first.now.plan at.first.now.table (past b) at.group at.round c.sum_of_readings-first.result (ap (λ p. p.groups) (sym c.requires.compared.first)) one.limits one.table
-          (one.sum ∙ ap (λ l. word (plain_sum (reading at.first.now.table) at.group at.round l)) chain.survivors);
+          (one.sum ∙ ap (λ l. word (plain_sum (reading at.first.now.table) at.group at.round l)) found.1);
       second = sum-is s at.second.now.plan at.second.now.table (past b) at.group at.round c.sum_of_readings-second.result (ap (λ p. p.groups) (sym c.requires.compared.second)) two.limits two.table
-          (two.sum ∙ ap (λ l. word (plain_sum (reading at.second.now.table) at.group at.round l)) chain.survivors);
+          (two.sum ∙ ap (λ l. word (plain_sum (reading at.second.now.table) at.group at.round l)) found.1);
       differ = c.if-first-second.true;
       before = c.requires.before;
     }
@@ -55,12 +45,12 @@ returns c =
     let at = c.args.self.now in
     let b = at.book.now in
     let s = shape_of b in
-    let chain = c.in-Some.ensures in
+    let found = c.in-Some.ensures in
     let one = c.sum_of_readings-first.ensures in
     let two = c.sum_of_readings-second.ensures in
     let first = sum-is s at.first.now.plan at.first.now.table (past b) at.group at.round c.sum_of_readings-first.result (ap (λ p. p.groups) (sym c.requires.compared.first)) one.limits one.table
-    (one.sum ∙ ap (λ l. word (plain_sum (reading at.first.now.table) at.group at.round l)) chain.survivors) in
+    (one.sum ∙ ap (λ l. word (plain_sum (reading at.first.now.table) at.group at.round l)) found.1) in
     let second = sum-is s at.second.now.plan at.second.now.table (past b) at.group at.round c.sum_of_readings-second.result (ap (λ p. p.groups) (sym c.requires.compared.second)) two.limits two.table
-    (two.sum ∙ ap (λ l. word (plain_sum (reading at.second.now.table) at.group at.round l)) chain.survivors) in
+    (two.sum ∙ ap (λ l. word (plain_sum (reading at.second.now.table) at.group at.round l)) found.1) in
     totals-round s (reading at.first.now.table) (reading at.second.now.table) (past b) at.group at.round c.requires.before
     (λ _. sym first ∙ c.if-first-second.false ∙ second)

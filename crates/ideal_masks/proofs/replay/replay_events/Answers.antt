@@ -1,6 +1,6 @@
 use Rattle.std.proofs.Common.{◌∙◌, arith}
 use Rattle.ideal_masks.proofs.ReplayLemmas.{replaying-none, replaying-more, replaying-event, replayed}
-use Rattle.ideal_masks.proofs.replay.replay.Goals as goal
+use Rattle.ideal_masks.proofs.replay.replay_events.Goals as goal
 
 pub loop-at-init : goal.loop-at-init
 loop-at-init c =

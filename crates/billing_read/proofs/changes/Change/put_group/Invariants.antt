@@ -1,0 +1,9 @@
+use Rattle.std.proofs.Common.{◌≡◌}
+use Rattle.billing_read.specs.Changes.{after_change, HasBefore}
+use Rattle.billing_read.proofs.changes.Change.put_group.Given as goal
+
+abbrev pub invariant-loop-round : goal.invariant-loop-round
+invariant-loop-round l = record {
+  plan : l.other.plan ≡ l.fn.other.plan;
+  before : HasBefore (after_change l.self) l.other l.group l.round 0;
+}
