@@ -9,3 +9,6 @@ pub mod SayLemmas
 pub mod AnswerLemmas
 pub mod TotalLemmas
 pub mod EndLemmas
+pub mod PostCounts
+pub mod TextLengths
+pub mod RunLengths

@@ -7,3 +7,4 @@ pub mod Rows
 pub mod Replays
 pub mod Answers
 pub mod Ends
+pub mod Lengths
