@@ -50,12 +50,7 @@ fn put_meters(
 }
 
 /// Appends the row of a group in a round.
-fn put_row(
-    out: &mut Vec<u8>,
-    readings: &Readings,
-    group: u16,
-    round: u32,
-) -> Result<(), AllocError>
+fn put_row(out: &mut Vec<u8>, readings: &Readings, group: u16, round: u32) -> Result<(), AllocError>
     requires group { group < length readings.now.plan.groups }
     requires round { round < readings.now.plan.rounds }
     ensures { OnOk result (out.new.items ≡ out.old.items ++ row_text (readings_row readings.now.plan readings.now.table group round)) }
