@@ -1,0 +1,13 @@
+pub mod Members
+pub mod Blocks
+pub mod Ranks
+pub mod Calls
+pub mod Stays
+pub mod Entries
+pub mod Steps
+pub mod Ticks
+pub mod Wholes
+pub mod Finishing
+pub mod Refusals
+pub mod Noting
+pub mod CourseLemmas
