@@ -39,6 +39,9 @@ COMMANDS = [
     ("twin <plan <readings <other <transcript >masks", {0, 1, 2, 3, 4, 5, 6, 7, 8}),
     ("audit <transcript <report", {0, 1, 2, 3, 4, 7, 9}),
     ("convert <old >transcript", {0, 1, 2, 3, 4, 7}),
+    ("public <plan >public", {0, 1, 2, 3, 4, 5}),
+    ("bill <plan <readings 0 1 >bills", {0, 1, 2, 3, 4, 5, 6}),
+    ("hide <plan <readings <transcript 0 96 0 0 0 >hidden", {0, 1, 2, 3, 4, 5, 6, 7, 11}),
     ("make 7 2 3 4 >plan >readings", {0, 1, 2, 4}),
     ("load 7 2 3 4 2", {0, 1, 2, 4}),
     ("load 7 2 3 4 2 >transcript", {0, 1, 2, 4}),
@@ -224,11 +227,12 @@ def sample_files(program, room):
 
 
 def known_commands(program, room, files):
+    """The commands that the program has: on sample files each of them is done, or looks in vain."""
     known = []
     for command, statuses in COMMANDS:
         write_files(room, {name: files[name] for name in names_in(command, "<")})
         ended = run_in(room, program, words_of(command))
-        if ended.returncode == 0:
+        if ended.returncode in (0, 11):
             known.append((command, statuses))
         elif ended.returncode != 2:
             sys.exit(f"fuzz: the sample files of {command} ended with status {ended.returncode}")
@@ -263,7 +267,7 @@ def try_case(options, known, sets, number):
     paths = [os.path.normpath(word) for word in words]
     named = names_in(command, ">") if unchanged else [path for path in paths if path not in before]
     if not unchanged:
-        statuses = set(range(11))
+        statuses = set(range(12))
     started = time.monotonic()
     try:
         ended = run_in(room, options.program, words)

@@ -1,8 +1,8 @@
-//! The commands `convert`, `help` and `version`: what they store and say, and what they refuse.
+//! The commands `convert`, `public`, `help` and `version`: what they store and say, and what they refuse.
 
 use crate::fixtures::{
-    OLD_TRANSCRIPT, TRANSCRIPT, check_calls, check_complained, check_refused, check_said,
-    check_status, check_stored, check_text, held, replaced,
+    HEAD, NORTH, OLD_TRANSCRIPT, TRANSCRIPT, check_calls, check_complained, check_refused,
+    check_said, check_status, check_stored, check_text, desk_of as plan_desk, held, replaced,
 };
 use collector_workers::Free;
 use commands::{USAGE, VERSION};
@@ -89,6 +89,53 @@ fn old_transcript_refused(rt: HostRuntime) -> Result<(), Fail> {
         let mut desk = desk_of(alloc, &text, vec![in alloc; failing]?)?;
         check_refused(&rt, alloc, CONVERT, &mut desk, status, complaint, complaint)?;
         check_stored(&rt, &desk, "t.txt", stored, complaint);
+        check_said(&rt, &desk, "", complaint);
+    }
+    Ok(())
+}
+
+const PUBLIC: &str = "public plan.csv public.csv";
+
+#[test]
+fn public_plan_put(rt: HostRuntime) -> Result<(), Fail> {
+    let alloc = rt.alloc();
+    let rows = format!(in alloc;
+        "rounds,2\nwindows,1,2\n{NORTH}member,0,2,1,2\nlane,clear,,0,0\nmember,0,1,0,2\nmember,0,0,0,1\n"
+    )?;
+    let mut desk = plan_desk(alloc, &rows, "", Vec::new(alloc))?;
+    check_status(&rt, alloc, PUBLIC, &mut desk, &Free, 0, PUBLIC)?;
+    let wanted =
+        "public,1\nrounds,2\nwindows,1,2\ngroup,north,3,2\nmember,0,0,0,1\nmember,0,2,1,2\n";
+    check_text(&rt, held(&desk, "public.csv"), wanted, "public.csv");
+    check_said(&rt, &desk, "public: groups=1 rounds=2\n", PUBLIC);
+    check_complained(&rt, &desk, "", PUBLIC);
+    Ok(())
+}
+
+// Each row: what comes behind the plan's keys, the failing call, the status, the complaint, and whether the public plan is stored.
+static UNPUBLISHED: [(&str, u64, u8, &str, bool); 5] = [
+    (
+        "own,0,0,Z",
+        9,
+        5,
+        "plan.csv row 11: Key Twice own 0 0",
+        false,
+    ),
+    ("lane,clear,,1,0", 9, 5, "plan.csv row 11: LaneSpan", false),
+    ("", 0, 3, "cannot read plan.csv", false),
+    ("", 1, 4, "cannot write public.csv", false),
+    ("", 2, 4, "cannot print", true),
+];
+
+#[test]
+fn public_plan_refused(rt: HostRuntime) -> Result<(), Fail> {
+    let alloc = rt.alloc();
+    for case in UNPUBLISHED.iter() {
+        let (row, failing, status, complaint, stored) = *case;
+        let rows = format!(in alloc; "{HEAD}{NORTH}{row}")?;
+        let mut desk = plan_desk(alloc, &rows, "", vec![in alloc; failing]?)?;
+        check_refused(&rt, alloc, PUBLIC, &mut desk, status, complaint, complaint)?;
+        check_stored(&rt, &desk, "public.csv", stored, complaint);
         check_said(&rt, &desk, "", complaint);
     }
     Ok(())

@@ -5,6 +5,8 @@
 #[cfg(test)]
 mod audit_tests;
 #[cfg(test)]
+mod billing_tests;
+#[cfg(test)]
 mod command_tests;
 #[cfg(test)]
 mod fixtures;

@@ -331,7 +331,7 @@ fn failing_desk_calls(rt: HostRuntime) -> Result<(), Fail> {
 }
 
 // Words that are no command: too few or too many, names that are equal or empty, numbers outside their ranges.
-static BAD_WORDS: [&str; 46] = [
+static BAD_WORDS: [&str; 58] = [
     "run",
     "run plan.csv readings.csv report.csv",
     "ran plan.csv readings.csv report.csv t.txt",
@@ -376,6 +376,18 @@ static BAD_WORDS: [&str; 46] = [
     "convert old.txt",
     "convert old.txt old.txt",
     "convert old.txt t.txt 4",
+    "bill plan.csv readings.csv 0 2",
+    "bill plan.csv readings.csv 1 1 bills.csv",
+    "bill plan.csv readings.csv 0 4097 bills.csv",
+    "bill plan.csv readings.csv 0 2 plan.csv",
+    "hide plan.csv readings.csv t.txt 2 0 0 0 0 other.csv",
+    "hide plan.csv readings.csv t.txt 0 2 256 0 0 other.csv",
+    "hide plan.csv readings.csv t.txt 0 2 0 4096 0 other.csv",
+    "hide plan.csv readings.csv t.txt 0 2 0 0 256 other.csv",
+    "hide plan.csv readings.csv t.txt 0 2 0 0 0 t.txt",
+    "public plan.csv",
+    "public plan.csv plan.csv",
+    "public plan.csv public.csv 4",
     "help run",
     "version 2",
 ];

@@ -5,14 +5,24 @@ use Rattle.std.specs.Borrow.{Bor}
 use Rattle.load_maker.specs.Sizes.{is_within}
 use Rattle.command_words.specs.declared.words.Size.{Size as KeptSize}
 use Rattle.command_words.specs.declared.words.TwinFiles.{TwinFiles}
+use Rattle.command_words.specs.declared.words.BillFiles.{BillFiles}
+use Rattle.command_words.specs.declared.words.HideFiles.{HideFiles}
 use Rattle.command_words.specs.declared.words.Command.{Command as Kept}
 use Rattle.command_words.specs.declared.words.Command.TheVariants as kept
-use Rattle.command_words.specs.Words.{TwinNames, Size, Command, Run, Audit, Twin, Make, Load, Convert, Help, Version, names_of}
+use Rattle.command_words.specs.Words.{TwinNames, Size, Command, Run, Audit, Twin, Make, Load, Convert, Public, Help, Version, names_of, Bill, Hide, BillNames, HideNames}
 
 -- the names of the files of `twin`
 abbrev pub twin_names_of : TwinFiles → TwinNames
 twin_names_of files =
     record { plan = files.plan.now; readings = files.readings.now; other = files.other.now; transcript = files.transcript.now; masks = files.masks.now }
+
+-- the names of the files of `bill`
+abbrev pub bill_names_of : BillFiles → BillNames
+bill_names_of files = record { plan = files.plan.now; readings = files.readings.now; bills = files.bills.now }
+
+-- the names of the files of `hide`
+abbrev pub hide_names_of : HideFiles → HideNames
+hide_names_of files = record { plan = files.plan.now; readings = files.readings.now; transcript = files.transcript.now; other = files.other.now }
 
 -- the size that is meant
 abbrev pub size_in : KeptSize → Size
@@ -30,6 +40,9 @@ asked (kept.Twin files) = Twin (twin_names_of files)
 asked (kept.Make words) = Make (size_in words.size) words.plan.now words.readings.now
 asked (kept.Load words) = Load (size_in words.size) words.workers (name_in words.transcript)
 asked (kept.Convert files) = Convert files.old.now files.transcript.now
+asked (kept.Public files) = Public files.plan.now files.public.now
+asked (kept.Bill words) = Bill (bill_names_of words.files) words.period
+asked (kept.Hide words) = Hide (hide_names_of words.files) words.period words.place
 asked kept.Help = Help
 asked kept.Version = Version
 

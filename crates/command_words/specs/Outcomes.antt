@@ -5,7 +5,7 @@ use Rattle.std.specs.List.{flat_map}
 use Rattle.hex.specs.Hex.{encode_lower}
 use Rattle.plan_files.specs.declared.fault.FileError.{FileError}
 use Rattle.command_words.specs.declared.outcome.Outcome.{Outcome}
-use Rattle.command_words.specs.declared.outcome.Outcome.TheVariants.{Done, NoMemory, BadWords, CannotRead, TooLong, CannotWrite, CannotPrint, BadPlan, BadReadings, BadTranscript, BadReport, Impossible, OtherRow, OtherPlan, OtherLine, OtherPresence, OtherTotal, BadLane}
+use Rattle.command_words.specs.declared.outcome.Outcome.TheVariants.{Done, NoMemory, BadWords, CannotRead, TooLong, CannotWrite, CannotPrint, BadPlan, BadReadings, BadTranscript, BadReport, Impossible, OtherRow, OtherPlan, OtherLine, OtherPresence, OtherTotal, BadLane, NoPartner}
 use Rattle.command_words.specs.Causes.{cause_text, rack_cause_name, read_error_name}
 use Rattle.transcript_text.specs.Faults.{fault_line}
 use Rattle.transcript_text.specs.declared.version.Version.TheVariants.{Two}
@@ -33,6 +33,7 @@ status_of (OtherLine name line expected) = 7
 status_of (OtherPresence group round meter) = 8
 status_of (OtherTotal group round first second) = 8
 status_of (BadLane fault) = 10
+status_of (NoPartner group round meter) = 11
 
 -- a byte that a terminal may obey: it is below 0x20, or 0x7f
 abbrev pub is_control : ℕ → Bool
@@ -88,6 +89,8 @@ complaint_of (OtherPresence group round meter) =
 complaint_of (OtherTotal group round first second) =
     codes "meteragg: total " ++ (decimal group ++ (codes " " ++ (decimal round ++ (codes " " ++ (decimal first ++ (codes " " ++ (decimal second ++ codes "\n")))))))
 complaint_of (BadLane fault) = codes "meteragg: lane row " ++ (decimal fault.row ++ (codes ": " ++ (rack_cause_name fault.cause ++ codes "\n")))
+complaint_of (NoPartner group round meter) =
+    codes "meteragg: alone " ++ (decimal group ++ (codes " " ++ (decimal round ++ (codes " " ++ (decimal meter ++ codes "\n")))))
 
 -- the outcomes whose complaint names no file and tells no row of a report
 abbrev pub IsText : Outcome → Type 0
@@ -98,6 +101,7 @@ IsText CannotPrint = ⊤
 IsText (OtherPresence group round meter) = ⊤
 IsText (OtherTotal group round first second) = ⊤
 IsText (BadLane fault) = ⊤
+IsText (NoPartner group round meter) = ⊤
 IsText other = ⊥
 
 -- the outcomes whose complaint is a file's name and what is wrong with the file
@@ -138,3 +142,4 @@ IsFault (OtherLine name line expected) = ⊥
 IsFault (OtherPresence group round meter) = ⊥
 IsFault (OtherTotal group round first second) = ⊥
 IsFault (BadLane fault) = ⊥
+IsFault (NoPartner group round meter) = ⊥

@@ -1,8 +1,10 @@
 -- The words of the command line, without the program's name.
-use Rattle.std.specs.Prelude.{ℕ, Bool, true, false, ◌&&◌, ◌||◌, not, List, [], ◌∷◌, Option, Some, None, if◌then◌else◌, codes}
+use Rattle.std.specs.Prelude.{ℕ, Bool, true, false, ◌&&◌, ◌||◌, not, List, [], ◌∷◌, Option, Some, None, nat_lt, if◌then◌else◌, codes}
 use Rattle.std.specs.Str.{bytes_eq}
 use Rattle.field_texts.specs.Numbers.{number_of, within}
 use Rattle.load_maker.specs.Sizes.{is_within}
+use Rattle.command_words.specs.declared.words.Period.{Period}
+use Rattle.command_words.specs.declared.words.Place.{Place}
 use Rattle.command_words.specs.declared.words.RunFiles.{RunFiles}
 
 -- the names of the files of `run`
@@ -27,6 +29,19 @@ pub record Size : Type 0 where
   pub meters : ℕ
   pub rounds : ℕ
 
+-- the names of the files of `bill`
+pub record BillNames : Type 0 where
+  pub plan : List ℕ
+  pub readings : List ℕ
+  pub bills : List ℕ
+
+-- the names of the files of `hide`
+pub record HideNames : Type 0 where
+  pub plan : List ℕ
+  pub readings : List ℕ
+  pub transcript : List ℕ
+  pub other : List ℕ
+
 -- what the words ask for
 pub data Command : Type 0 where
   Run : (names : RunNames) (workers : ℕ) → Command
@@ -35,6 +50,9 @@ pub data Command : Type 0 where
   Make : (size : Size) (plan readings : List ℕ) → Command
   Load : (size : Size) (workers : ℕ) (transcript : Option (List ℕ)) → Command
   Convert : (old transcript : List ℕ) → Command
+  Public : (plan public : List ℕ) → Command
+  Bill : (names : BillNames) (period : Period) → Command
+  Hide : (names : HideNames) (period : Period) (place : Place) → Command
   Help : Command
   Version : Command
 
@@ -150,6 +168,64 @@ abbrev pub convert_of : List (List ℕ) → Option Command
 convert_of (old ∷ transcript ∷ []) = convert_with old transcript
 convert_of _ = None
 
+-- `public PLAN PUBLIC`
+unfoldable pub public_with : (plan public : List ℕ) → Option Command
+public_with plan public = if are_names (plan ∷ public ∷ []) then Some (Public plan public) else None
+
+abbrev pub public_of : List (List ℕ) → Option Command
+public_of (plan ∷ public ∷ []) = public_with plan public
+public_of _ = None
+
+-- a period of rounds, the first of which comes before its end
+abbrev pub period_by : (from until : Option ℕ) → Option Period
+period_by (Some from) (Some until) = if nat_lt from until then Some (record { from = from; until = until }) else None
+period_by _ _ = None
+
+-- the period that two words spell: it ends at round 4096 at the latest
+unfoldable pub period_of : (from until : List ℕ) → Option Period
+period_of from until = period_by (within 0 4097 (number_of from)) (within 0 4097 (number_of until))
+
+-- a place of three numbers
+abbrev pub place_by : (group round meter : Option ℕ) → Option Place
+place_by (Some group) (Some round) (Some meter) = Some (record { group = group; round = round; meter = meter })
+place_by _ _ _ = None
+
+-- the place that three words spell
+unfoldable pub place_of : (group round meter : List ℕ) → Option Place
+place_of group round meter = place_by (within 0 256 (number_of group)) (within 0 4096 (number_of round)) (within 0 256 (number_of meter))
+
+-- a command that takes a period, where there is one
+abbrev pub with_period : Option Period → (Period → Option Command) → Option Command
+with_period None command = None
+with_period (Some period) command = command period
+
+-- a command that takes a place, where there is one
+abbrev pub with_place : Option Place → (Place → Option Command) → Option Command
+with_place None command = None
+with_place (Some place) command = command place
+
+-- `bill` with these files, where they are names, and a period
+unfoldable pub bill_with : (plan readings bills : List ℕ) → Period → Option Command
+bill_with plan readings bills period =
+    if are_names (plan ∷ readings ∷ bills ∷ []) then Some (Bill (record { plan = plan; readings = readings; bills = bills }) period) else None
+
+-- `bill PLAN READINGS FROM UNTIL BILLS`
+abbrev pub bill_of : List (List ℕ) → Option Command
+bill_of (plan ∷ readings ∷ from ∷ until ∷ bills ∷ []) = with_period (period_of from until) (bill_with plan readings bills)
+bill_of _ = None
+
+-- `hide` with these files, where they are names, a period and a place
+unfoldable pub hide_with : HideNames → Period → Place → Option Command
+hide_with names period place =
+    if are_names (names.plan ∷ names.readings ∷ names.transcript ∷ names.other ∷ []) then Some (Hide names period place) else None
+
+-- `hide PLAN READINGS TRANSCRIPT FROM UNTIL G R I OTHER`
+abbrev pub hide_of : List (List ℕ) → Option Command
+hide_of (plan ∷ readings ∷ transcript ∷ from ∷ until ∷ group ∷ round ∷ meter ∷ other ∷ []) =
+    with_period (period_of from until) (λ period. with_place (place_of group round meter)
+    (hide_with (record { plan = plan; readings = readings; transcript = transcript; other = other }) period))
+hide_of _ = None
+
 -- a command that has no words
 abbrev pub alone : Command → List (List ℕ) → Option Command
 alone command [] = Some command
@@ -173,6 +249,9 @@ command_by verb words =
     else if bytes_eq verb (codes "make") then make_of words
     else if bytes_eq verb (codes "load") then load_of words
     else if bytes_eq verb (codes "convert") then convert_of words
+    else if bytes_eq verb (codes "public") then public_of words
+    else if bytes_eq verb (codes "bill") then bill_of words
+    else if bytes_eq verb (codes "hide") then hide_of words
     else if asks_help verb then alone Help words
     else if asks_version verb then alone Version words
     else None

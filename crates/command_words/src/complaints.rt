@@ -294,6 +294,11 @@ fn text_complaint(alloc: Global, outcome: &Outcome<'_>) -> Result<String, AllocE
             let cause = rack_cause_name(fault.cause);
             format!(in alloc; "meteragg: lane row {row}: {cause}\n")
         }
+        Outcome::NoPartner {
+            group,
+            round,
+            meter,
+        } => format!(in alloc; "meteragg: alone {group} {round} {meter}\n"),
         _ => Ok(String::new(alloc)),
     }
 }
@@ -321,7 +326,8 @@ pub fn complaint(alloc: Global, outcome: &Outcome<'_>) -> Result<Vec<u8>, AllocE
         | Outcome::CannotPrint
         | Outcome::OtherPresence { .. }
         | Outcome::OtherTotal { .. }
-        | Outcome::BadLane(_) => Ok(text_complaint(alloc, outcome)?.into_bytes()),
+        | Outcome::BadLane(_)
+        | Outcome::NoPartner { .. } => Ok(text_complaint(alloc, outcome)?.into_bytes()),
         _ => name_complaint(alloc, outcome),
     }
 }

@@ -64,4 +64,10 @@ pub enum Outcome<'a> {
     },
     /// A lane row of the plan file gets no lane.
     BadLane(RackError),
+    /// The reading of this meter in this round has no partner in the period; all are counted from 0.
+    NoPartner {
+        group: u16,
+        round: u32,
+        meter: u8,
+    },
 }

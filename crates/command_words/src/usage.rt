@@ -1,7 +1,7 @@
 //! What `help` and `version` say.
 
 /// The usage: each command with its words, what the words may be, the statuses, and where the formats stand.
-pub const USAGE: &str = "meteragg: the total of each group of smart meters, and no meter's reading.
+pub const USAGE: &str = "meteragg: the total of each group of smart meters, from hidden readings.
 
 Commands
   run PLAN READINGS REPORT TRANSCRIPT [WORKERS]
@@ -17,6 +17,13 @@ Commands
       make a plan and readings from a seed, run them, and print the summary
   convert OLD TRANSCRIPT
       write a transcript of version 1 as a transcript of version 2
+  public PLAN PUBLIC
+      write the plan without its keys and lanes
+  bill PLAN READINGS FROM UNTIL BILLS
+      write in clear what each meter used in a period of rounds
+  hide PLAN READINGS TRANSCRIPT FROM UNTIL G R I OTHER
+      find readings that differ at a place, and have the same totals and the same
+      bills of a period; write them
   help, --help, -h
       print this text
   version, --version, -V
@@ -29,6 +36,9 @@ Words
   METERS   2 to 256, in each group
   ROUNDS   1 to 4096; GROUPS times METERS times ROUNDS is at most 131072, and
            GROUPS times METERS times (METERS - 1) at most 2097152
+  FROM     0 to 4095, below UNTIL: a period begins with round FROM
+  UNTIL    1 to 4096: it ends before round UNTIL
+  G, R, I  a group, a round and a meter: below 256, 4096 and 256
   All other words are file names. No two names of one command are equal.
 
 Statuses
@@ -43,6 +53,7 @@ Statuses
    8  the two tables of readings differ in a place or in an opened total
    9  the report says something else than the transcript
   10  a lane of the plan does not exist or does not take its argument
+  11  no other reading of the period can hide this one
 
 docs/FORMATS.md describes the files, and what is printed at each status.
 ";

@@ -1,8 +1,8 @@
 //! The words of the command line.
 
 ghost use Rattle.std.specs.Prelude.{◌≡◌, ◌≤◌, ℕ, List, None, Some, IfSome, MatchOption, map, string_bytes};
-ghost use Rattle.command_words.specs.Words.{has_name, are_names, workers_of, run_with, run_of, size_of, audit_of, twin_with, twin_of, make_of, load_with, load_of, convert_of, alone, asks_help, asks_version, command_by, command_of};
-ghost use Rattle.command_words.specs.Commands.{size_in, name_in, asked, IsSize, IsWithin};
+ghost use Rattle.command_words.specs.Words.{has_name, are_names, workers_of, run_with, run_of, size_of, audit_of, twin_with, twin_of, make_of, load_with, load_of, convert_of, public_of, alone, asks_help, asks_version, command_by, command_of, period_of, place_of, bill_with, bill_of, hide_with, hide_of};
+ghost use Rattle.command_words.specs.Commands.{size_in, name_in, asked, IsSize, IsWithin, hide_names_of};
 
 use field_texts::{read_number, read_number_within};
 use load_maker::is_within;
@@ -12,6 +12,12 @@ const USUAL_WORKERS: u32 = 4;
 
 /// The greatest number of workers.
 const MOST_WORKERS: u64 = 16;
+
+/// The most rounds that a plan can have.
+const MOST_ROUNDS: u64 = 4096;
+
+/// The most groups that a plan can have, and the most meters of a group.
+const MOST_OF_EACH: u64 = 256;
 
 /// The names of the files of `run`.
 #[derive(Clone, Copy)]
@@ -83,6 +89,64 @@ pub struct ConvertFiles<'a> {
     pub transcript: &'a str,
 }
 
+/// The names of the files of `public`.
+#[derive(Clone, Copy)]
+pub struct PublicFiles<'a> {
+    pub plan: &'a str,
+    pub public: &'a str,
+}
+
+/// A period of rounds: from `from` up to below `until`.
+#[derive(Clone, Copy)]
+pub struct Period {
+    /// Below `until`.
+    pub from: u32,
+    /// At most 4096.
+    pub until: u32,
+}
+
+/// A meter of a group in a round, all counted from 0.
+#[derive(Clone, Copy)]
+pub struct Place {
+    /// Below 256.
+    pub group: u16,
+    /// Below 4096.
+    pub round: u32,
+    pub meter: u8,
+}
+
+/// The names of the files of `bill`.
+#[derive(Clone, Copy)]
+pub struct BillFiles<'a> {
+    pub plan: &'a str,
+    pub readings: &'a str,
+    pub bills: &'a str,
+}
+
+/// `bill PLAN READINGS FROM UNTIL BILLS`.
+#[derive(Clone, Copy)]
+pub struct BillWords<'a> {
+    pub files: BillFiles<'a>,
+    pub period: Period,
+}
+
+/// The names of the files of `hide`.
+#[derive(Clone, Copy)]
+pub struct HideFiles<'a> {
+    pub plan: &'a str,
+    pub readings: &'a str,
+    pub transcript: &'a str,
+    pub other: &'a str,
+}
+
+/// `hide PLAN READINGS TRANSCRIPT FROM UNTIL G R I OTHER`.
+#[derive(Clone, Copy)]
+pub struct HideWords<'a> {
+    pub files: HideFiles<'a>,
+    pub period: Period,
+    pub place: Place,
+}
+
 /// What the words ask for.
 #[derive(Clone, Copy)]
 pub enum Command<'a> {
@@ -98,6 +162,12 @@ pub enum Command<'a> {
     Load(LoadWords<'a>),
     /// Brings a transcript of version 1 up to version 2.
     Convert(ConvertFiles<'a>),
+    /// Writes a plan without its keys and lanes.
+    Public(PublicFiles<'a>),
+    /// Writes the bills of a period.
+    Bill(BillWords<'a>),
+    /// Looks for readings that hide one behind the bills and the transcript.
+    Hide(HideWords<'a>),
     /// Says the usage.
     Help,
     /// Says the program's name and version.
@@ -338,6 +408,143 @@ fn convert_words(words: &[String]) -> Option<Command<'_>>
     }
 }
 
+// `public` by the words behind the verb.
+#[tactic(auto, unfolding(crate::specs::Words::public_with))]
+fn public_words(words: &[String]) -> Option<Command<'_>>
+    ensures command { MatchOption result (public_of (map string_bytes words.now) ≡ None) (λ command. public_of (map string_bytes words.now) ≡ Some (asked command)) }
+    ensures within { IfSome result (λ command. IsWithin command) }
+{
+    match words {
+        [plan, public] => {
+            if are_names(&[plan, public]) {
+                Some(Command::Public(PublicFiles { plan, public }))
+            } else {
+                None
+            }
+        }
+        _ => None,
+    }
+}
+
+// The period that two words spell.
+#[tactic(auto, unfolding(crate::specs::Words::period_of))]
+fn read_period(from: &str, until: &str) -> Option<Period>
+    ensures { result ≡ period_of from.now until.now }
+{
+    let from = read_number_within(from.as_bytes(), 0, MOST_ROUNDS + 1)?;
+    let until = read_number_within(until.as_bytes(), 0, MOST_ROUNDS + 1)?;
+    if from < until {
+        Some(Period {
+            from: from as u32,
+            until: until as u32,
+        })
+    } else {
+        None
+    }
+}
+
+// The place that three words spell.
+#[tactic(auto, unfolding(crate::specs::Words::place_of))]
+fn read_place(group: &str, round: &str, meter: &str) -> Option<Place>
+    ensures { result ≡ place_of group.now round.now meter.now }
+{
+    let group = read_number_within(group.as_bytes(), 0, MOST_OF_EACH)?;
+    let round = read_number_within(round.as_bytes(), 0, MOST_ROUNDS)?;
+    let meter = read_number_within(meter.as_bytes(), 0, MOST_OF_EACH)?;
+    Some(Place {
+        group: group as u16,
+        round: round as u32,
+        meter: meter as u8,
+    })
+}
+
+// `bill` with these files, where the words are names, and a period.
+#[tactic(auto, unfolding(crate::specs::Words::bill_with))]
+fn bill_with<'a>(
+    plan: &'a str,
+    readings: &'a str,
+    bills: &'a str,
+    period: Period,
+) -> Option<Command<'a>>
+    ensures command { MatchOption result (bill_with plan.now readings.now bills.now period ≡ None)
+        (λ command. bill_with plan.now readings.now bills.now period ≡ Some (asked command)) }
+    ensures within { IfSome result (λ command. IsWithin command) }
+{
+    if are_names(&[plan, readings, bills]) {
+        let files = BillFiles {
+            plan,
+            readings,
+            bills,
+        };
+        Some(Command::Bill(BillWords { files, period }))
+    } else {
+        None
+    }
+}
+
+// `bill` by the words behind the verb.
+fn bill_words(words: &[String]) -> Option<Command<'_>>
+    ensures command { MatchOption result (bill_of (map string_bytes words.now) ≡ None) (λ command. bill_of (map string_bytes words.now) ≡ Some (asked command)) }
+    ensures within { IfSome result (λ command. IsWithin command) }
+{
+    match words {
+        [plan, readings, from, until, bills] => {
+            let period = read_period(from, until)?;
+            bill_with(plan, readings, bills, period)
+        }
+        _ => None,
+    }
+}
+
+// `hide` with these files, where the words are names, a period and a place.
+#[tactic(auto, unfolding(crate::specs::Words::hide_with))]
+fn hide_with<'a>(files: HideFiles<'a>, period: Period, place: Place) -> Option<Command<'a>>
+    ensures command { MatchOption result (hide_with (hide_names_of files.entry) period place ≡ None)
+        (λ command. hide_with (hide_names_of files.entry) period place ≡ Some (asked command)) }
+    ensures within { IfSome result (λ command. IsWithin command) }
+{
+    if are_names(&[files.plan, files.readings, files.transcript, files.other]) {
+        Some(Command::Hide(HideWords {
+            files,
+            period,
+            place,
+        }))
+    } else {
+        None
+    }
+}
+
+// `hide` by the words behind the verb.
+fn hide_words(words: &[String]) -> Option<Command<'_>>
+    ensures command { MatchOption result (hide_of (map string_bytes words.now) ≡ None) (λ command. hide_of (map string_bytes words.now) ≡ Some (asked command)) }
+    ensures within { IfSome result (λ command. IsWithin command) }
+{
+    match words {
+        [
+            plan,
+            readings,
+            transcript,
+            from,
+            until,
+            group,
+            round,
+            meter,
+            other,
+        ] => {
+            let period = read_period(from, until)?;
+            let place = read_place(group, round, meter)?;
+            let files = HideFiles {
+                plan,
+                readings,
+                transcript,
+                other,
+            };
+            hide_with(files, period, place)
+        }
+        _ => None,
+    }
+}
+
 // Whether the word asks for the usage.
 fn asks_help(verb: &str) -> bool
     ensures { result ≡ asks_help verb.now }
@@ -381,6 +588,12 @@ fn command_by<'a>(verb: &str, words: &'a [String]) -> Option<Command<'a>>
         load_words(words)
     } else if verb == "convert" {
         convert_words(words)
+    } else if verb == "public" {
+        public_words(words)
+    } else if verb == "bill" {
+        bill_words(words)
+    } else if verb == "hide" {
+        hide_words(words)
     } else if asks_help(verb) {
         alone(Command::Help, words)
     } else if asks_version(verb) {

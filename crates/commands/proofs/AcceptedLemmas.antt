@@ -1,6 +1,6 @@
 -- Accepted files are done.
 use Rattle.std.proofs.Common.{◌≡◌, ◌≢◌, ◌≤◌, ◌<◌, ◌^◌, ◌⊎◌, ℕ, false, List, [], ◌∷◌, length, refl, sym, ap, ◌∙◌, subst, inl, inr, arith, Result, Ok, Err}
-use Rattle.std.specs.Prelude.{Option, Some, ◌*◌, ◌+◌, ◌-◌, slice_get}
+use Rattle.std.specs.Prelude.{Option, Some, None, ◌*◌, ◌+◌, ◌-◌, slice_get}
 use Rattle.transcript_log.specs.Frames.{IsPossible}
 use Rattle.transcript_text.specs.declared.version.Version.TheVariants.{Two}
 use Rattle.transcript_log.specs.Transcripts.{TranscriptView}
@@ -16,6 +16,7 @@ use Rattle.link_lanes.specs.Fits.{hung_by}
 use Rattle.link_lanes.specs.declared.cupboard.RackError.{RackError}
 use Rattle.plan_files.specs.declared.fault.FileError.{FileError}
 use Rattle.plan_files.specs.PlanFiles.{plan_of}
+use Rattle.plan_files.specs.Spelling.{public_text}
 use Rattle.plan_files.specs.Readings.{readings_of}
 use Rattle.transcript_text.specs.declared.fault.ReadError.{ReadError}
 use Rattle.transcript_text.specs.declared.version.Version.TheVariants.{One}
@@ -32,13 +33,20 @@ use Rattle.twin_worlds.specs.Statements.{FindsTwins, IsHonest}
 use Rattle.twin_worlds.proofs.HonestLemmas.{honest-have-twins}
 use Rattle.commands.specs.Twins.{TwinBytes, AreReadBy, TwinValues, AreTwinValues, Compared, RefusesFirst, RefusesSecond, TwinRefuses}
 use Rattle.command_words.specs.declared.outcome.Outcome.{Outcome}
-use Rattle.command_words.specs.declared.outcome.Outcome.TheVariants.{Done, NoMemory, BadWords, CannotRead, TooLong, CannotWrite, CannotPrint, BadPlan, BadReadings, BadTranscript, BadReport, Impossible, OtherRow, OtherPlan, OtherLine, OtherPresence, OtherTotal, BadLane}
-use Rattle.command_words.specs.Words.{RunNames, TwinNames, Size, Command, Run, Audit, Twin, Make, Load, Convert, Help, Version}
+use Rattle.command_words.specs.declared.outcome.Outcome.TheVariants.{Done, NoMemory, BadWords, CannotRead, TooLong, CannotWrite, CannotPrint, BadPlan, BadReadings, BadTranscript, BadReport, Impossible, OtherRow, OtherPlan, OtherLine, OtherPresence, OtherTotal, BadLane, NoPartner}
+use Rattle.command_words.specs.Words.{RunNames, TwinNames, Size, Command, Run, Audit, Twin, Make, Load, Convert, Public, Help, Version, BillNames, HideNames, Bill, Hide}
 use Rattle.commands.specs.Calls.{most_bytes, EndsAtFetch, IsRead, after_fetches, Unread, Putting, putting, PutsEnd}
 use Rattle.transcript_text.specs.Spelling.{transcript_text}
-use Rattle.commands.specs.Ends.{fetched_by, put_by, converted_line, RefusesLane, RefusesReadings, RunRefuses, RunEnds, audited_line, AuditCommandEnds, compared_by, moved_line, TwinCommandEnds, made_plan_text, made_readings_text, made_line, MakeEnds, put_where, LoadRefuses, LoadEnds, ConvertRefuses, ConvertEnds, Ends}
+use Rattle.commands.specs.Ends.{fetched_by, put_by, converted_line, RefusesLane, RefusesReadings, RunRefuses, RunEnds, audited_line, AuditCommandEnds, compared_by, moved_line, TwinCommandEnds, made_plan_text, made_readings_text, made_line, MakeEnds, put_where, LoadRefuses, LoadEnds, ConvertRefuses, ConvertEnds, public_line, PublicRefuses, PublicEnds, Ends}
 use Rattle.command_words.specs.Outcomes.{status_of, IsFault}
-use Rattle.commands.specs.Accepted.{HoldsFile, RunAccepts, AuditAccepts, TwinAccepts, LoadAccepts, ConvertAccepts, Accepts, AcceptedIsDone}
+use Rattle.commands.specs.Accepted.{HoldsFile, RunAccepts, AuditAccepts, TwinAccepts, LoadAccepts, ConvertAccepts, PublicAccepts, Accepts, AcceptedIsDone, BillAccepts, HideAccepts}
+use Rattle.command_words.specs.declared.words.Period.{Period}
+use Rattle.command_words.specs.declared.words.Place.{Place}
+use Rattle.group_plan.specs.Plans.{PlanView}
+use Rattle.group_plan.specs.Tables.{ReadingsView}
+use Rattle.plan_files.specs.Spelling.{readings_text}
+use Rattle.commands.specs.Billing.{Metered, AreMetered, MeteredRefuses, bills_in, bills_text_in, HideBytes, AreHideBytes, TextRefuses, Finds, IsAlone}
+use Rattle.commands.specs.BillingEnds.{billed_by, bills_line, BillEnds, hidden_by, hidden_line, HideRefuses, HideEnds}
 
 -- ---- what was read
 
@@ -90,6 +98,7 @@ puts_calm files line v w (OtherLine name number expected) ends = absurd ends
 puts_calm files line v w (OtherPresence group round meter) ends = absurd ends
 puts_calm files line v w (OtherTotal group round first second) ends = absurd ends
 puts_calm files line v w (BadLane fault) ends = absurd ends
+puts_calm files line v w (NoPartner group round meter) ends = absurd ends
 
 -- fetches of which none finds too many bytes
 unread_calm : (names : List (List ℕ)) (v w : View) (outcome : Outcome)
@@ -112,6 +121,7 @@ unread_calm names v w (OtherLine name line expected) short ends = absurd ends
 unread_calm names v w (OtherPresence group round meter) short ends = absurd ends
 unread_calm names v w (OtherTotal group round first second) short ends = absurd ends
 unread_calm names v w (BadLane fault) short ends = absurd ends
+unread_calm names v w (NoPartner group round meter) short ends = absurd ends
 
 one_is_short : (v w : View) (name told : List ℕ) → HoldsFile v name told → (last : List ℕ) → EndsAtFetch (name ∷ []) false v w last → IsLonger (v.held last) most_bytes → ⊥
 one_is_short v w name told file last (inl here) longer = not_longer v name told last file here.0 longer
@@ -162,6 +172,7 @@ nothing_refused cupboard names v p r (OtherLine name line expected) good p_read 
 nothing_refused cupboard names v p r (OtherPresence group round meter) good p_read r_read ends = absurd ends
 nothing_refused cupboard names v p r (OtherTotal group round first second) good p_read r_read ends = absurd ends
 nothing_refused cupboard names v p r (BadLane fault) good p_read r_read ends = absurd (lanes_are_right cupboard names v good p fault p_read ends)
+nothing_refused cupboard names v p r (NoPartner group round meter) good p_read r_read ends = absurd ends
 
 run_calm : (cupboard : List Meaning) (names : RunNames) (v w : View) (outcome : Outcome) → RunAccepts cupboard names v → RunEnds cupboard names v w outcome → IsCalm outcome
 run_calm cupboard names v w outcome good (inl unread) =
@@ -222,6 +233,7 @@ audit_not_refused transcript report v tb rb (OtherLine name line expected) good 
 audit_not_refused transcript report v tb rb (OtherPresence group round meter) good t_read r_read ends = absurd ends
 audit_not_refused transcript report v tb rb (OtherTotal group round first second) good t_read r_read ends = absurd ends
 audit_not_refused transcript report v tb rb (BadLane fault) good t_read r_read ends = absurd ends
+audit_not_refused transcript report v tb rb (NoPartner group round meter) good t_read r_read ends = absurd ends
 
 audit_calm : (transcript report : List ℕ) (v w : View) (outcome : Outcome) → AuditAccepts transcript report v → AuditCommandEnds transcript report v w outcome → IsCalm outcome
 audit_calm transcript report v w outcome good (inl unread) =
@@ -325,6 +337,7 @@ twin_not_refused names v good (OtherLine name line expected) (named, (found, end
 twin_not_refused names v good (OtherPresence group round meter) ends = absurd (none_compared names v good (twin.Differ (Presence group round meter)) ends (λ is. cc))
 twin_not_refused names v good (OtherTotal group round first second) ends = absurd (none_compared names v good (twin.Differ (Total group round first second)) ends (λ is. cc))
 twin_not_refused names v good (BadLane fault) ends = absurd ends
+twin_not_refused names v good (NoPartner group round meter) ends = absurd ends
 
 twin_calm : (names : TwinNames) (v w : View) (outcome : Outcome) → TwinAccepts names v → TwinCommandEnds names v w outcome → IsCalm outcome
 twin_calm names v w outcome good (inl unread) =
@@ -362,6 +375,7 @@ load_not_refused cupboard size (OtherLine name line expected) good ends = absurd
 load_not_refused cupboard size (OtherPresence group round meter) good ends = absurd ends
 load_not_refused cupboard size (OtherTotal group round first second) good ends = absurd ends
 load_not_refused cupboard size (BadLane fault) good ends = absurd (ok_or_err _ _ _ good.lanes ends)
+load_not_refused cupboard size (NoPartner group round meter) good ends = absurd ends
 
 load_calm : (cupboard : List Meaning) (size : Size) (transcript : Option (List ℕ)) (v w : View) (outcome : Outcome) → LoadAccepts cupboard size
     → LoadEnds cupboard size transcript v w outcome → IsCalm outcome
@@ -396,12 +410,122 @@ text_not_refused old v bytes (OtherLine name line expected) good is ends = absur
 text_not_refused old v bytes (OtherPresence group round meter) good is ends = absurd ends
 text_not_refused old v bytes (OtherTotal group round first second) good is ends = absurd ends
 text_not_refused old v bytes (BadLane fault) good is ends = absurd ends
+text_not_refused old v bytes (NoPartner group round meter) good is ends = absurd ends
 
 convert_calm : (old transcript : List ℕ) (v w : View) (outcome : Outcome) → ConvertAccepts old v → ConvertEnds old transcript v w outcome → IsCalm outcome
 convert_calm old transcript v w outcome good (inl unread) = unread_calm (old ∷ []) v w outcome (one_is_short v w old good.bytes good.file) unread
 convert_calm old transcript v w outcome good (inr (bytes, is, inl refused)) = text_not_refused old v bytes outcome good is refused.0
 convert_calm old transcript v w outcome good (inr (bytes, is, inr (t, has, text, ends))) =
     puts_calm (putting transcript (transcript_text t) ∷ []) (converted_line (length t.entries)) (after_fetches (old ∷ []) v) w outcome ends
+
+-- ---- `public`
+
+public_not_refused : (plan : List ℕ) (v : View) (bytes : List ℕ) (outcome : Outcome) → PublicAccepts plan v → IsRead (v.held plan) bytes → PublicRefuses plan bytes outcome → IsCalm outcome
+public_not_refused plan v bytes Done good is ends = absurd ends
+public_not_refused plan v bytes NoMemory good is ends = inr (inr refl)
+public_not_refused plan v bytes BadWords good is ends = absurd ends
+public_not_refused plan v bytes (CannotRead name) good is ends = absurd ends
+public_not_refused plan v bytes (TooLong name) good is ends = absurd ends
+public_not_refused plan v bytes (CannotWrite name) good is ends = absurd ends
+public_not_refused plan v bytes CannotPrint good is ends = absurd ends
+public_not_refused plan v bytes (BadPlan name fault) good is ends = absurd (ok_or_err _ _ _ (ap plan_of (sym (read_is v plan good.bytes bytes good.file is)) ∙ good.value) ends.1)
+public_not_refused plan v bytes (BadReadings name fault) good is ends = absurd ends
+public_not_refused plan v bytes (BadTranscript name fault) good is ends = absurd ends
+public_not_refused plan v bytes (BadReport name line) good is ends = absurd ends
+public_not_refused plan v bytes (Impossible name line) good is ends = absurd ends
+public_not_refused plan v bytes (OtherRow at from_frames reported) good is ends = absurd ends
+public_not_refused plan v bytes (OtherPlan name) good is ends = absurd ends
+public_not_refused plan v bytes (OtherLine name line expected) good is ends = absurd ends
+public_not_refused plan v bytes (OtherPresence group round meter) good is ends = absurd ends
+public_not_refused plan v bytes (OtherTotal group round first second) good is ends = absurd ends
+public_not_refused plan v bytes (BadLane fault) good is ends = absurd ends
+public_not_refused plan v bytes (NoPartner group round meter) good is ends = absurd ends
+
+public_calm : (plan public : List ℕ) (v w : View) (outcome : Outcome) → PublicAccepts plan v → PublicEnds plan public v w outcome → IsCalm outcome
+public_calm plan public v w outcome good (inl unread) = unread_calm (plan ∷ []) v w outcome (one_is_short v w plan good.bytes good.file) unread
+public_calm plan public v w outcome good (inr (bytes, is, inl refused)) = public_not_refused plan v bytes outcome good is refused.0
+public_calm plan public v w outcome good (inr (bytes, is, inr (file, value, again, ends))) =
+    puts_calm (putting public (public_text file.plan) ∷ []) (public_line (length file.plan.groups) file.plan.rounds) (after_fetches (plan ∷ []) v) w outcome ends
+
+-- ---- `bill` and `hide`
+
+-- values of the same bytes are the same
+same_metered : (p r : List ℕ) (one other : Metered) → AreMetered p r one → AreMetered p r other → one ≡ other
+same_metered p r one other first second =
+    let file : one.file ≡ other.file = ok_same _ _ _ first.plan second.plan in
+    let table : one.readings ≡ other.readings = ok_same _ _ _ (ap (λ f. readings_of f.plan r) (sym file) ∙ first.readings) second.readings in
+    ap (λ f. record { file = f; readings = one.readings }) file ∙ ap (λ x. record { file = other.file; readings = x }) table
+
+metered_not_refused : (plan readings p r : List ℕ) (values : Metered) (outcome : Outcome) → AreMetered p r values → MeteredRefuses plan readings p r outcome → IsCalm outcome
+metered_not_refused plan readings p r values NoMemory good ends = inr (inr refl)
+metered_not_refused plan readings p r values (BadPlan name fault) good ends = absurd (ok_or_err _ _ _ good.plan ends.1)
+metered_not_refused plan readings p r values (BadReadings name fault) good (named, (file, is, bad)) =
+    let same : values.file ≡ file = ok_same _ _ _ good.plan is in
+    absurd (ok_or_err _ _ _ (ap (λ f. readings_of f.plan r) (sym same) ∙ good.readings) bad)
+metered_not_refused plan readings p r values _ good ends = absurd ends
+
+bill_calm : (names : BillNames) (period : Period) (v w : View) (outcome : Outcome) → BillAccepts names v → BillEnds names period v w outcome → IsCalm outcome
+bill_calm names period v w outcome good (inl unread) =
+    unread_calm (billed_by names) v w outcome (two_are_short v w names.plan names.readings good.plan_bytes good.readings_bytes good.plan good.readings) unread
+bill_calm names period v w outcome good (inr (p, r, p_read, r_read, inl refused)) =
+    let plan = read_is v names.plan good.plan_bytes p good.plan p_read in
+    let readings = read_is v names.readings good.readings_bytes r good.readings r_read in
+    metered_not_refused names.plan names.readings p r good.values outcome (subst (λ b. AreMetered p b good.values) readings (subst (λ b. AreMetered b good.readings_bytes good.values) plan good.of_bytes)) refused.0
+bill_calm names period v w outcome good (inr (p, r, p_read, r_read, inr (values, are, ends))) =
+    puts_calm (putting names.bills (bills_text_in values period) ∷ []) (bills_line (length (bills_in values period))) (after_fetches (billed_by names) v) w outcome ends
+
+three_are_short : (v w : View) (one two three a b c : List ℕ) → HoldsFile v one a → HoldsFile v two b → HoldsFile v three c
+    → (last : List ℕ) → EndsAtFetch (one ∷ two ∷ three ∷ []) false v w last → IsLonger (v.held last) most_bytes → ⊥
+three_are_short v w one two three a b c first second third last (inl here) longer = not_longer v one a last first here.0 longer
+three_are_short v w one two three a b c first second third last (inr (inl here)) longer = not_longer v two b last second here.0 longer
+three_are_short v w one two three a b c first second third last (inr (inr (inl here))) longer = not_longer v three c last third here.0 longer
+three_are_short v w one two three a b c first second third last (inr (inr (inr none))) longer = absurd none
+
+-- the bytes that were read are the accepted ones
+same_three : (names : HideNames) (period : Period) (place : Place) (v : View) (good : HideAccepts names period place v) (bytes : HideBytes) → AreHideBytes names v bytes → good.bytes ≡ bytes
+same_three names period place v good bytes read =
+    let plan = read_is v names.plan good.bytes.plan bytes.plan good.plan read.plan in
+    let readings = read_is v names.readings good.bytes.readings bytes.readings good.readings read.readings in
+    let transcript = read_is v names.transcript good.bytes.transcript bytes.transcript good.transcript read.transcript in
+    ap (λ p. record { plan = p; readings = good.bytes.readings; transcript = good.bytes.transcript }) plan
+    ∙ ap (λ r. record { plan = bytes.plan; readings = r; transcript = good.bytes.transcript }) readings
+    ∙ ap (λ t. record { plan = bytes.plan; readings = bytes.readings; transcript = t }) transcript
+
+-- the accepted text is that of a transcript of the plan
+text_of_plan : (names : HideNames) (period : Period) (place : Place) (v : View) (good : HideAccepts names period place v) (plan : PlanView) (outcome : Outcome)
+    → plan ≡ good.values.file.plan → TextRefuses names.transcript plan good.bytes.transcript outcome → IsCalm outcome
+text_of_plan names period place v good plan NoMemory same ends = inr (inr refl)
+text_of_plan names period place v good plan (BadTranscript name fault) same ends = absurd (ok_or_err _ _ _ good.of_plan.text_of.read ends.1)
+text_of_plan names period place v good plan (OtherPlan name) same (named, (t, text, other)) =
+    absurd (other (ap (λ t. t.plan) (ok_same _ _ _ text.read good.of_plan.text_of.read) ∙ good.of_plan.plan_is ∙ sym same))
+text_of_plan names period place v good plan _ same ends = absurd ends
+
+-- the place has a partner
+has_partner : (names : HideNames) (period : Period) (place : Place) (v : View) (good : HideAccepts names period place v) (x : ReadingsView) (t : TranscriptView) (outcome : Outcome)
+    → good.values.readings ≡ x → good.lines ≡ t → IsAlone period place x t outcome → IsCalm outcome
+has_partner names period place v good x t NoMemory table lines ends = inr (inr refl)
+has_partner names period place v good x t (NoPartner group round meter) table lines ends =
+    let none : Finds period place good.values.readings good.lines None =
+    subst (λ x. Finds period place x good.lines None) (sym table) (subst (λ t. Finds period place x t None) (sym lines) ends.3) in
+    absurd (none good.partner good.is_partner)
+has_partner names period place v good x t _ table lines ends = absurd ends
+
+hide_not_refused : (names : HideNames) (period : Period) (place : Place) (v : View) (good : HideAccepts names period place v) (outcome : Outcome) → HideRefuses names period place good.bytes outcome → IsCalm outcome
+hide_not_refused names period place v good outcome (inl metered) = metered_not_refused names.plan names.readings good.bytes.plan good.bytes.readings good.values outcome good.of_bytes metered
+hide_not_refused names period place v good outcome (inr (inl (values, are, refused))) =
+    text_of_plan names period place v good values.file.plan outcome (ap (λ m. m.file.plan) (same_metered good.bytes.plan good.bytes.readings values good.values are good.of_bytes)) refused
+hide_not_refused names period place v good outcome (inr (inr (values, t, are, text, alone))) =
+    has_partner names period place v good values.readings t outcome (ap (λ m. m.readings) (same_metered good.bytes.plan good.bytes.readings good.values values good.of_bytes are))
+    (ok_same _ _ _ good.of_plan.text_of.read text.text_of.read) alone
+
+hide_calm : (names : HideNames) (period : Period) (place : Place) (v w : View) (outcome : Outcome) → HideAccepts names period place v → HideEnds names period place v w outcome → IsCalm outcome
+hide_calm names period place v w outcome good (inl unread) =
+    unread_calm (hidden_by names) v w outcome
+    (three_are_short v w names.plan names.readings names.transcript good.bytes.plan good.bytes.readings good.bytes.transcript good.plan good.readings good.transcript) unread
+hide_calm names period place v w outcome good (inr (bytes, read, inl refused)) =
+    hide_not_refused names period place v good outcome (subst (λ bytes. HideRefuses names period place bytes outcome) (sym (same_three names period place v good bytes read)) refused.0)
+hide_calm names period place v w outcome good (inr (bytes, read, inr (p, y, of, ends))) =
+    puts_calm (putting names.other (readings_text y) ∷ []) (hidden_line p.round p.meter) (after_fetches (hidden_by names) v) w outcome ends
 
 -- ---- all commands
 
@@ -412,6 +536,9 @@ command_calm cupboard (Twin names) v w outcome good ends = twin_calm names v w o
 command_calm cupboard (Make size plan readings) v w outcome good ends = make_calm size plan readings v w outcome ends
 command_calm cupboard (Load size workers transcript) v w outcome good ends = load_calm cupboard size transcript v w outcome good ends
 command_calm cupboard (Convert old transcript) v w outcome good ends = convert_calm old transcript v w outcome good ends
+command_calm cupboard (Public plan public) v w outcome good ends = public_calm plan public v w outcome good ends
+command_calm cupboard (Bill names period) v w outcome good ends = bill_calm names period v w outcome good ends
+command_calm cupboard (Hide names period place) v w outcome good ends = hide_calm names period place v w outcome good ends
 command_calm cupboard Help v w outcome good ends = puts_calm [] USAGE.now v w outcome ends
 command_calm cupboard Version v w outcome good ends = puts_calm [] VERSION.now v w outcome ends
 

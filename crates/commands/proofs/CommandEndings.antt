@@ -13,7 +13,7 @@ use Rattle.commands.specs.declared.texts.Refusal.{Refusal}
 use Rattle.commands.specs.declared.texts.Refusal.TheVariants as refusal
 use Rattle.commands.specs.RunTexts.{TextsEnd}
 use Rattle.command_words.specs.declared.outcome.Outcome.{Outcome}
-use Rattle.command_words.specs.declared.outcome.Outcome.TheVariants.{Done, NoMemory, BadWords, CannotRead, TooLong, CannotWrite, CannotPrint, BadPlan, BadReadings, BadTranscript, BadReport, Impossible, OtherRow, OtherPlan, OtherLine, OtherPresence, OtherTotal, BadLane}
+use Rattle.command_words.specs.declared.outcome.Outcome.TheVariants.{Done, NoMemory, BadWords, CannotRead, TooLong, CannotWrite, CannotPrint, BadPlan, BadReadings, BadTranscript, BadReport, Impossible, OtherRow, OtherPlan, OtherLine, OtherPresence, OtherTotal, BadLane, NoPartner}
 use Rattle.twin_worlds.specs.declared.rows.MovedRow.{MovedRow}
 use Rattle.twin_worlds.specs.MasksText.{masks_text}
 use Rattle.commands.specs.Twins.{TwinBytes, AreReadBy, Compared, TwinRefuses}
@@ -38,7 +38,7 @@ unfolding after_step
 held_after [] v = refl
 held_after (name ∷ names) v = held_after names (after_step v (Fetched name false))
 
-read_after : (names : List (List ℕ)) (name bytes : List ℕ) (v u : View) → u ≡ after_fetches names v → IsRead (u.held name) bytes → IsRead (v.held name) bytes
+pub read_after : (names : List (List ℕ)) (name bytes : List ℕ) (v u : View) → u ≡ after_fetches names v → IsRead (u.held name) bytes → IsRead (v.held name) bytes
 read_after names name bytes v u after is = subst (λ held. IsRead (held name) bytes) (ap (λ v. v.held) after ∙ held_after names v) is
 
 -- what ends the later fetches, ends them all
@@ -74,6 +74,7 @@ then_unread names more v u w (OtherLine name line expected) after ends = absurd 
 then_unread names more v u w (OtherPresence group round meter) after ends = absurd ends
 then_unread names more v u w (OtherTotal group round first second) after ends = absurd ends
 then_unread names more v u w (BadLane fault) after ends = absurd ends
+then_unread names more v u w (NoPartner group round meter) after ends = absurd ends
 
 -- two files were read, one after the other
 pub two_read : (first second : List ℕ) (v u w : View) (one two : List ℕ) → IsRead (v.held first) one → u ≡ after_fetches (first ∷ []) v

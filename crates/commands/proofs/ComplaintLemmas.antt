@@ -4,8 +4,8 @@ use Rattle.std.specs.Prelude.{Option, None, Some}
 use Rattle.desk_outside.specs.Desk.{View}
 use Rattle.link_lanes.specs.Lanes.{Meaning}
 use Rattle.command_words.specs.declared.outcome.Outcome.{Outcome}
-use Rattle.command_words.specs.declared.outcome.Outcome.TheVariants.{Done, NoMemory, BadWords, CannotRead, TooLong, CannotWrite, CannotPrint, BadPlan, BadReadings, BadTranscript, BadReport, Impossible, OtherRow, OtherPlan, OtherLine, OtherPresence, OtherTotal, BadLane}
-use Rattle.command_words.specs.Words.{Command, Run, Audit, Twin, Make, Load, Convert, Help, Version}
+use Rattle.command_words.specs.declared.outcome.Outcome.TheVariants.{Done, NoMemory, BadWords, CannotRead, TooLong, CannotWrite, CannotPrint, BadPlan, BadReadings, BadTranscript, BadReport, Impossible, OtherRow, OtherPlan, OtherLine, OtherPresence, OtherTotal, BadLane, NoPartner}
+use Rattle.command_words.specs.Words.{Command, Run, Audit, Twin, Make, Load, Convert, Public, Help, Version, Bill, Hide}
 use Rattle.command_words.specs.Outcomes.{HasComplaint}
 use Rattle.commands.specs.Ends.{Ends}
 
@@ -29,6 +29,7 @@ either (OtherLine name line expected) other = other name line expected refl
 either (OtherPresence group round meter) other = tt
 either (OtherTotal group round first second) other = tt
 either (BadLane fault) other = tt
+either (NoPartner group round meter) other = tt
 
 of_line : (cupboard : List Meaning) (command : Command) (v w : View) (name : _) (line : ℕ) (expected : _) → Ends cupboard (Some command) v w (OtherLine name line expected)
     → HasComplaint (OtherLine name line expected)
@@ -47,6 +48,17 @@ of_line cupboard (Load size workers transcript) v w name line expected (inr (tex
 of_line cupboard (Convert old transcript) v w name line expected (inl unread) = absurd unread
 of_line cupboard (Convert old transcript) v w name line expected (inr (bytes, read, inl refused)) = absurd refused.0
 of_line cupboard (Convert old transcript) v w name line expected (inr (bytes, read, inr (t, has, text, ends))) = absurd ends
+of_line cupboard (Public plan public) v w name line expected (inl unread) = absurd unread
+of_line cupboard (Public plan public) v w name line expected (inr (bytes, read, inl refused)) = absurd refused.0
+of_line cupboard (Public plan public) v w name line expected (inr (bytes, read, inr (file, value, again, ends))) = absurd ends
+of_line cupboard (Bill names period) v w name line expected (inl unread) = absurd unread
+of_line cupboard (Bill names period) v w name line expected (inr (p, r, p_read, r_read, inl refused)) = absurd refused.0
+of_line cupboard (Bill names period) v w name line expected (inr (p, r, p_read, r_read, inr (values, are, ends))) = absurd ends
+of_line cupboard (Hide names period place) v w name line expected (inl unread) = absurd unread
+of_line cupboard (Hide names period place) v w name line expected (inr (bytes, read, inl (inl metered, after))) = absurd metered
+of_line cupboard (Hide names period place) v w name line expected (inr (bytes, read, inl (inr (inl (values, are, refused)), after))) = absurd refused
+of_line cupboard (Hide names period place) v w name line expected (inr (bytes, read, inl (inr (inr (values, t, are, text, alone)), after))) = absurd alone
+of_line cupboard (Hide names period place) v w name line expected (inr (bytes, read, inr (p, y, of, ends))) = absurd ends
 of_line cupboard Help v w name line expected ends = absurd ends
 of_line cupboard Version v w name line expected ends = absurd ends
 

@@ -1,9 +1,11 @@
 mod AheadLemmas
 mod PartsLemmas
 pub mod AcceptedLemmas
+mod BillingLemmas
 mod CommandEndings
 mod CupboardLemmas
 mod MadePlanLemmas
+mod PublicLemmas
 pub mod RunLemmas
 pub mod StoredLemmas
 mod StreamLemmas

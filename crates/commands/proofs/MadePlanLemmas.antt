@@ -15,7 +15,7 @@ use Rattle.load_maker.proofs.MadeReads.{made_files}
 use Rattle.command_words.specs.declared.outcome.Outcome.{Outcome}
 use Rattle.command_words.specs.declared.outcome.Outcome.TheVariants.{Done, NoMemory, BadWords, CannotRead, TooLong, CannotWrite, CannotPrint, BadPlan, BadReadings, BadTranscript, BadReport, Impossible, OtherRow, OtherPlan, OtherLine, OtherPresence, OtherTotal, BadLane}
 use Rattle.command_words.specs.Outcomes.{status_of}
-use Rattle.command_words.specs.Words.{RunNames, Size, Command, Run, Audit, Twin, Make, Load, Convert, Help, Version}
+use Rattle.command_words.specs.Words.{RunNames, Size, Command, Run, Audit, Twin, Make, Load, Convert, Public, Help, Version}
 use Rattle.commands.specs.Accepted.{HoldsFile, RunAccepts, Accepts, AcceptedIsDone}
 use Rattle.commands.specs.Calls.{IsRead}
 use Rattle.commands.specs.Cupboard.{full_cupboard, IsMade, RunsMadePlan, MadePlansGetLanes, RunsMadeFiles, MadeFilesAreDone}
@@ -66,6 +66,7 @@ made_accepted (Audit transcript report) v is = absurd is
 made_accepted (Twin names) v is = absurd is
 made_accepted (Make size plan readings) v is = absurd is
 made_accepted (Convert old transcript) v is = absurd is
+made_accepted (Public plan public) v is = absurd is
 made_accepted Help v is = absurd is
 made_accepted Version v is = absurd is
 
@@ -119,6 +120,7 @@ no_lane (Audit transcript report) v w fault is ends = absurd is
 no_lane (Twin names) v w fault is ends = absurd is
 no_lane (Make size plan readings) v w fault is ends = absurd is
 no_lane (Convert old transcript) v w fault is ends = absurd is
+no_lane (Public plan public) v w fault is ends = absurd is
 no_lane Help v w fault is ends = absurd is
 no_lane Version v w fault is ends = absurd is
 

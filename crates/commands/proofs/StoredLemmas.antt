@@ -1,5 +1,5 @@
 -- What a run stored: the audit finds no fault in it, and it is the record of the readings.
-use Rattle.std.proofs.Common.{◌≡◌, ℕ, List, sym, ap, ◌∙◌, subst, Result, Ok}
+use Rattle.std.proofs.Common.{◌≡◌, ◌≤◌, ℕ, List, length, is_some, sym, ap, ◌∙◌, subst, Result, Ok}
 use Rattle.link_lanes.specs.Lanes.{Meaning}
 use Rattle.mask_stream.specs.KeyStreams.{streams}
 use Rattle.transcript_text.specs.declared.version.Version.TheVariants.{Two}
@@ -7,17 +7,21 @@ use Rattle.transcript_text.specs.Heads.{read_of}
 use Rattle.totals_report.specs.declared.row.ReportRow.{ReportRow}
 use Rattle.totals_report.specs.Reading.{rows_of_text}
 use Rattle.totals_report.specs.Reports.{report_rows}
+use Rattle.totals_report.proofs.ReportLaws.{report_back}
+use Rattle.run_rows.specs.Runs.{IsRun}
 use Rattle.audit_check.specs.declared.answers.AuditCounts.{AuditCounts}
 use Rattle.audit_check.specs.declared.answers.AuditError.{AuditError}
 use Rattle.audit_check.specs.Audits.{AuditEnds}
 use Rattle.audit_check.specs.Statements.{IsHonest, FindsNone}
 use Rattle.audit_check.proofs.HonestLemmas.{honest_are_accepted}
-use Rattle.commands.specs.Runs.{plan_in, readings_in, row_in, transcript_in, Texts, Makes}
-use Rattle.commands.specs.Audits.{Audited, RunsAreConfirmed}
+use Rattle.audit_check.proofs.RunLengths.{transcripts_short, reports_short}
+use Rattle.commands.specs.Calls.{most_bytes}
+use Rattle.commands.specs.Runs.{plan_in, readings_in, shape_in, clock_in, row_in, transcript_in, Texts, Makes}
+use Rattle.commands.specs.Audits.{Audited, RunsAreConfirmed, RunsAreShort}
 use Rattle.transcript_log.specs.Events.{events_of}
-use Rattle.transcript_log.specs.Transcript.{transcript}
+use Rattle.transcript_log.specs.Transcript.{Contents, contents_of_tables, transcript}
 use Rattle.commands.specs.Twins.{RunsAreRecorded}
-use Rattle.commands.proofs.RunLemmas.{bounded, plan_of_readings}
+use Rattle.commands.proofs.RunLemmas.{bounded, can_run, plan_of_readings}
 
 same_ok : {A E : Type 0} (r : Result A E) (a b : A) → r ≡ Ok a → r ≡ Ok b → a ≡ b
 same_ok r a b first second = cc
@@ -78,4 +82,22 @@ runs_are_recorded cupboard p r texts made =
         lines_are = made.run.lines
             ∙ ap (λ plan. transcript plan.groups (readings_in made.values) (streams made.values.file.keys) (events_of made.entries)) (sym plan);
       },
+    )
+
+-- the texts of a run are short
+pub runs_are_short : RunsAreShort
+runs_are_short cupboard p r texts made =
+    let plan = plan_in made.values in
+    let x = readings_in made.values in
+    let words : Contents = contents_of_tables plan.groups x (streams made.values.file.keys) in
+    let run : IsRun (shape_in made.values) (clock_in made.values) made.values.slots words made.entries = record {
+      run = made.run.ticks;
+      delays = made.run.delays;
+      lines = made.run.lines;
+    } in
+    let can = can_run plan made.values.readings.table made.sound.limits made.sound.table in (
+      subst (λ text. length text ≤ most_bytes) (sym made.told.transcript)
+          (transcripts_short (transcript_in made.values made.entries) (λ g r i. is_some (x g r i)) made.values.slots words made.told.sound can run),
+      subst (λ text. length text ≤ most_bytes) (sym made.told.report)
+          (reports_short plan (row_in made.values made.entries) made.sound.limits (report_back texts.report (report_rows plan (row_in made.values made.entries)) made.told.rows_back).1),
     )

@@ -17,7 +17,14 @@ use Rattle.mask_stream.specs.KeyStreams.{streams}
 use Rattle.transcript_log.specs.Events.{events_of}
 use Rattle.ideal_masks.specs.Offsets.{Agree}
 use Rattle.twin_worlds.specs.Twins.{IsRecord}
-use Rattle.command_words.specs.Words.{RunNames, TwinNames, Size, Command, Run, Audit, Twin, Make, Load, Convert, Help, Version}
+use Rattle.plan_files.specs.PlanFiles.{PlanFileView, plan_of}
+use Rattle.command_words.specs.Words.{RunNames, TwinNames, Size, Command, Run, Audit, Twin, Make, Load, Convert, Public, Help, Version, BillNames, HideNames, Bill, Hide}
+use Rattle.command_words.specs.declared.words.Period.{Period}
+use Rattle.command_words.specs.declared.words.Place.{Place}
+use Rattle.billing_read.specs.declared.partners.Partner.{Partner}
+use Rattle.billing_read.specs.Partners.{IsPartner}
+use Rattle.transcript_log.specs.Transcript.{shape_of_readings}
+use Rattle.commands.specs.Billing.{Metered, AreMetered, HideBytes, IsTextIn}
 use Rattle.commands.specs.Calls.{most_bytes}
 use Rattle.commands.specs.Ends.{made_file_of}
 use Rattle.commands.specs.Twins.{TwinBytes, TwinValues, AreTwinValues}
@@ -77,6 +84,35 @@ pub record ConvertAccepts (old : List ℕ) (v : View) : Type 0 where
   pub has_text : HasText One transcript
   pub text : bytes ≡ text_of One transcript
 
+-- PLAN has a value
+pub record PublicAccepts (plan : List ℕ) (v : View) : Type 0 where
+  pub bytes : List ℕ
+  pub file : HoldsFile v plan bytes
+  pub says : PlanFileView
+  pub value : plan_of bytes ≡ Ok says
+
+-- both files of `bill` have values
+pub record BillAccepts (names : BillNames) (v : View) : Type 0 where
+  pub plan_bytes : List ℕ
+  pub readings_bytes : List ℕ
+  pub plan : HoldsFile v names.plan plan_bytes
+  pub readings : HoldsFile v names.readings readings_bytes
+  pub values : Metered
+  pub of_bytes : AreMetered plan_bytes readings_bytes values
+
+-- the three files of `hide` have values, the transcript is of the plan, and the place has a partner
+pub record HideAccepts (names : HideNames) (period : Period) (place : Place) (v : View) : Type 0 where
+  pub bytes : HideBytes
+  pub plan : HoldsFile v names.plan bytes.plan
+  pub readings : HoldsFile v names.readings bytes.readings
+  pub transcript : HoldsFile v names.transcript bytes.transcript
+  pub values : Metered
+  pub of_bytes : AreMetered bytes.plan bytes.readings values
+  pub lines : TranscriptView
+  pub of_plan : IsTextIn values.file.plan lines bytes.transcript
+  pub partner : Partner
+  pub is_partner : IsPartner (shape_of_readings values.readings.plan.groups (reading values.readings.table)) (reading values.readings.table) (reverse (events_of lines.entries)) period.from period.until place.group place.round place.meter partner
+
 -- the files that a command fetches are accepted
 abbrev pub Accepts : List Meaning → Command → View → Type 0
 Accepts cupboard (Run names workers) v = RunAccepts cupboard names v
@@ -85,6 +121,9 @@ Accepts cupboard (Twin names) v = TwinAccepts names v
 Accepts cupboard (Make size plan readings) v = Unit {0}
 Accepts cupboard (Load size workers transcript) v = LoadAccepts cupboard size
 Accepts cupboard (Convert old transcript) v = ConvertAccepts old v
+Accepts cupboard (Public plan public) v = PublicAccepts plan v
+Accepts cupboard (Bill names period) v = BillAccepts names v
+Accepts cupboard (Hide names period place) v = HideAccepts names period place v
 Accepts cupboard Help v = Unit {0}
 Accepts cupboard Version v = Unit {0}
 

@@ -1,5 +1,5 @@
 -- What the bytes of a transcript and of a report come to in an audit.
-use Rattle.std.specs.Prelude.{◌≡◌, ℕ, List, Result, Ok, Err, ⊤}
+use Rattle.std.specs.Prelude.{◌≡◌, ◌≤◌, ℕ, List, length, Result, Ok, Err, ⊤}
 use Rattle.link_lanes.specs.Lanes.{Meaning}
 use Rattle.transcript_text.specs.declared.version.Version.TheVariants.{Two}
 use Rattle.transcript_log.specs.Transcripts.{TranscriptView, IsTranscript}
@@ -15,6 +15,7 @@ use Rattle.audit_check.specs.Audits.{AuditEnds}
 use Rattle.audit_check.specs.Statements.{FindsNone}
 use Rattle.command_words.specs.declared.outcome.Outcome.{Outcome}
 use Rattle.command_words.specs.declared.outcome.Outcome.TheVariants.{NoMemory, BadTranscript, BadReport, Impossible, OtherRow}
+use Rattle.commands.specs.Calls.{most_bytes}
 use Rattle.commands.specs.Runs.{Texts, Makes}
 
 -- the bytes are the texts of a transcript and of a report with these rows, and are read as these
@@ -55,3 +56,9 @@ pub record IsConfirmedRun (texts : Texts) : Type 0 where
 -- whatever files are run, the audit finds no fault in the transcript and the report that are made of them
 abbrev pub RunsAreConfirmed : Type 0
 RunsAreConfirmed = (cupboard : List Meaning) (plan_bytes readings_bytes : List ℕ) (texts : Texts) → Makes cupboard plan_bytes readings_bytes texts → IsConfirmedRun texts
+
+-- whatever files are run, the transcript and the report that are made of them are no longer than a file that is read may be
+abbrev pub RunsAreShort : Type 0
+RunsAreShort =
+    (cupboard : List Meaning) (plan_bytes readings_bytes : List ℕ) (texts : Texts) → Makes cupboard plan_bytes readings_bytes texts
+    → (length texts.transcript ≤ most_bytes) × (length texts.report ≤ most_bytes)

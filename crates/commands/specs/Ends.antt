@@ -15,9 +15,10 @@ use Rattle.transcript_text.specs.Heads.{read_of}
 use Rattle.command_words.specs.declared.usage.TheConstants.{USAGE, VERSION}
 use Rattle.command_words.specs.declared.outcome.Outcome.{Outcome}
 use Rattle.command_words.specs.declared.outcome.Outcome.TheVariants.{NoMemory, BadWords, BadPlan, BadReadings, BadTranscript, BadLane}
-use Rattle.command_words.specs.Words.{RunNames, TwinNames, Size, Command, Run, Audit, Twin, Make, Load, Convert, Help, Version}
+use Rattle.command_words.specs.Words.{RunNames, TwinNames, Size, Command, Run, Audit, Twin, Make, Load, Convert, Public, Help, Version, Bill, Hide}
 use Rattle.commands.specs.Calls.{IsRead, after_fetches, Unread, Putting, putting, PutsEnd}
-use Rattle.plan_files.specs.Spelling.{plan_text, readings_text}
+use Rattle.plan_files.specs.PlanFiles.{public_of}
+use Rattle.plan_files.specs.Spelling.{plan_text, public_text, readings_text}
 use Rattle.load_maker.specs.Made.{made_file, made_readings}
 use Rattle.audit_check.specs.declared.answers.AuditCounts.{AuditCounts}
 use Rattle.commands.specs.Audits.{Audited, AuditRefuses}
@@ -25,6 +26,7 @@ use Rattle.twin_worlds.specs.declared.rows.MovedRow.{MovedRow}
 use Rattle.twin_worlds.specs.MasksText.{masks_text}
 use Rattle.commands.specs.Twins.{TwinBytes, AreReadBy, Compared, TwinRefuses}
 use Rattle.commands.specs.Runs.{Texts, Makes, IsOnly}
+use Rattle.commands.specs.BillingEnds.{BillEnds, HideEnds}
 
 -- ---- `run PLAN READINGS REPORT TRANSCRIPT [WORKERS]`
 
@@ -176,6 +178,32 @@ ConvertEnds old transcript v w outcome =
     × ((ConvertRefuses old bytes outcome × (w ≡ after_fetches (old ∷ []) v))
     ⊎ TranscriptPut transcript bytes (after_fetches (old ∷ []) v) w outcome))
 
+-- ---- `public PLAN PUBLIC`
+
+-- the line that it says
+unfoldable pub public_line : (groups rounds : ℕ) → List ℕ
+public_line groups rounds = codes "public: groups=" ++ (decimal groups ++ (codes " rounds=" ++ (decimal rounds ++ codes "\n")))
+
+-- the public plan of a plan file, whose text is read as its plan, is put
+abbrev pub PublicPut : (public bytes : List ℕ) → View → View → Outcome → Type 0
+PublicPut public bytes v w outcome =
+    (file : PlanFileView) × (plan_of bytes ≡ Ok file) × (public_of (public_text file.plan) ≡ Ok file.plan)
+    × PutsEnd (putting public (public_text file.plan) ∷ []) (public_line (length file.plan.groups) file.plan.rounds) v w outcome
+
+-- the plan file is refused; want of memory is free
+abbrev pub PublicRefuses : (plan bytes : List ℕ) → Outcome → Type 0
+PublicRefuses plan bytes (BadPlan name fault) = (name.now ≡ plan) × (plan_of bytes ≡ Err fault)
+PublicRefuses plan bytes NoMemory = ⊤
+PublicRefuses plan bytes _ = ⊥
+
+-- how it ends: PLAN is not read, or what it says is refused, or the public plan is put
+abbrev pub PublicEnds : (plan public : List ℕ) → View → View → Outcome → Type 0
+PublicEnds plan public v w outcome =
+    Unread (plan ∷ []) v w outcome
+    ⊎ ((bytes : List ℕ) × IsRead (v.held plan) bytes
+    × ((PublicRefuses plan bytes outcome × (w ≡ after_fetches (plan ∷ []) v))
+    ⊎ PublicPut public bytes (after_fetches (plan ∷ []) v) w outcome))
+
 -- ---- all commands
 
 -- what the words' command does, and nothing where they are no command
@@ -187,5 +215,8 @@ Ends cupboard (Some (Twin names)) v w outcome = TwinCommandEnds names v w outcom
 Ends cupboard (Some (Make size plan readings)) v w outcome = MakeEnds size plan readings v w outcome
 Ends cupboard (Some (Load size workers transcript)) v w outcome = LoadEnds cupboard size transcript v w outcome
 Ends cupboard (Some (Convert old transcript)) v w outcome = ConvertEnds old transcript v w outcome
+Ends cupboard (Some (Public plan public)) v w outcome = PublicEnds plan public v w outcome
+Ends cupboard (Some (Bill names period)) v w outcome = BillEnds names period v w outcome
+Ends cupboard (Some (Hide names period place)) v w outcome = HideEnds names period place v w outcome
 Ends cupboard (Some Help) v w outcome = PutsEnd [] USAGE.now v w outcome
 Ends cupboard (Some Version) v w outcome = PutsEnd [] VERSION.now v w outcome

@@ -7,6 +7,9 @@ pub mod RunTexts
 pub mod Audits
 pub mod Twins
 pub mod TwinTexts
+pub mod Billing
+pub mod BillingEnds
+pub mod BillingParts
 pub mod Ends
 pub mod Accepted
 pub mod Promise

@@ -3,13 +3,17 @@
 
 mod ahead;
 mod audit;
+mod bill;
 mod convert;
 mod cupboard;
 mod desk_calls;
+mod hide;
 mod load;
 mod make;
+mod metered;
 mod parts;
 mod program;
+mod public;
 mod run;
 mod run_ahead;
 mod source;

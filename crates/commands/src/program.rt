@@ -5,16 +5,19 @@ ghost use Rattle.desk_outside.specs.Desk.{Rose};
 ghost use Rattle.command_words.specs.Words.{command_of};
 ghost use Rattle.commands.specs.Ends.{Ends};
 ghost use Rattle.commands.specs.Accepted.{AcceptedIsDone};
-ghost use Rattle.commands.specs.Audits.{RunsAreConfirmed};
+ghost use Rattle.commands.specs.Audits.{RunsAreConfirmed, RunsAreShort};
 ghost use Rattle.commands.specs.Twins.{RunsAreRecorded};
 ghost use Rattle.command_words.specs.Outcomes.{HasComplaint, status_of, IsFault};
 ghost use Rattle.commands.specs.Promise.{Tells, EndsAndTells};
 
 use crate::audit::audit;
+use crate::bill::bill;
 use crate::convert::convert;
 use crate::desk_calls::say;
+use crate::hide::hide;
 use crate::load::load;
 use crate::make::make;
+use crate::public::public;
 use crate::run::run;
 use crate::twin::twin;
 use collector_workers::Gate;
@@ -46,6 +49,9 @@ fn perform<'a, R: Threads + Wait + Sync, D: Desk, G: Gate>(
         Some(Command::Make(words)) => make(rt, alloc, words, desk),
         Some(Command::Load(words)) => load(rt, alloc, words, desk, cupboard, gate),
         Some(Command::Convert(files)) => convert(rt, alloc, files, desk),
+        Some(Command::Public(files)) => public(rt, alloc, files, desk),
+        Some(Command::Bill(words)) => bill(rt, alloc, words, desk),
+        Some(Command::Hide(words)) => hide(rt, alloc, words, desk),
         Some(Command::Help) => say(USAGE.as_bytes(), desk),
         Some(Command::Version) => say(VERSION.as_bytes(), desk),
     }
@@ -85,6 +91,7 @@ fn status(outcome: &Outcome<'_>) -> u8
         Outcome::OtherPresence { .. } | Outcome::OtherTotal { .. } => 8,
         Outcome::OtherRow { .. } => 9,
         Outcome::BadLane(_) => 10,
+        Outcome::NoPartner { .. } => 11,
     }
 }
 
@@ -92,7 +99,7 @@ fn status(outcome: &Outcome<'_>) -> u8
 /// status: 0 done, 1 no memory, 2 bad words, 3 a file that cannot be read or is longer than 2^28 bytes, 4 a file or an
 /// output that cannot be written, 5 a bad plan, 6 bad readings, 7 a text that is no transcript or no report, or a
 /// transcript that is impossible or isn't that of these files, 8 readings that don't agree, 9 a report that is not what the
-/// frames give, 10 a lane row that gets no lane.
+/// frames give, 10 a lane row that gets no lane, 11 a reading without a partner.
 pub fn meteragg<R: Threads + Wait + Sync, D: Desk, G: Gate>(
     rt: &R,
     alloc: Global,
@@ -103,9 +110,10 @@ pub fn meteragg<R: Threads + Wait + Sync, D: Desk, G: Gate>(
 ) -> u8
     ensures ends { EndsAndTells (map (λ b. meaning b) cupboard.items) (command_of (map string_bytes words.now)) (D.view desk.old) (D.view desk.new) (D.faults desk.old) (D.faults desk.new) result }
     ensures accepted { AcceptedIsDone (map (λ b. meaning b) cupboard.items) (command_of (map string_bytes words.now)) (D.view desk.old) (D.faults desk.old) (D.faults desk.new) result }
-    // The audit finds no fault in what a run stores, and what a run stores is the record of its readings under its keys.
+    // The audit finds no fault in what a run stores, what a run stores is the record of its readings under its keys, and it isn't too long to be read.
     ensures confirmed { RunsAreConfirmed }
     ensures recorded { RunsAreRecorded }
+    ensures short { RunsAreShort }
     ensures words { (result ≡ 2) ↔ (command_of (map string_bytes words.now) ≡ None) }
 {
     let outcome = perform(rt, alloc, words, desk, cupboard, gate);

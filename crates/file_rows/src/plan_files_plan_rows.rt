@@ -4,7 +4,7 @@ use crate::fixtures::{check, check_bytes, check_same};
 use group_plan::{Plan, PlanError, SpanError};
 use link_lanes::LaneRow;
 use pair_keys::{KeyError, KeyId, KeyTable};
-use plan_files::{FileCause, FileError, PlanFile, read_plan};
+use plan_files::{FileCause, FileError, PlanFile, read_plan, read_public};
 use row_fixtures::reading_tag;
 use std::alloc::{AllocError, Global};
 use std::process::Abort;
@@ -575,5 +575,76 @@ fn plans_of_many_keys(rt: HostRuntime) -> Result<(), Fail> {
     }
     let file = long_plan(rt.alloc(), [(0, 0), (0, 0)])?;
     check(&rt, read(rt.alloc(), &file).is_ok(), "a long plan");
+    Ok(())
+}
+
+fn read_for_everybody(alloc: Global, bytes: &[u8]) -> Result<Plan, FileError> {
+    if bytes.len() > 1 << 28 {
+        return Err(FileError {
+            row: 0,
+            cause: FileCause::Memory,
+        });
+    }
+    read_public(alloc, bytes)
+}
+
+// What a public plan of two rounds and one group has before its members.
+const PUBLIC_HEAD: &str = "public,1\nrounds,2\nwindows,1,2\ngroup,north,3,2\n";
+
+// The rows of a public plan, and the row and the cause of its first fault.
+static PUBLIC_FAULTS: [(&str, u32, FileCause); 9] = [
+    ("plan,1\nrounds,2\nwindows,1,2\n", 1, FileCause::Row),
+    ("public,2\nrounds,2\nwindows,1,2\n", 1, FileCause::Row),
+    ("public,1\nrounds,2\n", 3, FileCause::Short),
+    ("public,1\nrounds,2\nwindows,0,2\n", 0, WINDOW),
+    (
+        "public,1\nrounds,2\nwindows,1,2\ngroup,north,3,2\nown,0,0,Z\n",
+        5,
+        FileCause::Row,
+    ),
+    (
+        "public,1\nrounds,2\nwindows,1,2\ngroup,north,3,2\nlane,clear,,0,0\n",
+        5,
+        FileCause::Row,
+    ),
+    (
+        "public,1\nrounds,2\nwindows,1,2\ngroup,north,3,2\nmember,0,2,1,2\ngroup,south,3,2\n",
+        6,
+        FileCause::Row,
+    ),
+    (
+        "public,1\nrounds,2\nwindows,1,2\ngroup,north,3,2\nmember,0,2,1,2\nmember,0,2,0,2\n",
+        6,
+        FileCause::Member(SpanError::Twice(1)),
+    ),
+    (
+        "public,1\nrounds,2\nwindows,1,2\ngroup,north,3,2\nmember,0,3,1,2\n",
+        5,
+        FIRST_SPAN,
+    ),
+];
+
+#[test]
+fn first_faults_of_public_plans(rt: HostRuntime) -> Result<(), Fail> {
+    for case in PUBLIC_FAULTS.iter() {
+        let (text, row, cause) = *case;
+        let came = read_for_everybody(rt.alloc(), text.as_bytes()).err();
+        check_same(&rt, &came, &Some(FileError { row, cause }), text);
+    }
+    Ok(())
+}
+
+// A row of a member with the whole span is accepted, and the members are those of the rows.
+#[test]
+fn public_plan_read(rt: HostRuntime) -> Result<(), Fail> {
+    let alloc = rt.alloc();
+    let text = format!(in alloc; "{PUBLIC_HEAD}member,0,2,1,2\nmember,0,1,0,2\n")?;
+    let Ok(plan) = read_for_everybody(alloc, text.as_bytes()) else {
+        return Err(Fail::from("a public plan"));
+    };
+    check(&rt, plan.rounds() == 2, "rounds");
+    check(&rt, !plan.is_member(0, 0, 2), "not yet a member");
+    check(&rt, plan.is_member(0, 1, 2), "a member");
+    check(&rt, plan.is_member(0, 0, 1), "a member in all rounds");
     Ok(())
 }

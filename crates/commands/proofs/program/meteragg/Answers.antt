@@ -1,6 +1,6 @@
 use Rattle.commands.proofs.AcceptedLemmas.{accepted_is_done}
 use Rattle.commands.proofs.ComplaintLemmas.{has_complaint}
-use Rattle.commands.proofs.StoredLemmas.{runs_are_confirmed, runs_are_recorded}
+use Rattle.commands.proofs.StoredLemmas.{runs_are_confirmed, runs_are_recorded, runs_are_short}
 use Rattle.commands.proofs.program.meteragg.Goals as goal
 
 pub returns-clause-accepted : goal.returns-clause-accepted
@@ -12,3 +12,6 @@ returns-clause-confirmed g c = runs_are_confirmed
 
 pub returns-clause-recorded : goal.returns-clause-recorded
 returns-clause-recorded g c = runs_are_recorded
+
+pub returns-clause-short : goal.returns-clause-short
+returns-clause-short g c = runs_are_short
