@@ -13,9 +13,9 @@ use Rattle.load_maker.specs.MadeFiles.{AreRead}
 use Rattle.load_maker.proofs.MadeLane.{made_lane_fits}
 use Rattle.load_maker.proofs.MadeReads.{made_files}
 use Rattle.command_words.specs.declared.outcome.Outcome.{Outcome}
-use Rattle.command_words.specs.declared.outcome.Outcome.TheVariants.{Done, NoMemory, BadWords, CannotRead, TooLong, CannotWrite, CannotPrint, BadPlan, BadReadings, BadTranscript, BadReport, Impossible, OtherRow, OtherPlan, OtherLine, OtherPresence, OtherTotal, BadLane}
+use Rattle.command_words.specs.declared.outcome.Outcome.TheVariants.{Done, NoMemory, BadWords, CannotRead, TooLong, CannotWrite, CannotPrint, BadPlan, BadReadings, BadTranscript, BadReport, Impossible, OtherRow, OtherPlan, OtherLine, OtherPresence, OtherTotal, BadLane, NoPartner}
 use Rattle.command_words.specs.Outcomes.{status_of}
-use Rattle.command_words.specs.Words.{RunNames, Size, Command, Run, Audit, Twin, Make, Load, Convert, Public, Help, Version}
+use Rattle.command_words.specs.Words.{RunNames, Size, Command, Run, Audit, Twin, Make, Load, Convert, Public, Bill, Hide, Help, Version}
 use Rattle.commands.specs.Accepted.{HoldsFile, RunAccepts, Accepts, AcceptedIsDone}
 use Rattle.commands.specs.Calls.{IsRead}
 use Rattle.commands.specs.Cupboard.{full_cupboard, IsMade, RunsMadePlan, MadePlansGetLanes, RunsMadeFiles, MadeFilesAreDone}
@@ -67,6 +67,8 @@ made_accepted (Twin names) v is = absurd is
 made_accepted (Make size plan readings) v is = absurd is
 made_accepted (Convert old transcript) v is = absurd is
 made_accepted (Public plan public) v is = absurd is
+made_accepted (Bill names period) v is = absurd is
+made_accepted (Hide names period place) v is = absurd is
 made_accepted Help v is = absurd is
 made_accepted Version v is = absurd is
 
@@ -95,6 +97,7 @@ by_lane (OtherLine name line expected) is = absurd (omega (arith, is))
 by_lane (OtherPresence group round meter) is = absurd (omega (arith, is))
 by_lane (OtherTotal group round first second) is = absurd (omega (arith, is))
 by_lane (BadLane fault) is = (fault, refl)
+by_lane (NoPartner group round meter) is = absurd (omega (arith, is))
 
 not_both : {A E : Type 0} (r : Result A E) (a : A) (e : E) → r ≡ Ok a → r ≡ Err e → ⊥
 not_both r a e well bad = cc
@@ -121,6 +124,8 @@ no_lane (Twin names) v w fault is ends = absurd is
 no_lane (Make size plan readings) v w fault is ends = absurd is
 no_lane (Convert old transcript) v w fault is ends = absurd is
 no_lane (Public plan public) v w fault is ends = absurd is
+no_lane (Bill names period) v w fault is ends = absurd is
+no_lane (Hide names period place) v w fault is ends = absurd is
 no_lane Help v w fault is ends = absurd is
 no_lane Version v w fault is ends = absurd is
 
