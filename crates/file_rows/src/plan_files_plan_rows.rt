@@ -384,14 +384,19 @@ fn accepted_plans(rt: HostRuntime) -> Result<(), Fail> {
     Ok(())
 }
 
+// The first group has the meter in the round, and it is a member there, or isn't.
+fn check_member(rt: &impl Abort, plan: &Plan, round: u32, meter: u8, is_member: bool) {
+    let is_place = plan.holds(reading_tag(0, round, meter));
+    let is_so = is_place && plan.is_member(0, round, meter) == is_member;
+    check(rt, is_so, "a member");
+}
+
 // Three rounds with windows of 4 and 5 ticks, of which the first is one without the second meter.
 fn check_plan(rt: &impl Abort, plan: &Plan) {
     let numbers = [plan.rounds(), plan.w1(), plan.w2()];
     check_same(rt, &numbers, &[3, 4, 5], "the numbers");
     for (round, is_member) in [(0, false), (1, true), (2, true)] {
-        let is_place = plan.holds(reading_tag(0, round, 1));
-        let is_so = is_place && plan.is_member(0, round, 1) == is_member;
-        check(rt, is_so, "a member");
+        check_member(rt, plan, round, 1, is_member);
     }
 }
 
@@ -643,8 +648,8 @@ fn public_plan_read(rt: HostRuntime) -> Result<(), Fail> {
         return Err(Fail::from("a public plan"));
     };
     check(&rt, plan.rounds() == 2, "rounds");
-    check(&rt, !plan.is_member(0, 0, 2), "not yet a member");
-    check(&rt, plan.is_member(0, 1, 2), "a member");
-    check(&rt, plan.is_member(0, 0, 1), "a member in all rounds");
+    check_member(&rt, &plan, 0, 2, false);
+    check_member(&rt, &plan, 1, 2, true);
+    check_member(&rt, &plan, 0, 1, true);
     Ok(())
 }
