@@ -601,7 +601,11 @@ static PUBLIC_FAULTS: [(&str, u32, FileCause); 9] = [
     ("plan,1\nrounds,2\nwindows,1,2\n", 1, FileCause::Row),
     ("public,2\nrounds,2\nwindows,1,2\n", 1, FileCause::Row),
     ("public,1\nrounds,2\n", 3, FileCause::Short),
-    ("public,1\nrounds,2\nwindows,0,2\n", 0, WINDOW),
+    (
+        "public,1\nrounds,2\nwindows,0,2\ngroup,north,3,2\n",
+        0,
+        WINDOW,
+    ),
     (
         "public,1\nrounds,2\nwindows,1,2\ngroup,north,3,2\nown,0,0,Z\n",
         5,
