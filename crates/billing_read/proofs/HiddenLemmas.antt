@@ -3,7 +3,7 @@ use Rattle.std.proofs.Common.{◌≡◌, ℕ, ◌-◌, ◌<◌, ◌≤◌, Bool,
 use Rattle.std.specs.Prelude.{◌==◌, Option, None, is_some, reverse, length, min}
 use Rattle.std.specs.List.{flat_map, range_with_len, sum_by, count_by}
 use mathlib.Core.Path.{fun_ext}
-use Rattle.std.proofs.lemmas.Bool.{eqb-true, eqb-false, and_parts, ltb-true}
+use Rattle.std.proofs.lemmas.Bool.{false≢true, eqb-true, eqb-false, and_parts, ltb-true}
 use Rattle.missing_round.specs.Sets.{is_member}
 use Rattle.group_plan.specs.Plans.{PlanView, size, is_place, members, is_member as is_of}
 use Rattle.group_plan.specs.Tables.{Table, ReadingsView, reading, IsReadingTable}
@@ -127,6 +127,7 @@ pub hidden : (x : ReadingsView) (events : List Event) (from until g r i : ℕ) (
 hidden x events from until g r i p fits is = record {
   agrees = record {
     presence = λ a b c. sym (present-changed (reading x.table) g r i p a b c);
+    readings = λ a b c inside. absurd (false≢true inside);
     totals = totals (shape_of_readings x.plan.groups (reading x.table)) (reading x.table) (reverse events) from until g r i p is;
   };
   bills = same_bills x.plan from until (reading x.table) (changed (reading x.table) g r i p)

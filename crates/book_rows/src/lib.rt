@@ -23,6 +23,8 @@ mod meter_frames_rows;
 #[cfg(test)]
 mod missing_round_rows;
 #[cfg(test)]
+mod pooled_twin_rows;
+#[cfg(test)]
 mod round_machine_rows;
 #[cfg(test)]
 mod shared_book_rows;

@@ -33,7 +33,7 @@ pair,0,0,0,1,903df1a0ade0b876,903df1a0ade0b871\n\
 end,2\n";
 
 /// The announcement to meter 1 is lost.
-static DEAF: &str = "\
+pub(crate) static DEAF: &str = "\
 meteragg transcript 2\n\
 rounds,1\n\
 windows,1,2\n\
@@ -58,7 +58,7 @@ begin\n\
 3,e,0,0,none,1\n\
 end,17\n";
 
-static DEAF_MASKS: &str = "\
+pub(crate) static DEAF_MASKS: &str = "\
 meteragg masks 1\n\
 own,0,0,1,903df1a0ade0b876,903df1a0ade0b8ac\n\
 pair,0,0,0,2,903df1a0ade0b876,903df1a0ade0b87f\n\

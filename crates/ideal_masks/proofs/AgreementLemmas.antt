@@ -10,30 +10,31 @@ use Rattle.missing_round.specs.Words.{word}
 use Rattle.group_plan.specs.Plans.{Group, PlanView, size, size_or, span_or, is_member, is_member_of, members, IsWithinLimits}
 use Rattle.group_plan.specs.Tables.{Table, reading, IsReadingTable}
 use Rattle.transcript_log.specs.declared.Event.{Event}
-use Rattle.transcript_log.specs.Schedule.{Shape, is_reading_taken, is_announced, is_answer_sent, survivors, answered, all_answered, is_opened}
+use Rattle.transcript_log.specs.Schedule.{Shape, is_reading_taken, is_announced, is_answer_sent}
 use Rattle.transcript_log.specs.Tables.{Readings, plain_sum, IsBounded}
 use Rattle.transcript_log.proofs.MemberLemmas.{plain_sum_fits}
-use Rattle.ideal_masks.specs.OffsetEnds.{is_earlier_round, HasOneTotal, HaveOneTotalBefore}
+use Rattle.ideal_masks.specs.Pools.{Pool, others, others_answered, is_open}
+use Rattle.ideal_masks.specs.OffsetEnds.{is_earlier_round, HasOneTotalFor, HaveOneTotalBeforeFor}
 
 -- ---- totals
 
-pub totals-round : (s : Shape) (x y : Readings) (p : List Event) (g r : ℕ) → HaveOneTotalBefore s x y p g r → HasOneTotal s x y p g r → HaveOneTotalBefore s x y p g (r + 1)
-totals-round s x y p g r before here a b earlier = step (is_earlier_round a b g r) refl
+pub totals-round : (pool : Pool) (s : Shape) (x y : Readings) (p : List Event) (g r : ℕ) → HaveOneTotalBeforeFor pool s x y p g r → HasOneTotalFor pool s x y p g r → HaveOneTotalBeforeFor pool s x y p g (r + 1)
+totals-round pool s x y p g r before here a b earlier = step (is_earlier_round a b g r) refl
   where
     one_more : (a b : ℕ) → is_earlier_round a b g (r + 1) ≡ true → is_earlier_round a b g r ≡ false → (a ≡ g) × (b ≡ r)
     one_more a b h k = (grind (arith, nat_tests, h, k), grind (arith, nat_tests, h, k))
 
-    step : (t : Bool) → is_earlier_round a b g r ≡ t → HasOneTotal s x y p a b
+    step : (t : Bool) → is_earlier_round a b g r ≡ t → HasOneTotalFor pool s x y p a b
     step true is = before a b is
     step false is = let at = one_more a b earlier is in rw (at.0, at.1) here
 
-pub totals-group : (s : Shape) (x y : Readings) (p : List Event) (g r : ℕ) → HaveOneTotalBefore s x y p g r → ((b : ℕ) → r ≤ b → HasOneTotal s x y p g b) → HaveOneTotalBefore s x y p (g + 1) 0
-totals-group s x y p g r before past a b earlier = step (is_earlier_round a b g r) refl
+pub totals-group : (pool : Pool) (s : Shape) (x y : Readings) (p : List Event) (g r : ℕ) → HaveOneTotalBeforeFor pool s x y p g r → ((b : ℕ) → r ≤ b → HasOneTotalFor pool s x y p g b) → HaveOneTotalBeforeFor pool s x y p (g + 1) 0
+totals-group pool s x y p g r before past a b earlier = step (is_earlier_round a b g r) refl
   where
     one_more : (a b : ℕ) → is_earlier_round a b (g + 1) 0 ≡ true → is_earlier_round a b g r ≡ false → (a ≡ g) × (r ≤ b)
     one_more a b h k = (grind (arith, nat_tests, h, k), grind (arith, nat_tests, h, k))
 
-    step : (t : Bool) → is_earlier_round a b g r ≡ t → HasOneTotal s x y p a b
+    step : (t : Bool) → is_earlier_round a b g r ≡ t → HasOneTotalFor pool s x y p a b
     step true is = before a b is
     step false is = let at = one_more a b earlier is in rw at.0 (past b at.1)
 
@@ -56,12 +57,12 @@ members-after plan g r limits le =
     filter-none (is_member plan.groups g r) 0 (size plan.groups g)
     (λ i lt is. let within : i < size plan.groups g = omega arith in is_member-span (slice_get plan.groups g) r i is (λ _ below. let to = limits.span_to g i within in omega arith) within)
 
-one_total-none : (s : Shape) (x y : Readings) (p : List Event) (g r : ℕ) → members s.groups g r ≡ [] → HasOneTotal s x y p g r
-one_total-none s x y p g r none = λ _.
-    ap (λ ms. plain_sum x g r (filter (λ i. is_reading_taken s g r i p) ms)) none ∙ sym (ap (λ ms. plain_sum y g r (filter (λ i. is_reading_taken s g r i p) ms)) none)
+one_total-none : (pool : Pool) (s : Shape) (x y : Readings) (p : List Event) (g r : ℕ) → members s.groups g r ≡ [] → HasOneTotalFor pool s x y p g r
+one_total-none pool s x y p g r none = λ _.
+    ap (λ ms. plain_sum x g r (filter (λ i. not (pool g i) && is_reading_taken s g r i p) ms)) none ∙ sym (ap (λ ms. plain_sum y g r (filter (λ i. not (pool g i) && is_reading_taken s g r i p) ms)) none)
 
-pub one_total-after : (s : Shape) (plan : PlanView) (x y : Readings) (p : List Event) (g r : ℕ) → s.groups ≡ plan.groups → IsWithinLimits plan → plan.rounds ≤ r → HasOneTotal s x y p g r
-one_total-after s plan x y p g r same limits le = one_total-none s x y p g r (ap (λ gs. members gs g r) same ∙ members-after plan g r limits le)
+pub one_total-after : (pool : Pool) (s : Shape) (plan : PlanView) (x y : Readings) (p : List Event) (g r : ℕ) → s.groups ≡ plan.groups → IsWithinLimits plan → plan.rounds ≤ r → HasOneTotalFor pool s x y p g r
+one_total-after pool s plan x y p g r same limits le = one_total-none pool s x y p g r (ap (λ gs. members gs g r) same ∙ members-after plan g r limits le)
 
 -- ---- one round
 
@@ -82,23 +83,23 @@ all-filtered t xs ys is = ap (list_all t) (sym is) ∙ passes xs
         step true is rest = ap (λ b. b && list_all t (filter t zs)) is ∙ rest
         step false is rest = rest
 
-pub opened-if : (s : Shape) (g r : ℕ) (p : List Event) → is_announced s g r p ≡ true → answered s g r p ≡ survivors s g r p → is_opened s g r p ≡ true
-opened-if s g r p announced same =
-    ap (λ b. b && all_answered s g r p) announced ∙ all-filtered (λ i. is_answer_sent s g r i p) (survivors s g r p) (survivors s g r p) same
+pub open-if : (pool : Pool) (s : Shape) (g r : ℕ) (p : List Event) → is_announced s g r p ≡ true → others_answered pool s g r p ≡ others pool s g r p → is_open pool s g r p ≡ true
+open-if pool s g r p announced same =
+    ap (λ b. b && list_all (λ i. is_answer_sent s g r i p) (others pool s g r p)) announced ∙ all-filtered (λ i. is_answer_sent s g r i p) (others pool s g r p) (others pool s g r p) same
 
--- a round that isn't announced, and one where a survivor's answer lacks, isn't opened
-pub not_opened-unannounced : (s : Shape) (g r : ℕ) (p : List Event) → is_announced s g r p ≡ false → is_opened s g r p ≡ false
-not_opened-unannounced s g r p none = ap (λ b. b && all_answered s g r p) none
+-- a round that isn't announced, and one where a survivor's answer lacks, isn't open
+pub not_open-unannounced : (pool : Pool) (s : Shape) (g r : ℕ) (p : List Event) → is_announced s g r p ≡ false → is_open pool s g r p ≡ false
+not_open-unannounced pool s g r p none = ap (λ b. b && list_all (λ i. is_answer_sent s g r i p) (others pool s g r p)) none
 
-pub not_opened : (s : Shape) (g r : ℕ) (p : List Event) → (answered s g r p ≡ survivors s g r p → ⊥) → is_opened s g r p ≡ false
-not_opened s g r p lacks = step (is_opened s g r p) refl
+pub not_open : (pool : Pool) (s : Shape) (g r : ℕ) (p : List Event) → (others_answered pool s g r p ≡ others pool s g r p → ⊥) → is_open pool s g r p ≡ false
+not_open pool s g r p lacks = step (is_open pool s g r p) refl
   where
-    step : (b : Bool) → is_opened s g r p ≡ b → b ≡ false
-    step true opened = absurd (lacks (filter-all (λ i. is_answer_sent s g r i p) (survivors s g r p) (and_parts (is_announced s g r p) (all_answered s g r p) opened).1))
+    step : (b : Bool) → is_open pool s g r p ≡ b → b ≡ false
+    step true opened = absurd (lacks (filter-all (λ i. is_answer_sent s g r i p) (others pool s g r p) (and_parts (is_announced s g r p) (list_all (λ i. is_answer_sent s g r i p) (others pool s g r p)) opened).1))
     step false _ = refl
 
-pub one_total-closed : (s : Shape) (x y : Readings) (p : List Event) (g r : ℕ) → is_opened s g r p ≡ false → HasOneTotal s x y p g r
-one_total-closed s x y p g r closed = λ opened. absurd (false≢true (sym closed ∙ opened))
+pub one_total-closed : (pool : Pool) (s : Shape) (x y : Readings) (p : List Event) (g r : ℕ) → is_open pool s g r p ≡ false → HasOneTotalFor pool s x y p g r
+one_total-closed pool s x y p g r closed = λ opened. absurd (false≢true (sym closed ∙ opened))
 
 pub bounded : (plan : PlanView) (t : Table (Option ℕ)) → IsWithinLimits plan → IsReadingTable plan t → IsBounded plan.groups (reading t)
 bounded plan t limits fits = record { meters = limits.meters; readings = λ g r i. small (reading t g r i) (fits.small g r i) }
@@ -108,10 +109,10 @@ bounded plan t limits fits = record { meters = limits.meters; readings = λ g r 
     small (Some v) h = h v refl
 
 -- the sum of a table over the survivors is its word
-pub sum-is : (s : Shape) (plan : PlanView) (t : Table (Option ℕ)) (p : List Event) (g r sum : ℕ) → s.groups ≡ plan.groups → IsWithinLimits plan → IsReadingTable plan t
-    → sum ≡ word (plain_sum (reading t) g r (survivors s g r p)) → sum ≡ plain_sum (reading t) g r (survivors s g r p)
-sum-is s plan t p g r sum same limits fits is =
-    is ∙ plain_sum_fits s.groups (reading t) g r (λ i. is_reading_taken s g r i p) (subst (λ gs. IsBounded gs (reading t)) (sym same) (bounded plan t limits fits))
+pub sum-is : (pool : Pool) (s : Shape) (plan : PlanView) (t : Table (Option ℕ)) (p : List Event) (g r sum : ℕ) → s.groups ≡ plan.groups → IsWithinLimits plan → IsReadingTable plan t
+    → sum ≡ word (plain_sum (reading t) g r (others pool s g r p)) → sum ≡ plain_sum (reading t) g r (others pool s g r p)
+sum-is pool s plan t p g r sum same limits fits is =
+    is ∙ plain_sum_fits s.groups (reading t) g r (λ i. not (pool g i) && is_reading_taken s g r i p) (subst (λ gs. IsBounded gs (reading t)) (sym same) (bounded plan t limits fits))
 
 -- what the test on the two sets says
 pub sets-same : (xs ys : List ℕ) → not (bytes_eq xs ys) ≡ false → xs ≡ ys

@@ -1,6 +1,6 @@
 -- Equal transcripts have equal sums in opened rounds.
-use Rattle.std.proofs.Common.{◌≡◌, ℕ, ◌+◌, Bool, true, ◌&&◌, List, [], ◌∷◌, sym, ap, ◌∙◌, ⊎_elim}
-use Rattle.std.specs.Prelude.{is_some, Option, Some, None}
+use Rattle.std.proofs.Common.{◌≡◌, ℕ, ◌+◌, Bool, true, not, ◌&&◌, ◌||◌, List, [], ◌∷◌, sym, ap, ◌∙◌, ⊎_elim}
+use Rattle.std.specs.Prelude.{is_some, unwrap_or, Option, Some, None}
 use Rattle.std.specs.List.{sum_by, filter, list_all}
 use Rattle.std.proofs.lemmas.Bool.{false≢true, or_cases}
 use Rattle.group_plan.specs.declared.Kind.TheVariants.{Reading, Answer}
@@ -12,17 +12,19 @@ use Rattle.transcript_log.specs.declared.Line.{Line}
 use Rattle.transcript_log.specs.declared.Line.TheVariants.{Send as SendLine, Take as TakeLine, Close as CloseLine, End as EndLine}
 use Rattle.missing_round.specs.Words.{word, minus, reading_word, answer_word}
 use Rattle.group_plan.specs.Plans.{Group, members}
-use Rattle.transcript_log.specs.Schedule.{Shape, is_closed, is_reading_sent, is_reading_taken, survivors, missing, is_announced, is_announcement_taken, is_answer_sent, all_answered, is_opened}
+use Rattle.transcript_log.specs.Schedule.{Shape, is_closed, is_reading_sent, is_reading_taken, survivors, missing, is_announced, is_announcement_taken, is_answer_sent}
 use Rattle.transcript_log.specs.Events.{once, is_send}
 use Rattle.transcript_log.specs.Tables.{Readings, Masks, reading_at, plain_sum, IsBounded}
 use Rattle.transcript_log.specs.Transcript.{shape_of_readings, Contents, contents_of_tables, frame, line, lines_after, transcript}
-use Rattle.ideal_masks.specs.Offsets.{Agree}
+use Rattle.ideal_masks.specs.Pools.{Pool, nobody, others, is_open, ShareWords}
+use Rattle.ideal_masks.specs.Offsets.{AgreeFor, Agree}
 use Rattle.transcript_log.proofs.ScheduleLemmas.{after, is_closed-from_answer, is_closed-from_taken, is_reading_sent-from_taken, missing-closed, once-cons}
 use Rattle.transcript_log.proofs.ListLemmas.{and_first, and_last, sum_by-filter_same}
 use Rattle.transcript_log.proofs.EventLemmas.{is_send-true}
 use Rattle.transcript_log.proofs.MemberLemmas.{plain_sum_fits}
 use Rattle.transcript_log.proofs.TranscriptLemmas.{shape-same}
 use Rattle.missing_round.proofs.WordLemmas.{frame_total-words}
+use Rattle.ideal_masks.proofs.PoolLemmas.{all-or, answer-shared, nobody-shares, word-outside}
 
 -- what a transcript tells of its words
 pub record Told (s : Shape) (c d : Contents) (p : List Event) : Type 0 where
@@ -87,29 +89,31 @@ told_none : (s : Shape) (c d : Contents) → Told s c d []
 unfolding once
 told_none s c d = record { readings = λ g r i h. absurd (false≢true h); answers = λ g r i h. absurd (false≢true h) }
 
--- opened rounds have one frame_total, and so one sum modulo 2^64
-pub word-plain_sum : (groups : List Group) (x y : Readings) (m k : Masks) (p : List Event) → Told (shape_of_readings groups x) (contents_of_tables groups x m) (contents_of_tables groups y k) p
-    → (g r : ℕ) → is_opened (shape_of_readings groups x) g r p ≡ true → word (plain_sum x g r (survivors (shape_of_readings groups x) g r p)) ≡ word (plain_sum y g r (survivors (shape_of_readings groups x) g r p))
-word-plain_sum groups x y m k p told g r opened =
+-- rounds that are open to a pool have one frame_total where the words of the pool are the same, and so one sum modulo 2^64
+pub word-plain_sum : (pool : Pool) (groups : List Group) (x y : Readings) (m k : Masks) (p : List Event) → ShareWords pool m k
+    → Told (shape_of_readings groups x) (contents_of_tables groups x m) (contents_of_tables groups y k) p
+    → (g r : ℕ) → is_open pool (shape_of_readings groups x) g r p ≡ true → word (plain_sum x g r (survivors (shape_of_readings groups x) g r p)) ≡ word (plain_sum y g r (survivors (shape_of_readings groups x) g r p))
+word-plain_sum pool groups x y m k p shared told g r open_to =
     let s : Shape = shape_of_readings groups x in
     let ms : List ℕ = members groups g r in
     let t : ℕ → Bool = λ i. is_reading_taken s g r i p in
     let b : ℕ → Bool = λ i. is_answer_sent s g r i p in
+    let either : ℕ → Bool = λ i. pool g i || b i in
     let gone : List ℕ = missing s g r p in
-    let all : list_all b (filter t ms) ≡ true = and_last (is_announced s g r p) (all_answered s g r p) opened in
+    let all : list_all either (filter t ms) ≡ true = all-or (pool g) t b ms (and_last (is_announced s g r p) (list_all b (others pool s g r p)) open_to) in
     sym (frame_total-words (m.own g r) (m.pair g r) ms (reading_at x g r) t)
     ∙ ap (λ z. word (z + minus (sum_by (λ i. answer_word (m.own g r) (m.pair g r) i gone) (filter t ms))))
-    (sum_by-filter_same t b (λ i. reading_word (m.own g r) (m.pair g r) ms i (reading_at x g r i)) (λ i. reading_word (k.own g r) (k.pair g r) ms i (reading_at y g r i))
+    (sum_by-filter_same t either (λ i. reading_word (m.own g r) (m.pair g r) ms i (reading_at x g r i)) (λ i. reading_word (k.own g r) (k.pair g r) ms i (reading_at y g r i))
     (λ i taken answer. told.readings g r i (is_reading_sent-from_taken s g r i p taken)) ms all)
     ∙ ap (λ z. word (sum_by (λ i. reading_word (k.own g r) (k.pair g r) ms i (reading_at y g r i)) (filter t ms) + minus z))
-    (sum_by-filter_same t b (λ i. answer_word (m.own g r) (m.pair g r) i gone) (λ i. answer_word (k.own g r) (k.pair g r) i gone)
-    (λ i taken answer. told.answers g r i answer) ms all)
+    (sum_by-filter_same t either (λ i. answer_word (m.own g r) (m.pair g r) i gone) (λ i. answer_word (k.own g r) (k.pair g r) i gone)
+    (λ i taken known. ⊎_elim (λ inside. answer-shared pool m k g r i gone shared inside) (λ answer. told.answers g r i answer) (or_cases (pool g i) (b i) known)) ms all)
     ∙ frame_total-words (k.own g r) (k.pair g r) ms (reading_at y g r) t
 
-pub converse : (groups : List Group) (x y : Readings) (m k : Masks) (events : List Event)
-    → ((g r i : ℕ) → is_some (x g r i) ≡ is_some (y g r i)) → IsBounded groups x → IsBounded groups y
-    → transcript groups x m events ≡ transcript groups y k events → Agree groups x y (after [] events)
-converse groups x y m k events presence x_bounded y_bounded same =
+pub converse_for : (pool : Pool) (groups : List Group) (x y : Readings) (m k : Masks) (events : List Event)
+    → ((g r i : ℕ) → is_some (x g r i) ≡ is_some (y g r i)) → ((g r i : ℕ) → pool g i ≡ true → x g r i ≡ y g r i) → IsBounded groups x → IsBounded groups y → ShareWords pool m k
+    → transcript groups x m events ≡ transcript groups y k events → AgreeFor pool groups x y (after [] events)
+converse_for pool groups x y m k events presence known x_bounded y_bounded shared same =
     let s : Shape = shape_of_readings groups x in
     let told : Told s (contents_of_tables groups x m) (contents_of_tables groups y k) (after [] events)
     = told_after s (contents_of_tables groups x m) (contents_of_tables groups y k) [] events
@@ -117,8 +121,16 @@ converse groups x y m k events presence x_bounded y_bounded same =
     (told_none s (contents_of_tables groups x m) (contents_of_tables groups y k)) in
     record {
       presence = presence;
-      totals = λ g r opened.
-          sym (plain_sum_fits groups x g r (λ i. is_reading_taken s g r i (after [] events)) x_bounded)
-          ∙ word-plain_sum groups x y m k (after [] events) told g r opened
-          ∙ plain_sum_fits groups y g r (λ i. is_reading_taken s g r i (after [] events)) y_bounded;
+      readings = known;
+      totals = λ g r open_to.
+          sym (plain_sum_fits groups x g r (λ i. not (pool g i) && is_reading_taken s g r i (after [] events)) x_bounded)
+          ∙ word-outside pool s (reading_at x g r) (reading_at y g r) g r (after [] events) (λ i inside. ap (λ o. unwrap_or o 0) (known g r i inside))
+          (word-plain_sum pool groups x y m k (after [] events) shared told g r open_to)
+          ∙ plain_sum_fits groups y g r (λ i. not (pool g i) && is_reading_taken s g r i (after [] events)) y_bounded;
     }
+
+pub converse : (groups : List Group) (x y : Readings) (m k : Masks) (events : List Event)
+    → ((g r i : ℕ) → is_some (x g r i) ≡ is_some (y g r i)) → IsBounded groups x → IsBounded groups y
+    → transcript groups x m events ≡ transcript groups y k events → Agree groups x y (after [] events)
+converse groups x y m k events presence x_bounded y_bounded same =
+    converse_for nobody groups x y m k events presence (λ g r i inside. absurd (false≢true inside)) x_bounded y_bounded (nobody-shares m k) same

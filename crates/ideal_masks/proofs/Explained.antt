@@ -5,7 +5,7 @@ use Rattle.std.specs.List.{sum_by, filter, list_all, range_with_len}
 use mathlib.Core.List.{reverse}
 use mathlib.Core.Path.{fun_ext}
 use Rattle.std.proofs.Math.Nat.{mod-mod, mod-lt, mod-eq_of_lt}
-use Rattle.std.proofs.lemmas.Bool.{cond_both, and_from}
+use Rattle.std.proofs.lemmas.Bool.{false≢true, cond_both, and_from}
 use Rattle.std.proofs.lemmas.List.Filters.{sum_by-filter_both}
 use Rattle.std.proofs.lemmas.List.Elements.{filter-append}
 use Rattle.std.proofs.lemmas.List.Sums.{sum_by-cons, sum_by_push}
@@ -17,6 +17,7 @@ use Rattle.group_plan.specs.Plans.{Group, size_or, is_member, members}
 use Rattle.transcript_log.specs.Schedule.{Shape, is_answer_sent, is_reading_taken, survivors, missing, is_announced, is_opened, all_answered, answered}
 use Rattle.transcript_log.specs.Tables.{Readings, Masks, reading_at}
 use Rattle.transcript_log.specs.Transcript.{shape_of_readings, Contents, contents_of_tables, lines_after}
+use Rattle.ideal_masks.specs.Pools.{nobody}
 use Rattle.ideal_masks.specs.Offsets.{silent, moves, shift}
 use Rattle.transcript_log.specs.Events.{event_of}
 use Rattle.transcript_log.specs.Frames.{first_frame, first_word, shape_of_lines, contents_of_lines, IsPossible, HasWordsOf64Bits}
@@ -169,14 +170,14 @@ explained_alike s c answer whole fits most =
           let y : ℕ = found_reading s c whole g r i in
           sym (
           ap (λ v. reading_word ((found_masks s c answer whole).own g r) ((found_masks s c answer whole).pair g r) ms i v) (found_at s c whole g r i present)
-          ∙ reading_word-moved s m0 d whole g r i (y + d g r i) y (fits.places g r i present)
-          (wanted_cancel s c answer whole g r (fits.differences g r (survivors s g r whole)) (most g r)) refl
+          ∙ reading_word-moved nobody s m0 d whole g r i (y + d g r i) y (fits.places g r i present)
+          (wanted_cancel s c answer whole g r (fits.differences g r (survivors s g r whole)) (most g r)) refl (λ inside. absurd (false≢true inside))
           ∙ found_word (c.reading g r i) y (m0.own g r i) (sum_by (share (λ _ _. 0) i) ms) (sum_share-none i ms)
           ∙ mod-eq_of_lt (fits.readings g r i));
       answers = λ g r i sent.
           fits.answers_are g r i (missing s g r whole)
           ∙ sym (
-          answer_word-moved s m0 d whole g r i sent
+          answer_word-moved nobody s m0 d whole g r i sent
           ∙ word-add_same (m0.own g r i) (sum_by (share (λ _ _. 0) i) (missing s g r whole)) 0 (sum_share-none i (missing s g r whole))
           ∙ ap word (add-zero (m0.own g r i)) ∙ ap (λ q. word (cond q (answer g r i) 0)) sent ∙ mod-eq_of_lt (fits.answers g r i));
       totals = λ g r opened.

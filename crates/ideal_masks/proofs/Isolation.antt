@@ -1,5 +1,5 @@
 -- Each table of readings is isolated.
-use Rattle.std.proofs.Common.{◌≡◌, ℕ, ◌+◌, ◌<◌, ◌≤◌, Bool, true, false, cond, not, List, [], ◌∷◌, length, get_or, refl, sym, ap, ◌∙◌, ⊎_elim, arith}
+use Rattle.std.proofs.Common.{◌≡◌, ℕ, ◌+◌, ◌<◌, ◌≤◌, true, not, List, [], ◌∷◌, length, get_or, refl, sym, ap, ◌∙◌, subst, ⊎_elim, arith}
 use Rattle.std.specs.Prelude.{Option, None, is_some, nat_lt}
 use Rattle.std.specs.List.{sum_by}
 use mathlib.Core.List.{reverse}
@@ -8,22 +8,24 @@ use Rattle.std.proofs.lemmas.Bool.{false≢true, cases_lt, ltb-true}
 use Rattle.std.proofs.lemmas.List.Sums.{sum_by-cons}
 use Rattle.std.proofs.lemmas.List.Elements.{All-filter, recursion_from_All}
 use Rattle.transcript_log.specs.declared.Event.{Event}
-use Rattle.missing_round.specs.Words.{word, minus, share, group}
+use Rattle.missing_round.specs.Words.{word, share, group}
 use Rattle.group_plan.specs.Plans.{PlanView, is_member, members, size}
 use Rattle.transcript_log.specs.Schedule.{is_reading_taken, missing}
 use Rattle.transcript_log.specs.Tables.{Readings, Masks, reading_at}
 use Rattle.transcript_log.specs.Transcript.{shape_of_readings, contents_of_tables, transcript}
-use Rattle.ideal_masks.specs.Offsets.{offsets, shift, Agree}
+use Rattle.ideal_masks.specs.Pools.{Pool, nobody, ShareWords}
+use Rattle.ideal_masks.specs.Offsets.{offsets_for, shift, AgreeFor}
 use Rattle.group_plan.specs.Tables.{reading, IsReadingTable}
 use Rattle.ideal_masks.specs.ListTables.{ReadingTable, MaskTable, masks_in, IsMaskTable, shift_table, unshift_table}
 use Rattle.ideal_masks.specs.Moves.{offset_list, listed}
-use Rattle.ideal_masks.specs.Isolation.{Carries, Isolated}
+use Rattle.ideal_masks.specs.Isolation.{KeepsWords, CarriesFor, IsolatedFor, Isolated}
 use Rattle.transcript_log.proofs.TranscriptLemmas.{Alike, lines_after-same}
 use Rattle.ideal_masks.proofs.OffsetLemmas.{AllBelow, AllBelow-from_recursion, all_below_group}
 use Rattle.transcript_log.proofs.ScheduleLemmas.{after, after-reverse, is_reading_taken-from_answer, present-from_taken}
 use Rattle.ideal_masks.proofs.MoveLemmas.{list_is}
 use Rattle.ideal_masks.proofs.TableLemmas.{own-table_of, pair-table_of, shift_table-unshift, unshift_table-shift}
-use Rattle.ideal_masks.proofs.TwoWorlds.{two_worlds}
+use Rattle.ideal_masks.proofs.PoolLemmas.{shares_same}
+use Rattle.ideal_masks.proofs.TwoWorlds.{two_worlds_for, words_stay}
 
 -- a reading that is there is in the plan
 pub record InPlan (plan : PlanView) (g r i : ℕ) : Type 0 where
@@ -57,11 +59,6 @@ sum_by-below n f h same [] all = refl
 sum_by-below n f h same (x ∷ xs) all =
     sum_by-cons f x xs ∙ ap (λ z. z + sum_by f xs) (same x all.0) ∙ ap (λ z. h x + z) (sum_by-below n f h same xs all.1) ∙ sym (sum_by-cons h x xs)
 
-shares_same : (b c : Bool) (p1 p2 q1 q2 : ℕ) → (b ≡ true → p1 ≡ q1) → (c ≡ true → p2 ≡ q2) → cond b p1 (cond c (minus p2) 0) ≡ cond b q1 (cond c (minus q2) 0)
-shares_same true c p1 p2 q1 q2 one two = one refl
-shares_same false true p1 p2 q1 q2 one two = ap minus (two refl)
-shares_same false false p1 p2 q1 q2 one two = refl
-
 share-below : (p q : ℕ → ℕ → ℕ) (n i : ℕ) → i < n → ((a b : ℕ) → a < b → b < n → p a b ≡ q a b) → (j : ℕ) → j < n → share p i j ≡ share q i j
 share-below p q n i i_in same j j_in =
     shares_same (nat_lt i j) (nat_lt j i) (p i j) (p j i) (q i j) (q j i) (λ lt. same i j (ltb-true i j lt) j_in) (λ lt. same j i (ltb-true j i lt) i_in)
@@ -94,15 +91,17 @@ alike_tables plan y m k whole in_plan owns pairs = record {
   totals = λ g r opened. refl;
 }
 
-carried : (plan : PlanView) (x : ReadingTable) (events : List Event) → IsReadingTable plan x
-    → (y : ReadingTable) → IsReadingTable plan y → Agree plan.groups (reading x) (reading y) (reverse events)
-    → (m : MaskTable) → IsMaskTable plan m → Carries plan x events y (offsets plan.groups (reading x) (reading y) (reverse events)) m
-carried plan x events x_fits y y_fits agree m m_fits =
-    let o : Masks = offsets plan.groups (reading x) (reading y) (reverse events) in
+carried : (pool : Pool) (plan : PlanView) (x : ReadingTable) (events : List Event) → IsReadingTable plan x
+    → (y : ReadingTable) → IsReadingTable plan y → AgreeFor pool plan.groups (reading x) (reading y) (reverse events)
+    → (m : MaskTable) → IsMaskTable plan m → CarriesFor pool plan x events y (offsets_for pool plan.groups (reading x) (reading y) (reverse events)) m
+carried pool plan x events x_fits y y_fits agree m m_fits =
+    let o : Masks = offsets_for pool plan.groups (reading x) (reading y) (reverse events) in
     let moved : Masks = shift o (masks_in m) in
-    let agree_after : Agree plan.groups (reading x) (reading y) (after [] events) = rw (after-reverse events) agree in
+    let agree_after : AgreeFor pool plan.groups (reading x) (reading y) (after [] events) = rw (after-reverse events) agree in
     let worlds : transcript plan.groups (reading y) moved events ≡ transcript plan.groups (reading x) (masks_in m) events
-    = rw (← after-reverse events) (two_worlds plan.groups (reading x) (reading y) (masks_in m) events (λ g r i there. x_fits.of_members g r i there) agree_after) in
+    = rw (← after-reverse events) (two_worlds_for pool plan.groups (reading x) (reading y) (masks_in m) events (λ g r i there. x_fits.of_members g r i there) agree_after) in
+    let stay : ShareWords pool (masks_in m) moved
+    = words_stay pool plan.groups (reading x) (reading y) (masks_in m) (reverse events) (record { own = m_fits.own_words; pair = m_fits.pair_words }) in
     record {
       same_lines =
           lines_after-same (shape_of_readings plan.groups (reading y)) (contents_of_tables plan.groups (reading y) (masks_in (shift_table plan o m))) (contents_of_tables plan.groups (reading y) moved) [] events
@@ -110,22 +109,30 @@ carried plan x events x_fits y y_fits agree m m_fits =
           (λ g r i g_in r_in i_in. own-table_of plan moved g r i g_in r_in i_in)
           (λ g r i j g_in r_in above j_in. pair-table_of plan moved g r i j g_in r_in above j_in))
           ∙ worlds;
+      words = record {
+        own = λ g r i g_in r_in i_in inside. stay.own g r i inside ∙ sym (own-table_of plan moved g r i g_in r_in i_in);
+        pair = λ g r i j g_in r_in above j_in inside. stay.pair g r i j above inside ∙ sym (pair-table_of plan moved g r i j g_in r_in above j_in);
+      };
       undone = unshift_table-shift plan o m m_fits;
       redone = shift_table-unshift plan o m m_fits;
     }
 
 -- moves by which tables shift alike carry alike
-carried_alike : (plan : PlanView) (x : ReadingTable) (events : List Event) (y : ReadingTable) (o l : Masks) (m : MaskTable)
+carried_alike : (pool : Pool) (plan : PlanView) (x : ReadingTable) (events : List Event) (y : ReadingTable) (o l : Masks) (m : MaskTable)
     → ((k : MaskTable) → shift_table plan l k ≡ shift_table plan o k) → ((k : MaskTable) → unshift_table plan l k ≡ unshift_table plan o k)
-    → Carries plan x events y o m → Carries plan x events y l m
-carried_alike plan x events y o l m shifts unshifts by = record {
+    → CarriesFor pool plan x events y o m → CarriesFor pool plan x events y l m
+carried_alike pool plan x events y o l m shifts unshifts by = record {
   same_lines = ap (λ k. transcript plan.groups (reading y) (masks_in k) events) (shifts m) ∙ by.same_lines;
+  words = subst (KeepsWords pool plan m) (sym (shifts m)) by.words;
   undone = ap (unshift_table plan l) (shifts m) ∙ unshifts (shift_table plan o m) ∙ by.undone;
   redone = ap (shift_table plan l) (unshifts m) ∙ shifts (unshift_table plan o m) ∙ by.redone;
 }
 
-pub isolated : (plan : PlanView) (x : ReadingTable) (events : List Event) → IsReadingTable plan x → Isolated plan x events
-isolated plan x events x_fits = λ y y_fits agree m m_fits.
-    let o : Masks = offsets plan.groups (reading x) (reading y) (reverse events) in
+pub isolated_from : (pool : Pool) (plan : PlanView) (x : ReadingTable) (events : List Event) → IsReadingTable plan x → IsolatedFor pool plan x events
+isolated_from pool plan x events x_fits = λ y y_fits agree m m_fits.
+    let o : Masks = offsets_for pool plan.groups (reading x) (reading y) (reverse events) in
     let list = list_is plan o in
-    carried_alike plan x events y o (listed (offset_list plan o)) m list.shifted list.unshifted (carried plan x events x_fits y y_fits agree m m_fits)
+    carried_alike pool plan x events y o (listed (offset_list plan o)) m list.shifted list.unshifted (carried pool plan x events x_fits y y_fits agree m m_fits)
+
+pub isolated : (plan : PlanView) (x : ReadingTable) (events : List Event) → IsReadingTable plan x → Isolated plan x events
+isolated = isolated_from nobody

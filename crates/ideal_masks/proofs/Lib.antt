@@ -1,3 +1,4 @@
+pub mod PoolLemmas
 pub mod OffsetLemmas
 pub mod TwoWorlds
 pub mod Converse
@@ -18,6 +19,7 @@ pub mod RowLists
 pub mod PairLists
 pub mod OwnLemmas
 pub mod AgreementLemmas
+pub mod KnownLemmas
 pub mod OrderLemmas
 pub mod WorldLemmas
 pub mod AboveLemmas

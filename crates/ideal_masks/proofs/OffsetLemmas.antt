@@ -114,10 +114,13 @@ abbrev pub AllBelow : ℕ → List ℕ → Type 0
 AllBelow n [] = Unit {0}
 AllBelow n (x ∷ xs) = (x < n) × AllBelow n xs
 
+sum_share-still : (pair : ℕ → ℕ → ℕ) (i : ℕ) → ((j : ℕ) → word (share pair i j) ≡ 0) → (xs : List ℕ) → word (sum_by (share pair i) xs) ≡ 0
+sum_share-still pair i none [] = refl
+sum_share-still pair i none (x ∷ xs) =
+    ap word (sum_by-cons (share pair i) x xs) ∙ word-add_both (share pair i x) 0 (sum_by (share pair i) xs) 0 (none x) (sum_share-still pair i none xs)
+
 pub sum_share-none : (i : ℕ) (xs : List ℕ) → word (sum_by (share (λ _ _. 0) i) xs) ≡ 0
-sum_share-none i [] = refl
-sum_share-none i (x ∷ xs) =
-    ap word (sum_by-cons (share (λ _ _. 0) i) x xs) ∙ word-add_both (share (λ _ _. 0) i x) 0 (sum_by (share (λ _ _. 0) i) xs) 0 (share-none i x) (sum_share-none i xs)
+sum_share-none i xs = sum_share-still (λ _ _. 0) i (share-none i) xs
 
 sum_share-chain : (d : ℕ → ℕ) (sum : ℕ) (chain : List ℕ) (i : ℕ) (ms : List ℕ) → AllByRecursion (Once ms) chain → word (sum_by (share (pair_move d sum chain) i) ms) ≡ word (gains d sum chain i)
 sum_share-chain d sum [] i ms all = sum_share-none i ms
@@ -347,13 +350,24 @@ round_moves d t b ms i each below taken none =
     (recursion_from_All (Once ms) (chain_of t b ms) (chain_within (Once ms) t b ms (All-filter t (Once ms) ms each))))
     ∙ round_gains d b (filter b survivors) (filter (λ k. not (b k)) survivors) i part (filter_passes (λ k. not (b k)) survivors) none
 
-pub round_still : (d : ℕ → ℕ) (t b : ℕ → Bool) (ms : List ℕ) (i : ℕ) → word (sum_by (share (pair_move d 0 (chain_of t b ms)) i) (filter (λ j. not (t j)) ms)) ≡ 0
-round_still d t b ms i =
-    sum_share-outside t (pair_move d 0 (chain_of t b ms)) i
-    (λ j out.
-    let none = pair_move-outside t d 0 (chain_of t b ms) i j
-    (recursion_from_All (λ u. t u ≡ true) (chain_of t b ms) (chain_within (λ u. t u ≡ true) t b ms (filter_passes t ms))) out in
-    share-zero (pair_move d 0 (chain_of t b ms)) i j none.0 none.1)
+-- no pair word with an end outside t moves
+pub chain_apart : (d : ℕ → ℕ) (t b : ℕ → Bool) (ms : List ℕ) (i j : ℕ) → t j ≡ false → (pair_move d 0 (chain_of t b ms) i j ≡ 0) × (pair_move d 0 (chain_of t b ms) j i ≡ 0)
+chain_apart d t b ms i j out =
+    pair_move-outside t d 0 (chain_of t b ms) i j
+    (recursion_from_All (λ u. t u ≡ true) (chain_of t b ms) (chain_within (λ u. t u ≡ true) t b ms (filter_passes t ms))) out
+
+-- so nothing is moved in the answers to a set outside t
+pub round_still : (d : ℕ → ℕ) (t u b : ℕ → Bool) (ms : List ℕ) (i : ℕ) → ((j : ℕ) → u j ≡ false → t j ≡ false) → word (sum_by (share (pair_move d 0 (chain_of t b ms)) i) (filter (λ j. not (u j)) ms)) ≡ 0
+round_still d t u b ms i within =
+    sum_share-outside u (pair_move d 0 (chain_of t b ms)) i
+    (λ j out. let none = chain_apart d t b ms i j (within j out) in share-zero (pair_move d 0 (chain_of t b ms)) i j none.0 none.1)
+    ms
+
+-- nor in the words of a meter outside t
+pub round_apart : (d : ℕ → ℕ) (t b : ℕ → Bool) (ms : List ℕ) (i : ℕ) → t i ≡ false → word (sum_by (share (pair_move d 0 (chain_of t b ms)) i) ms) ≡ 0
+round_apart d t b ms i out =
+    sum_share-still (pair_move d 0 (chain_of t b ms)) i
+    (λ j. let none = chain_apart d t b ms j i out in share-zero (pair_move d 0 (chain_of t b ms)) i j none.1 none.0)
     ms
 
 pub once_members : (groups : List Group) (g r i : ℕ) → is_member groups g r i ≡ true → Once (members groups g r) i

@@ -1,14 +1,15 @@
--- Those of the survivors of a round that sent their answer.
-use Rattle.std.proofs.Common.{◌≡◌, ℕ, Bool, true, false, cond, ◌&&◌, List, [], ◌∷◌, refl, sym, ap, ◌∙◌}
-use Rattle.std.specs.Prelude.{Option, Some, None, is_some, slice_get}
+-- The survivors of a round outside a pool, and those of them that sent their answer.
+use Rattle.std.proofs.Common.{◌≡◌, ℕ, Bool, true, false, cond, not, ◌&&◌, List, [], ◌∷◌, refl, sym, ap, ◌∙◌}
+use Rattle.std.specs.Prelude.{Option, Some, None, is_some, slice_get, slice_index_or}
 use Rattle.std.specs.List.{filter}
 use Rattle.std.proofs.lemmas.Bool.{false≢true}
 use Rattle.missing_round.specs.Sets.{is_member, less}
 use Rattle.missing_round.proofs.SetLemmas.{is_member-filter, less-filter, same_filter}
 use Rattle.transcript_log.specs.declared.Event.{Event}
-use Rattle.transcript_log.specs.Schedule.{Shape, is_announced, is_answer_sent, survivors, answered}
+use Rattle.transcript_log.specs.Schedule.{Shape, members_of, is_reading_taken, is_announced, is_answer_sent, survivors}
 use Rattle.group_book.specs.Books.{BookView, shape_of, past, IsAnnounced}
 use Rattle.ideal_masks.specs.declared.chain.Chain.{Chain}
+use Rattle.ideal_masks.specs.Pools.{Pool, pool_of, others, others_answered}
 use Rattle.ideal_masks.specs.Chains.{IsChain}
 
 filter-both : (p q : ℕ → Bool) (xs : List ℕ) → filter q (filter p xs) ≡ filter (λ i. p i && q i) xs
@@ -27,17 +28,33 @@ of_part p t b xs =
     ∙ sym (filter-both (λ i. p i && t i) b xs)
     ∙ ap (filter b) (sym (filter-both p t xs))
 
-pub chain-is : (s : Shape) (g r : ℕ) (p : List Event) (c : Chain) → is_announced s g r p ≡ true → c.survivors ≡ survivors s g r p
-    → c.answered ≡ filter (λ i. is_answer_sent s g r i p) c.survivors → c.end ≡ slice_get (less c.survivors c.answered) 0 → IsChain s g r p (Some c)
-chain-is s g r p c announced survivors_are answered_are end_is =
-    let answered_of : c.answered ≡ answered s g r p = answered_are ∙ ap (filter (λ i. is_answer_sent s g r i p)) survivors_are in
+-- those outside the pool, taken away from the survivors
+pub outside-filter : (k t : ℕ → Bool) (xs : List ℕ) → filter (λ i. not (k i)) (filter t xs) ≡ filter (λ i. not (k i) && t i) xs
+outside-filter k t [] = refl
+outside-filter k t (x ∷ xs) = step (t x) (k x) refl (filter t xs) (filter (λ i. not (k i) && t i) xs) (outside-filter k t xs)
+  where
+    step : (c d : Bool) → k x ≡ d → (a o : List ℕ) → filter (λ i. not (k i)) a ≡ o → filter (λ i. not (k i)) (cond c (x ∷ a) a) ≡ cond (not d && c) (x ∷ o) o
+    step true true is a o e = ap (λ b. cond (not b) (x ∷ filter (λ i. not (k i)) a) (filter (λ i. not (k i)) a)) is ∙ e
+    step true false is a o e = ap (λ b. cond (not b) (x ∷ filter (λ i. not (k i)) a) (filter (λ i. not (k i)) a)) is ∙ ap (λ l. x ∷ l) e
+    step false true is a o e = e
+    step false false is a o e = e
+
+pub others-are : (sets : List (List ℕ)) (s : Shape) (g r : ℕ) (p : List Event) (known a o : List ℕ) → known ≡ slice_index_or sets g [] → a ≡ survivors s g r p → o ≡ less a known → o ≡ others (pool_of sets) s g r p
+others-are sets s g r p known a o known_is a_is o_is =
+    o_is ∙ ap (λ l. less l known) a_is ∙ ap (less (survivors s g r p)) known_is
+    ∙ outside-filter (λ i. is_member i (slice_index_or sets g [])) (λ i. is_reading_taken s g r i p) (members_of s g r)
+
+pub chain-is : (pool : Pool) (s : Shape) (g r : ℕ) (p : List Event) (c : Chain) → is_announced s g r p ≡ true → c.others ≡ others pool s g r p
+    → c.answered ≡ filter (λ i. is_answer_sent s g r i p) c.others → c.end ≡ slice_get (less c.others c.answered) 0 → IsChain pool s g r p (Some c)
+chain-is pool s g r p c announced others_are answered_are end_is =
+    let answered_of : c.answered ≡ others_answered pool s g r p = answered_are ∙ ap (filter (λ i. is_answer_sent s g r i p)) others_are in
     record {
       announced = announced;
-      survivors = survivors_are;
+      others = others_are;
       answered = answered_of;
       end =
-          end_is ∙ ap (λ l. slice_get (less l c.answered) 0) survivors_are ∙ ap (λ l. slice_get (less (survivors s g r p) l) 0) answered_of
-          ∙ ap (λ l. slice_get l 0) (less-filter (λ i. is_answer_sent s g r i p) (survivors s g r p));
+          end_is ∙ ap (λ l. slice_get (less l c.answered) 0) others_are ∙ ap (λ l. slice_get (less (others pool s g r p) l) 0) answered_of
+          ∙ ap (λ l. slice_get l 0) (less-filter (λ i. is_answer_sent s g r i p) (others pool s g r p));
     }
 
 pub announced_some : (b : BookView) (g r : ℕ) (found : Option (List ℕ)) → IsAnnounced b g r found → is_some found ≡ true → is_announced (shape_of b) g r (past b) ≡ true

@@ -5,7 +5,7 @@ use Rattle.missing_round.specs.Words.{word}
 use Rattle.group_plan.specs.Plans.{size}
 use Rattle.group_plan.specs.Tables.{ReadingsView, reading}
 use Rattle.transcript_log.specs.declared.Event.{Event}
-use Rattle.transcript_log.specs.Schedule.{Shape, is_announced, is_opened, survivors, answered}
+use Rattle.transcript_log.specs.Schedule.{Shape, is_announced, is_answer_sent}
 use Rattle.transcript_log.specs.Tables.{Masks}
 use Rattle.group_book.specs.Books.{BookView, shape_of, past, has_round}
 use Rattle.ideal_masks.specs.declared.chain.Chain.{Chain}
@@ -13,22 +13,27 @@ use Rattle.ideal_masks.specs.declared.chain.Link.{Link}
 use Rattle.ideal_masks.specs.declared.links.Walk.{Walk}
 use Rattle.ideal_masks.specs.declared.compared.Compared.{Compared}
 use Rattle.ideal_masks.specs.declared.Offset.{Offset}
-use Rattle.ideal_masks.specs.Offsets.{delta, silent, moves}
+use Rattle.ideal_masks.specs.Pools.{Pool, nobody, pool_of, others, others_answered, others_silent, is_open}
+use Rattle.ideal_masks.specs.Offsets.{delta, own_move, moves_for}
 use Rattle.ideal_masks.specs.Moves.{own_list, pair_list}
 
 -- the deltas of two tables
 abbrev pub deltas : ReadingsView → ReadingsView → ℕ → ℕ → ℕ → ℕ
 deltas x y = delta (reading x.table) (reading y.table)
 
--- the moves between two tables after the events of a book
-abbrev pub moves_of : ReadingsView → ReadingsView → BookView → Masks
-moves_of x y b = moves (shape_of b) (deltas x y) (past b)
+-- the moves between two tables, for a pool, after the events of a book
+abbrev pub moves_of : Pool → ReadingsView → ReadingsView → BookView → Masks
+moves_of pool x y b = moves_for pool (shape_of b) (deltas x y) (past b)
 
 -- the two tables are of the book's plan, and the plan has the round
 pub record IsCompared (c : Compared) : Type 0 where
   pub first : c.first.now.plan ≡ c.book.now.presence.plan
   pub second : c.second.now.plan ≡ c.book.now.presence.plan
   pub round : IsTrue (has_round c.book.now c.group c.round)
+
+-- who is in the pool
+abbrev pub pool_in : Compared → Pool
+pool_in c = pool_of c.known.now
 
 -- how many meters the group has
 abbrev pub size_of : Compared → ℕ
@@ -42,21 +47,38 @@ deltas_of c = deltas c.first.now c.second.now c.group c.round
 abbrev pub are_below : ℕ → List ℕ → Bool
 are_below n meters = list_all (λ i. nat_lt i n) meters
 
--- an announced round's survivors, those of them that answered, and the least of the others
-pub record IsChainOf (s : Shape) (g r : ℕ) (p : List Event) (c : Chain) : Type 0 where
-  pub announced : is_announced s g r p ≡ true
-  pub survivors : c.survivors ≡ survivors s g r p
-  pub answered : c.answered ≡ answered s g r p
-  pub end : c.end ≡ slice_get (silent s g r p) 0
+-- by how much the own word of each meter moves where the round is announced: of one outside the pool, and of any
+abbrev pub others_moves_of : Compared → ℕ → ℕ
+others_moves_of c =
+    own_move (deltas_of c) (λ k. is_answer_sent (shape_of c.book.now) c.group c.round k (past c.book.now))
+    (others_answered (pool_in c) (shape_of c.book.now) c.group c.round (past c.book.now)) (others_silent (pool_in c) (shape_of c.book.now) c.group c.round (past c.book.now))
 
-abbrev pub IsChain : Shape → ℕ → ℕ → List Event → Option Chain → Type 0
-IsChain s g r p (Some c) = IsChainOf s g r p c
-IsChain s g r p None = is_announced s g r p ≡ false
+abbrev pub own_moves_of : Compared → ℕ → ℕ
+own_moves_of c i = if pool_in c c.group i then 0 else others_moves_of c i
+
+-- and where it isn't
+abbrev pub own_deltas_of : Compared → ℕ → ℕ
+own_deltas_of c i = if pool_in c c.group i then 0 else deltas_of c i
+
+-- an announced round's survivors outside the pool, those of them that answered, and the least of the others
+pub record IsChainOf (pool : Pool) (s : Shape) (g r : ℕ) (p : List Event) (c : Chain) : Type 0 where
+  pub announced : is_announced s g r p ≡ true
+  pub others : c.others ≡ others pool s g r p
+  pub answered : c.answered ≡ others_answered pool s g r p
+  pub end : c.end ≡ slice_get (others_silent pool s g r p) 0
+
+abbrev pub IsChain : Pool → Shape → ℕ → ℕ → List Event → Option Chain → Type 0
+IsChain pool s g r p (Some c) = IsChainOf pool s g r p c
+IsChain pool s g r p None = is_announced s g r p ≡ false
+
+-- the survivors of a round outside the pool, exactly where it is open to it
+abbrev pub IsOpenTo : Pool → Shape → ℕ → ℕ → List Event → Option (List ℕ) → Type 0
+IsOpenTo pool s g r p (Some set) = (is_open pool s g r p ≡ true) × (set ≡ others pool s g r p)
+IsOpenTo pool s g r p None = is_open pool s g r p ≡ false
 
 -- the survivors of a round, exactly where it is opened
 abbrev pub IsOpened : Shape → ℕ → ℕ → List Event → Option (List ℕ) → Type 0
-IsOpened s g r p (Some set) = (is_opened s g r p ≡ true) × (set ≡ survivors s g r p)
-IsOpened s g r p None = is_opened s g r p ≡ false
+IsOpened = IsOpenTo nobody
 
 -- the one pair word of a row that moves: f is by how much the word of the lower meter and each meter above it moves, in a group of n
 abbrev pub IsRow : (ℕ → ℕ) → ℕ → ℕ → Option Link → Type 0
@@ -98,7 +120,7 @@ link_to low by (Some high) = if nat_lt low high then Some (record { high = high;
 
 -- by how much the words of the round move
 abbrev pub moves_in : Compared → Masks
-moves_in c = moves_of c.first.now c.second.now c.book.now
+moves_in c = moves_of (pool_in c) c.first.now c.second.now c.book.now
 
 -- the own words of the round that move, and its pair words
 abbrev pub owns_of : Compared → List Offset

@@ -1,3 +1,4 @@
+pub mod Pools
 pub mod Offsets
 pub mod ListTables
 pub mod Moves

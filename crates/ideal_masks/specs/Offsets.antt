@@ -1,21 +1,28 @@
 -- Offsets: how the masks of a schedule move, so that one table of readings takes the place of another.
 -- `whole` is the whole schedule as a past: all its events, the newest first.
-use Rattle.std.specs.Prelude.{◌≡◌, ℕ, ◌+◌, ◌==◌, Bool, true, not, ◌&&◌, List, [], ◌∷◌, ◌++◌, take, sum_by, filter, is_some, if◌then◌else◌}
+use Rattle.std.specs.Prelude.{◌≡◌, ℕ, ◌+◌, ◌==◌, Bool, true, ◌&&◌, List, [], ◌∷◌, sum_by, is_some, if◌then◌else◌}
 use Rattle.missing_round.specs.Words.{word, minus}
 use Rattle.group_plan.specs.Plans.{Group}
 use Rattle.transcript_log.specs.declared.Event.{Event}
 use Rattle.transcript_log.specs.Tables.{Readings, Masks, reading_at, plain_sum}
-use Rattle.transcript_log.specs.Schedule.{Shape, survivors, is_announced, is_answer_sent, is_opened, answered}
+use Rattle.transcript_log.specs.Schedule.{Shape, is_announced, is_answer_sent}
 use Rattle.transcript_log.specs.Transcript.{shape_of_readings}
+use Rattle.ideal_masks.specs.Pools.{Pool, nobody, others, others_answered, others_silent, is_open, chain_for}
 
 -- ---- agreement
 
--- the tables have the same presence, and the same sum over the survivors of each round that is opened
-pub record Agree (groups : List Group) (x y : Readings) (whole : List Event) : Type 0 where
+-- for a pool: the tables have the same presence, the same readings of the meters of the pool, and in each round that is open to it the
+-- same sum over the survivors outside it
+pub record AgreeFor (pool : Pool) (groups : List Group) (x y : Readings) (whole : List Event) : Type 0 where
   pub presence : (g r i : ℕ) → is_some (x g r i) ≡ is_some (y g r i)
-  pub totals : (g r : ℕ) → is_opened (shape_of_readings groups x) g r whole ≡ true →
-      plain_sum x g r (survivors (shape_of_readings groups x) g r whole)
-      ≡ plain_sum y g r (survivors (shape_of_readings groups x) g r whole)
+  pub readings : (g r i : ℕ) → pool g i ≡ true → x g r i ≡ y g r i
+  pub totals : (g r : ℕ) → is_open pool (shape_of_readings groups x) g r whole ≡ true →
+      plain_sum x g r (others pool (shape_of_readings groups x) g r whole)
+      ≡ plain_sum y g r (others pool (shape_of_readings groups x) g r whole)
+
+-- where nobody is in the pool: the same presence, and the same sum over the survivors of each round that is opened
+abbrev pub Agree : List Group → Readings → Readings → List Event → Type 0
+Agree groups x y whole = AgreeFor nobody groups x y whole
 
 -- ---- the chain
 
@@ -25,11 +32,11 @@ delta x y g r i = word (reading_at x g r i + minus (reading_at y g r i))
 
 -- the survivors that sent no answer
 abbrev pub silent : Shape → ℕ → ℕ → List Event → List ℕ
-silent s g r whole = filter (λ i. not (is_answer_sent s g r i whole)) (survivors s g r whole)
+silent = others_silent nobody
 
 -- the chain: those that answered, ascending, and then the least silent survivor, where there is one
 abbrev pub chain : Shape → ℕ → ℕ → List Event → List ℕ
-chain s g r whole = answered s g r whole ++ take 1 (silent s g r whole)
+chain = chain_for nobody
 
 -- the pair word of i and j, for i < j, moves by the sum with the sign of u and v, where u and v are these two
 abbrev pub link : ℕ → ℕ → ℕ → ℕ → ℕ → ℕ
@@ -49,25 +56,39 @@ own_move d answers answered (z ∷ _) i = if answers i then 0 else (d i + (if z 
 
 -- ---- the offsets of all words
 
--- in a round that isn't announced each own word moves by its delta
-abbrev pub own_offset : Shape → (ℕ → ℕ → ℕ → ℕ) → List Event → ℕ → ℕ → ℕ → ℕ
-own_offset s d whole g r i =
+-- the own words of the pool stay; in a round that isn't announced each other moves by its delta
+abbrev pub own_offset_for : Pool → Shape → (ℕ → ℕ → ℕ → ℕ) → List Event → ℕ → ℕ → ℕ → ℕ
+own_offset_for pool s d whole g r i =
+    if pool g i then 0 else
     if is_announced s g r whole
-    then own_move (d g r) (λ k. is_answer_sent s g r k whole) (answered s g r whole) (silent s g r whole) i
+    then own_move (d g r) (λ k. is_answer_sent s g r k whole) (others_answered pool s g r whole) (others_silent pool s g r whole) i
     else d g r i
 
 -- and each pair word stays
-abbrev pub pair_offset : Shape → (ℕ → ℕ → ℕ → ℕ) → List Event → ℕ → ℕ → ℕ → ℕ → ℕ
-pair_offset s d whole g r i j =
-    if is_announced s g r whole then pair_move (d g r) 0 (chain s g r whole) i j else 0
+abbrev pub pair_offset_for : Pool → Shape → (ℕ → ℕ → ℕ → ℕ) → List Event → ℕ → ℕ → ℕ → ℕ → ℕ
+pair_offset_for pool s d whole g r i j =
+    if is_announced s g r whole then pair_move (d g r) 0 (chain_for pool s g r whole) i j else 0
 
 -- for any deltas
-abbrev pub moves : Shape → (ℕ → ℕ → ℕ → ℕ) → List Event → Masks
-moves s d whole = record { own = own_offset s d whole; pair = pair_offset s d whole }
+abbrev pub moves_for : Pool → Shape → (ℕ → ℕ → ℕ → ℕ) → List Event → Masks
+moves_for pool s d whole = record { own = own_offset_for pool s d whole; pair = pair_offset_for pool s d whole }
 
--- the offsets between two tables of readings
+-- the offsets between two tables of readings that agree for a pool
+abbrev pub offsets_for : Pool → List Group → Readings → Readings → List Event → Masks
+offsets_for pool groups x y whole = moves_for pool (shape_of_readings groups x) (delta x y) whole
+
+-- and where nobody is in it
+abbrev pub own_offset : Shape → (ℕ → ℕ → ℕ → ℕ) → List Event → ℕ → ℕ → ℕ → ℕ
+own_offset = own_offset_for nobody
+
+abbrev pub pair_offset : Shape → (ℕ → ℕ → ℕ → ℕ) → List Event → ℕ → ℕ → ℕ → ℕ → ℕ
+pair_offset = pair_offset_for nobody
+
+abbrev pub moves : Shape → (ℕ → ℕ → ℕ → ℕ) → List Event → Masks
+moves = moves_for nobody
+
 abbrev pub offsets : List Group → Readings → Readings → List Event → Masks
-offsets groups x y whole = moves (shape_of_readings groups x) (delta x y) whole
+offsets = offsets_for nobody
 
 -- ---- the shift of a mask table, word by word
 

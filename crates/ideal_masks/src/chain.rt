@@ -1,19 +1,21 @@
-//! The chain of a round: those that answered, ascending, and the least silent survivor.
+//! The chain of a round: of the survivors outside a pool those that answered, ascending, and the least silent one.
 ghost use Rattle.std.specs.Prelude.{◌≡◌, ◌&&◌, IsTrue};
 ghost use Rattle.missing_round.specs.Sets.{is_member};
 ghost use Rattle.std.specs.List.{filter};
-ghost use Rattle.transcript_log.specs.Schedule.{is_answer_sent, survivors as survivors_of};
+ghost use Rattle.transcript_log.specs.Schedule.{is_answer_sent};
 ghost use Rattle.group_book.specs.Books.{shape_of, past, has_round};
-ghost use Rattle.ideal_masks.specs.Chains.{IsChain, IsOpened};
+ghost use Rattle.ideal_masks.specs.Pools.{Pool, pool_of, others as others_of};
+ghost use Rattle.ideal_masks.specs.Chains.{IsChain, IsOpenTo, IsOpened};
 
+use crate::pool::known_in;
 use group_book::Book;
 use group_plan::{Kind, Tag};
 use missing_round::MeterSet;
 
-/// An announced round: its survivors, those of them that sent their answer, and the least of the others.
+/// An announced round: its survivors outside the pool, those of them that sent their answer, and the least that sent none.
 #[derive(Clone, Copy)]
 pub(crate) struct Chain {
-    pub survivors: MeterSet,
+    pub others: MeterSet,
     pub answered: MeterSet,
     pub end: Option<u8>,
 }
@@ -38,42 +40,62 @@ pub(crate) fn is_answer_sent(book: &Book, group: u16, round: u32, meter: u8) -> 
     book.posted(tag).is_some()
 }
 
-// Whether the meter is a survivor that sent its answer.
-fn has_answered(book: &Book, group: u16, round: u32, survivors: MeterSet, meter: u8) -> bool
-    ensures { result ≡ (is_member meter survivors && is_answer_sent (shape_of book.now) group round meter (past book.now)) }
+// Whether the meter is one of these survivors, and sent its answer.
+fn has_answered(book: &Book, group: u16, round: u32, others: MeterSet, meter: u8) -> bool
+    ensures { result ≡ (is_member meter others && is_answer_sent (shape_of book.now) group round meter (past book.now)) }
 {
-    survivors.has(meter) && is_answer_sent(book, group, round, meter)
+    others.has(meter) && is_answer_sent(book, group, round, meter)
 }
 
-// Those of the survivors that sent their answer.
-fn answered(book: &Book, group: u16, round: u32, survivors: MeterSet) -> MeterSet
-    requires { survivors ≡ survivors_of (shape_of book.now) group round (past book.now) }
-    ensures { result ≡ filter (λ i. is_answer_sent (shape_of book.now) group round i (past book.now)) survivors }
+// Those of the survivors outside a pool that sent their answer.
+fn answered(book: &Book, group: u16, round: u32, others: MeterSet) -> MeterSet
+    ensures { (pool : Pool) → others ≡ others_of pool (shape_of book.now) group round (past book.now) →
+        result ≡ filter (λ i. is_answer_sent (shape_of book.now) group round i (past book.now)) others }
 {
     let mut answered = MeterSet::empty();
     for meter in 0..book.plan().meters(group) {
-        if has_answered(book, group, round, survivors, meter as u8) {
+        if has_answered(book, group, round, others, meter as u8) {
             answered = answered.with(meter as u8);
         }
     }
     answered
 }
 
-/// The chain of a round, where it is announced.
-pub(crate) fn chain_of(book: &Book, group: u16, round: u32) -> Option<Chain>
+/// The chain of a round for a pool, where the round is announced.
+pub(crate) fn chain_of(book: &Book, known: &[MeterSet], group: u16, round: u32) -> Option<Chain>
     requires { IsTrue (has_round book.now group round) }
-    ensures { IsChain (shape_of book.now) group round (past book.now) result }
+    ensures { IsChain (pool_of known.now) (shape_of book.now) group round (past book.now) result }
 {
     if book.announced(group, round).is_none() {
         return None;
     }
     let survivors = book.outcome(group, round).survivors;
-    let answered = answered(book, group, round, survivors);
+    let others = survivors.minus(known_in(known, group));
+    let answered = answered(book, group, round, others);
     Some(Chain {
-        survivors,
+        others,
         answered,
-        end: survivors.minus(answered).nth(0),
+        end: others.minus(answered).nth(0),
     })
+}
+
+/// The survivors of a round outside a pool, where the round is open to it: it is announced, and all of them sent their answer.
+pub(crate) fn open_others(
+    book: &Book,
+    known: &[MeterSet],
+    group: u16,
+    round: u32,
+) -> Option<MeterSet>
+    requires { IsTrue (has_round book.now group round) }
+    ensures { IsOpenTo (pool_of known.now) (shape_of book.now) group round (past book.now) result }
+{
+    let Some(chain) = chain_of(book, known, group, round) else {
+        return None;
+    };
+    if chain.answered != chain.others {
+        return None;
+    }
+    Some(chain.others)
 }
 
 /// The survivors of a round, where it is opened: it is announced, and all of them sent their answer.
@@ -81,11 +103,5 @@ pub fn opened_survivors(book: &Book, group: u16, round: u32) -> Option<MeterSet>
     requires { IsTrue (has_round book.now group round) }
     ensures { IsOpened (shape_of book.now) group round (past book.now) result }
 {
-    let Some(chain) = chain_of(book, group, round) else {
-        return None;
-    };
-    if chain.answered != chain.survivors {
-        return None;
-    }
-    Some(chain.survivors)
+    open_others(book, &[], group, round)
 }

@@ -4,15 +4,18 @@ ghost use Rattle.group_plan.specs.Plans.{is_place};
 ghost use Rattle.group_plan.specs.Tables.{reading};
 ghost use Rattle.missing_round.specs.Words.{word};
 ghost use Rattle.transcript_log.specs.Tables.{reading_at};
-ghost use Rattle.ideal_masks.specs.Chains.{IsCompared, size_of, deltas_of, are_below};
+ghost use Rattle.ideal_masks.specs.Chains.{IsCompared, pool_in, size_of, deltas_of, own_deltas_of, are_below};
 
+use crate::pool::is_known;
 use group_book::Book;
 use group_plan::Readings;
 use missing_round::MeterSet;
 
-/// A round whose two tables of readings are compared, with a book of the events.
+/// A round whose two tables of readings are compared for a pool of meters, with a book of the events.
 #[derive(Clone, Copy)]
 pub(crate) struct Compared<'a> {
+    /// The meters of the pool, by group.
+    pub known: &'a [MeterSet],
     pub first: &'a Readings,
     pub second: &'a Readings,
     pub book: &'a Book,
@@ -63,6 +66,26 @@ impl<'a> Compared<'a> {
     {
         let more = self.first_reading(meter);
         more.wrapping_sub(self.second_reading(meter))
+    }
+
+    /// Whether a meter of the group is in the pool.
+    pub(crate) fn is_known(&self, meter: u8) -> bool
+        ensures { result ≡ pool_in self.now self.now.group meter }
+    {
+        is_known(self.known, self.group, meter)
+    }
+
+    /// The delta of a meter outside the pool, 0 of one in it.
+    pub(crate) fn own_delta(&self, meter: u8) -> u64
+        requires compared { IsCompared self.now }
+        requires meter { meter < size_of self.now }
+        ensures { result ≡ own_deltas_of self.now meter }
+    {
+        if self.is_known(meter) {
+            0
+        } else {
+            self.delta(meter)
+        }
     }
 
     /// The sum of the deltas of these meters, modulo 2^64.

@@ -11,6 +11,7 @@ mod mask_table;
 mod moved;
 mod offset_list;
 mod owns;
+mod pool;
 mod replay;
 mod shifting;
 mod worlds;
@@ -23,7 +24,7 @@ use pair_keys::KeyId;
 pub use replay::replay_events;
 pub use shifting::{shift, unshift};
 use std::alloc::AllocError;
-pub use worlds::offsets;
+pub use worlds::{offsets, pooled_offsets};
 
 /// How much the mask word of a key moves in a round, added modulo 2^64.
 #[derive(Clone, Copy)]
@@ -61,6 +62,27 @@ impl From<AllocError> for Differ {
 
     fn from(_error: AllocError) -> Differ {
         Differ::Memory
+    }
+}
+
+/// Why tables of readings don't agree for a pool of meters and the events of a transcript.
+#[derive(Clone, Copy, PartialEq, Eq)]
+pub enum PoolDiffer {
+    /// The tables have their readings at the same places, and other readings at this place, whose meter is in the pool. It is
+    /// the first such by group, round and meter.
+    Known { group: u16, round: u32, meter: u8 },
+    /// Another cause: `Presence` before `Known`, and `Total` after it. The sums are over the survivors outside the pool.
+    Other(Differ),
+}
+
+impl From<Differ> for PoolDiffer {
+    ghost use Rattle.std.specs.Prelude.{◌≡◌};
+    ghost use Rattle.ideal_masks.specs.declared.PoolDiffer.TheVariants.{Other};
+
+    ghost from_gives = { λ differ e. e ≡ Other differ };
+
+    fn from(differ: Differ) -> PoolDiffer {
+        PoolDiffer::Other(differ)
     }
 }
 

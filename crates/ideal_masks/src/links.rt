@@ -5,10 +5,10 @@ ghost use Rattle.missing_round.specs.Words.{word};
 ghost use Rattle.missing_round.specs.Sets.{without};
 ghost use Rattle.pair_keys.specs.declared.KeyId.TheVariants.{Pair};
 ghost use Rattle.group_book.specs.Books.{shape_of, past};
-ghost use Rattle.ideal_masks.specs.Offsets.{silent, pair_move};
-ghost use Rattle.ideal_masks.specs.Offsets.{chain as chain_list};
+ghost use Rattle.ideal_masks.specs.Pools.{chain_for};
+ghost use Rattle.ideal_masks.specs.Offsets.{pair_move};
 ghost use Rattle.ideal_masks.specs.Moves.{moved};
-ghost use Rattle.ideal_masks.specs.Chains.{IsCompared, size_of, deltas_of, IsChainOf, IsRow, IsWalk, next_of, link_to, pairs_of};
+ghost use Rattle.ideal_masks.specs.Chains.{IsCompared, pool_in, size_of, deltas_of, IsChainOf, IsRow, IsWalk, next_of, link_to, pairs_of};
 
 use crate::Offset;
 use crate::chain::{Chain, Link};
@@ -86,11 +86,11 @@ impl<'a> Compared<'a> {
     // The link of which a meter is the lower one. The walk passes the meter.
     fn link(&self, chain: &Chain, total: u64, walk: &mut Walk, low: u8) -> Option<Link>
         requires compared { IsCompared self.now }
-        requires chain { IsChainOf (shape_of self.now.book.now) self.now.group self.now.round (past self.now.book.now) chain.now }
+        requires chain { IsChainOf (pool_in self.now) (shape_of self.now.book.now) self.now.group self.now.round (past self.now.book.now) chain.now }
         requires total { total ≡ word (sum_by (deltas_of self.now) chain.now.answered) }
         requires meter { low < size_of self.now }
         requires walk { IsWalk (deltas_of self.now) chain.now.answered low walk.old }
-        ensures row { IsRow (pair_move (deltas_of self.now) 0 (chain_list (shape_of self.now.book.now) self.now.group self.now.round (past self.now.book.now)) low) low (size_of self.now) result }
+        ensures row { IsRow (pair_move (deltas_of self.now) 0 (chain_for (pool_in self.now) (shape_of self.now.book.now) self.now.group self.now.round (past self.now.book.now)) low) low (size_of self.now) result }
         ensures walk { IsWalk (deltas_of self.now) chain.now.answered (low + 1) walk.new }
     {
         if chain.answered.has(low) {
@@ -111,7 +111,7 @@ impl<'a> Compared<'a> {
         moves: &mut Vec<Offset>,
     ) -> Result<(), AllocError>
         requires compared { IsCompared self.now }
-        requires chain { IsChainOf (shape_of self.now.book.now) self.now.group self.now.round (past self.now.book.now) chain.now }
+        requires chain { IsChainOf (pool_in self.now) (shape_of self.now.book.now) self.now.group self.now.round (past self.now.book.now) chain.now }
         requires total { total ≡ word (sum_by (deltas_of self.now) chain.now.answered) }
         ensures { OnOk result (moves.new.items ≡ moves.old.items ++ pairs_of self.now) }
     {

@@ -3,9 +3,8 @@ ghost use Rattle.std.specs.Prelude.{◌≡◌, ◌<◌, ◌++◌, false, sum_by,
 ghost use Rattle.missing_round.specs.Words.{word};
 ghost use Rattle.pair_keys.specs.declared.KeyId.TheVariants.{Own};
 ghost use Rattle.group_book.specs.Books.{shape_of, past};
-ghost use Rattle.transcript_log.specs.Schedule.{is_announced, is_answer_sent, answered};
-ghost use Rattle.ideal_masks.specs.Offsets.{silent, own_move};
-ghost use Rattle.ideal_masks.specs.Chains.{IsCompared, IsChainOf, size_of, deltas_of, owns_of, pairs_of};
+ghost use Rattle.transcript_log.specs.Schedule.{is_announced};
+ghost use Rattle.ideal_masks.specs.Chains.{IsCompared, IsChainOf, pool_in, size_of, deltas_of, others_moves_of, own_moves_of, owns_of, pairs_of};
 
 use crate::Offset;
 use crate::chain::{Chain, chain_of, is_answer_sent};
@@ -15,14 +14,14 @@ use pair_keys::KeyId;
 use std::alloc::AllocError;
 
 impl<'a> Compared<'a> {
-    // By how much the own word of a meter moves in an announced round: `total` is the sum of the deltas of those that answered.
-    fn own_move(&self, chain: &Chain, total: u64, meter: u8) -> u64
+    // By how much the own word of a meter outside the pool moves in an announced round: `total` is the sum of the deltas of
+    // those of its chain that answered.
+    fn others_move(&self, chain: &Chain, total: u64, meter: u8) -> u64
         requires compared { IsCompared self.now }
-        requires chain { IsChainOf (shape_of self.now.book.now) self.now.group self.now.round (past self.now.book.now) chain.now }
+        requires chain { IsChainOf (pool_in self.now) (shape_of self.now.book.now) self.now.group self.now.round (past self.now.book.now) chain.now }
         requires total { total ≡ word (sum_by (deltas_of self.now) chain.now.answered) }
         requires meter { meter < size_of self.now }
-        ensures { result ≡ word (own_move (deltas_of self.now) (λ k. is_answer_sent (shape_of self.now.book.now) self.now.group self.now.round k (past self.now.book.now))
-            (answered (shape_of self.now.book.now) self.now.group self.now.round (past self.now.book.now)) (silent (shape_of self.now.book.now) self.now.group self.now.round (past self.now.book.now)) meter) }
+        ensures { result ≡ word (others_moves_of self.now meter) }
     {
         if is_answer_sent(self.book, self.group, self.round, meter) {
             0
@@ -30,6 +29,21 @@ impl<'a> Compared<'a> {
             self.delta(meter).wrapping_add(total)
         } else {
             self.delta(meter)
+        }
+    }
+
+    // By how much the own word of a meter moves in an announced round.
+    fn own_move(&self, chain: &Chain, total: u64, meter: u8) -> u64
+        requires compared { IsCompared self.now }
+        requires chain { IsChainOf (pool_in self.now) (shape_of self.now.book.now) self.now.group self.now.round (past self.now.book.now) chain.now }
+        requires total { total ≡ word (sum_by (deltas_of self.now) chain.now.answered) }
+        requires meter { meter < size_of self.now }
+        ensures { result ≡ word (own_moves_of self.now meter) }
+    {
+        if self.is_known(meter) {
+            0
+        } else {
+            self.others_move(chain, total, meter)
         }
     }
 
@@ -46,7 +60,7 @@ impl<'a> Compared<'a> {
     // Adds the own words that move in an announced round, by meter.
     fn add_owns(&self, chain: &Chain, total: u64, moves: &mut Vec<Offset>) -> Result<(), AllocError>
         requires compared { IsCompared self.now }
-        requires chain { IsChainOf (shape_of self.now.book.now) self.now.group self.now.round (past self.now.book.now) chain.now }
+        requires chain { IsChainOf (pool_in self.now) (shape_of self.now.book.now) self.now.group self.now.round (past self.now.book.now) chain.now }
         requires total { total ≡ word (sum_by (deltas_of self.now) chain.now.answered) }
         ensures { OnOk result (moves.new.items ≡ moves.old.items ++ owns_of self.now) }
     {
@@ -64,7 +78,7 @@ impl<'a> Compared<'a> {
         ensures { OnOk result (moves.new.items ≡ moves.old.items ++ owns_of self.now) }
     {
         for meter in 0..self.meters() {
-            let by = self.delta(meter as u8);
+            let by = self.own_delta(meter as u8);
             push_moved(self.own_id(meter as u8), self.round, by, moves)?;
         }
         Ok(())
@@ -75,7 +89,7 @@ impl<'a> Compared<'a> {
         requires { IsCompared self.now }
         ensures { OnOk result (moves.new.items ≡ moves.old.items ++ (owns_of self.now ++ pairs_of self.now)) }
     {
-        let Some(chain) = chain_of(self.book, self.group, self.round) else {
+        let Some(chain) = chain_of(self.book, self.known, self.group, self.round) else {
             return self.add_deltas(moves);
         };
         let total = self.sum_of_deltas(chain.answered);

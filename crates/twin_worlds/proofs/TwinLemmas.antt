@@ -13,16 +13,19 @@ use Rattle.transcript_log.proofs.ScheduleLemmas.{after-reverse}
 use Rattle.transcript_log.specs.Transcripts.{TranscriptView}
 use Rattle.ideal_masks.specs.declared.Offset.{Offset}
 use Rattle.ideal_masks.specs.ListTables.{MaskTable, masks_in, mask_table_of}
-use Rattle.ideal_masks.specs.Offsets.{Agree, offsets}
-use Rattle.ideal_masks.specs.Isolation.{offsets_between}
+use Rattle.ideal_masks.specs.Pools.{Pool}
+use Rattle.ideal_masks.specs.Offsets.{AgreeFor, offsets_for}
+use Rattle.ideal_masks.specs.Isolation.{offsets_between_for}
 use Rattle.ideal_masks.proofs.FiniteTables.{keeps_lines}
-use Rattle.ideal_masks.proofs.TwoWorlds.{two_worlds}
+use Rattle.ideal_masks.proofs.TwoWorlds.{two_worlds_for, words_stay}
 use Rattle.twin_worlds.specs.declared.rows.MovedRow.{MovedRow}
 use Rattle.twin_worlds.specs.declared.answers.TwinError.{TwinError}
 use Rattle.twin_worlds.specs.declared.answers.TwinError.TheVariants as twin
 use Rattle.twin_worlds.specs.MovedRows.{rows_of, AreMoved}
-use Rattle.twin_worlds.specs.Twins.{IsTextOf, lines_under, IsRecord, shifted, IsFirstOther, TwinEnds}
-use Rattle.twin_worlds.specs.Ends.{LinesEnd, AgreementEnds}
+use Rattle.twin_worlds.specs.declared.answers.PoolTwinError.{PoolTwinError}
+use Rattle.twin_worlds.specs.declared.answers.PoolTwinError.TheVariants as pool_twin
+use Rattle.twin_worlds.specs.Twins.{IsTextOf, lines_under, IsRecord, shifted_for, IsFirstOther, TwinEnds, PooledTwinEnds}
+use Rattle.twin_worlds.specs.Ends.{HeadEnds, LinesEnd, ConfirmedEnds, AgreementEnds, PooledAgreementEnds}
 use Rattle.twin_worlds.proofs.MovedLemmas.{rows-table, are-moved}
 
 -- ---- the stream words of keys
@@ -37,7 +40,7 @@ streams_small keys = record { own = λ g r i. word_small _ r; pair = λ g r i j.
 -- ---- the first world
 
 -- under the finite table of the masks m the readings give the lines that they give under m
-same-lines : (x : ReadingsView) (m : Masks) (w : MaskTable) (t : TranscriptView) → IsReadingTable x.plan x.table → w ≡ mask_table_of x.plan m → lines_under x (masks_in w) t ≡ lines_under x m t
+pub same-lines : (x : ReadingsView) (m : Masks) (w : MaskTable) (t : TranscriptView) → IsReadingTable x.plan x.table → w ≡ mask_table_of x.plan m → lines_under x (masks_in w) t ≡ lines_under x m t
 same-lines x m w t table is = ap (λ z. lines_under x (masks_in z) t) is ∙ keeps_lines x.plan x.table m (events_of t.entries) table
 
 pub record-of : (m : Masks) (x : ReadingsView) (text : List ℕ) (w : MaskTable) (t : TranscriptView) → IsReadingTable x.plan x.table → w ≡ mask_table_of x.plan m → IsTextOf t text → t.plan ≡ x.plan
@@ -56,15 +59,40 @@ other-line m x w t k expected found tick fate table is other =
       writable = other.writable;
     }
 
+-- the first line that isn't that of the finite table isn't that of the masks
+pub lines-other : (m : Masks) (x : ReadingsView) (w : MaskTable) (t : TranscriptView) (e : TwinError) → IsReadingTable x.plan x.table → w ≡ mask_table_of x.plan m
+    → LinesEnd (masks_in w) x t (Err e) → ConfirmedEnds m x t (Err e)
+lines-other m x w t (twin.Transcript refusal) table is ends = absurd ends
+lines-other m x w t twin.Head table is ends = absurd ends
+lines-other m x w t (twin.NotThis line expected found tick fate) table is ends = (ends.0, ends.1, other-line m x w t ends.0 expected found tick fate table is ends.2)
+lines-other m x w t (twin.Differ cause) table is ends = absurd ends
+lines-other m x w t twin.Memory table is ends = tt
+
 -- the lines are refused
-pub lines-refused : (m : Masks) (x y : ReadingsView) (text : List ℕ) (w : MaskTable) (t : TranscriptView) (e : TwinError) → IsReadingTable x.plan x.table → w ≡ mask_table_of x.plan m → IsTextOf t text → t.plan ≡ x.plan
-    → LinesEnd (masks_in w) x t (Err e) → TwinEnds m x y text (Err e)
-lines-refused m x y text w t (twin.Transcript refusal) table is text_of plan_is ends = absurd ends
-lines-refused m x y text w t twin.Head table is text_of plan_is ends = absurd ends
-lines-refused m x y text w t (twin.NotThis line expected found tick fate) table is text_of plan_is ends =
-    (t, text_of, plan_is, (ends.0, ends.1, other-line m x w t ends.0 expected found tick fate table is ends.2))
-lines-refused m x y text w t (twin.Differ cause) table is text_of plan_is ends = absurd ends
-lines-refused m x y text w t twin.Memory table is text_of plan_is ends = tt
+pub lines-refused : (m : Masks) (x y : ReadingsView) (text : List ℕ) (t : TranscriptView) (e : TwinError) → IsTextOf t text → t.plan ≡ x.plan
+    → ConfirmedEnds m x t (Err e) → TwinEnds m x y text (Err e)
+lines-refused m x y text t (twin.Transcript refusal) text_of plan_is ends = absurd ends
+lines-refused m x y text t twin.Head text_of plan_is ends = absurd ends
+lines-refused m x y text t (twin.NotThis line expected found tick fate) text_of plan_is ends = (t, text_of, plan_is, ends)
+lines-refused m x y text t (twin.Differ cause) text_of plan_is ends = absurd ends
+lines-refused m x y text t twin.Memory text_of plan_is ends = tt
+
+-- for a pool
+pub lines-refused_for : (pool : Pool) (m : Masks) (x y : ReadingsView) (text : List ℕ) (t : TranscriptView) (e : TwinError) → IsTextOf t text → t.plan ≡ x.plan
+    → ConfirmedEnds m x t (Err e) → PooledTwinEnds pool m x y text (Err (pool_twin.Other e))
+lines-refused_for pool m x y text t (twin.Transcript refusal) text_of plan_is ends = absurd ends
+lines-refused_for pool m x y text t twin.Head text_of plan_is ends = absurd ends
+lines-refused_for pool m x y text t (twin.NotThis line expected found tick fate) text_of plan_is ends = (t, text_of, plan_is, ends)
+lines-refused_for pool m x y text t (twin.Differ cause) text_of plan_is ends = absurd ends
+lines-refused_for pool m x y text t twin.Memory text_of plan_is ends = tt
+
+-- the text is refused
+pub text-refused_for : (pool : Pool) (m : Masks) (x y : ReadingsView) (text : List ℕ) (e : TwinError) → HeadEnds x.plan text (Err e) → PooledTwinEnds pool m x y text (Err (pool_twin.Other e))
+text-refused_for pool m x y text (twin.Transcript refusal) ends = ends
+text-refused_for pool m x y text twin.Head ends = ends
+text-refused_for pool m x y text (twin.NotThis line expected found tick fate) ends = absurd ends
+text-refused_for pool m x y text (twin.Differ cause) ends = absurd ends
+text-refused_for pool m x y text twin.Memory ends = tt
 
 -- ---- the second world
 
@@ -76,22 +104,31 @@ tables-refused m x y text t (twin.NotThis line expected found tick fate) is ends
 tables-refused m x y text t (twin.Differ cause) is ends = (t, is, ends)
 tables-refused m x y text t twin.Memory is ends = tt
 
+pub tables-refused_for : (pool : Pool) (m : Masks) (x y : ReadingsView) (text : List ℕ) (t : TranscriptView) (e : PoolTwinError) → IsRecord m x text t → PooledAgreementEnds pool x y t (Err e) → PooledTwinEnds pool m x y text (Err e)
+tables-refused_for pool m x y text t (pool_twin.Known g r i) is ends = (t, is, ends)
+tables-refused_for pool m x y text t (pool_twin.Other (twin.Transcript refusal)) is ends = absurd ends
+tables-refused_for pool m x y text t (pool_twin.Other twin.Head) is ends = absurd ends
+tables-refused_for pool m x y text t (pool_twin.Other (twin.NotThis line expected found tick fate)) is ends = absurd ends
+tables-refused_for pool m x y text t (pool_twin.Other (twin.Differ cause)) is ends = (t, is, ends)
+tables-refused_for pool m x y text t (pool_twin.Other twin.Memory) is ends = tt
+
 -- the tables agree, and these are the moved words
-pub twins-are : (m : Masks) (x y : ReadingsView) (text : List ℕ) (w : MaskTable) (t : TranscriptView) (list : List Offset) (rows : List MovedRow) → IsMasks m → IsReadingTable x.plan x.table → y.plan ≡ x.plan
-    → w ≡ mask_table_of x.plan m → IsRecord m x text t → AgreementEnds x y t (Ok list) → rows ≡ rows_of (masks_in w) list → TwinEnds m x y text (Ok rows)
-twins-are m x y text w t list rows small table plans is record_is agreed rows_are =
+pub twins-are : (pool : Pool) (m : Masks) (x y : ReadingsView) (text : List ℕ) (w : MaskTable) (t : TranscriptView) (list : List Offset) (rows : List MovedRow) → IsMasks m → IsReadingTable x.plan x.table → y.plan ≡ x.plan
+    → w ≡ mask_table_of x.plan m → IsRecord m x text t → PooledAgreementEnds pool x y t (Ok list) → rows ≡ rows_of (masks_in w) list → PooledTwinEnds pool m x y text (Ok rows)
+twins-are pool m x y text w t list rows small table plans is record_is agreed rows_are =
     let events = events_of t.entries in
     let groups = x.plan.groups in
-    let given : rows ≡ rows_of m (offsets_between x.plan x.table y.table events)
+    let given : rows ≡ rows_of m (offsets_between_for pool x.plan x.table y.table events)
     = rows_are ∙ ap (λ z. rows_of (masks_in z) list) is ∙ rows-table x.plan m list agreed.2 ∙ ap (rows_of m) agreed.1 in
-    let worlds : Agree groups (reading x.table) (reading y.table) (reverse events) → transcript groups (reading y.table) (shifted x y t m) events ≡ lines_under x m t
-    = rw (← after-reverse events) (two_worlds groups (reading x.table) (reading y.table) m events table.of_members) in (
+    let worlds : AgreeFor pool groups (reading x.table) (reading y.table) (reverse events) → transcript groups (reading y.table) (shifted_for pool x y t m) events ≡ lines_under x m t
+    = rw (← after-reverse events) (two_worlds_for pool groups (reading x.table) (reading y.table) m events table.of_members) in (
       t,
       record_is,
       record {
         agree = agreed.0;
-        second = record_is.lines_are ∙ sym (worlds agreed.0) ∙ ap (λ p. transcript p.groups (reading y.table) (shifted x y t m) events) (sym plans);
+        second = record_is.lines_are ∙ sym (worlds agreed.0) ∙ ap (λ p. transcript p.groups (reading y.table) (shifted_for pool x y t m) events) (sym plans);
+        words = words_stay pool groups (reading x.table) (reading y.table) m (reverse events) small;
         rows_are = given;
-        moved = subst (AreMoved x.plan m (shifted x y t m)) (sym given) (are-moved x.plan (offsets groups (reading x.table) (reading y.table) (reverse events)) m small);
+        moved = subst (AreMoved x.plan m (shifted_for pool x y t m)) (sym given) (are-moved x.plan (offsets_for pool groups (reading x.table) (reading y.table) (reverse events)) m small);
       },
     )

@@ -1,23 +1,26 @@
 -- How the parts of a twin end.
 use Rattle.std.specs.Prelude.{◌≡◌, ◌≢◌, ℕ, List, reverse, Result, Ok, Err, ⊤}
 use Rattle.group_plan.specs.Plans.{PlanView}
-use Rattle.group_plan.specs.Tables.{ReadingsView, reading}
+use Rattle.group_plan.specs.Tables.{ReadingsView, reading, IsReadingTable}
 use Rattle.transcript_log.specs.Events.{lines_of, events_of}
-use Rattle.transcript_log.specs.Tables.{Masks, IsMasks}
+use Rattle.transcript_log.specs.Tables.{Masks}
 use Rattle.transcript_text.specs.declared.version.Version.TheVariants.{Two}
 use Rattle.transcript_text.specs.declared.fault.ReadError.TheVariants as fault
 use Rattle.transcript_log.specs.Transcripts.{TranscriptView}
 use Rattle.transcript_text.specs.EntryLines.{entry_line}
 use Rattle.transcript_text.specs.Heads.{read_of}
 use Rattle.ideal_masks.specs.declared.Offset.{Offset}
-use Rattle.ideal_masks.specs.Offsets.{Agree}
-use Rattle.ideal_masks.specs.ListTables.{MaskTable, mask_table_of}
+use Rattle.ideal_masks.specs.Pools.{Pool}
+use Rattle.ideal_masks.specs.Offsets.{AgreeFor, Agree}
+use Rattle.ideal_masks.specs.ListTables.{mask_table_of}
+use Rattle.ideal_masks.specs.KeptMasks.{MasksView}
 use Rattle.ideal_masks.specs.Order.{AreOfPlan}
-use Rattle.ideal_masks.specs.Isolation.{offsets_between}
+use Rattle.ideal_masks.specs.Isolation.{offsets_between_for, offsets_between}
 use Rattle.twin_worlds.specs.declared.answers.TwinError.{TwinError}
 use Rattle.twin_worlds.specs.declared.answers.TwinError.TheVariants as twin
-use Rattle.twin_worlds.specs.declared.rows.MovedRow.{MovedRow}
-use Rattle.twin_worlds.specs.Twins.{IsTextOf, lines_under, IsFirstOther, Disagree, TwinEnds}
+use Rattle.twin_worlds.specs.declared.answers.PoolTwinError.{PoolTwinError}
+use Rattle.twin_worlds.specs.declared.answers.PoolTwinError.TheVariants as pool_twin
+use Rattle.twin_worlds.specs.Twins.{IsTextOf, lines_under, IsFirstOther, Disagree, DisagreeFor, KnowsApart}
 
 -- the bytes are the text of a transcript, or are refused so; want of memory is free
 abbrev pub TextEnds : List ℕ → Result TranscriptView TwinError → Type 0
@@ -50,10 +53,17 @@ AgreementEnds x y t (Err (twin.Differ cause)) = Disagree x y t cause
 AgreementEnds x y t (Err twin.Memory) = ⊤
 AgreementEnds x y t (Err _) = ⊥
 
--- whatever text the transcript has, a twin ends so
-abbrev pub RecordEnds : Masks → ReadingsView → ReadingsView → TranscriptView → Result (List MovedRow) TwinError → Type 0
-RecordEnds m x y t result = (text : List ℕ) → IsTextOf t text → TwinEnds m x y text result
+-- the same for a pool
+abbrev pub PooledAgreementEnds : Pool → ReadingsView → ReadingsView → TranscriptView → Result (List Offset) PoolTwinError → Type 0
+PooledAgreementEnds pool x y t (Ok list) =
+    AgreeFor pool x.plan.groups (reading x.table) (reading y.table) (reverse (events_of t.entries))
+    × (list ≡ offsets_between_for pool x.plan x.table y.table (events_of t.entries)) × AreOfPlan x.plan list
+PooledAgreementEnds pool x y t (Err (pool_twin.Known g r i)) = KnowsApart pool x y g r i
+PooledAgreementEnds pool x y t (Err (pool_twin.Other (twin.Differ cause))) = DisagreeFor pool x y t cause
+PooledAgreementEnds pool x y t (Err (pool_twin.Other twin.Memory)) = ⊤
+PooledAgreementEnds pool x y t (Err _) = ⊥
 
--- whatever masks the words are of, a twin under them ends so
-abbrev pub MovedEnds : MaskTable → ReadingsView → ReadingsView → TranscriptView → Result (List MovedRow) TwinError → Type 0
-MovedEnds w x y t result = (m : Masks) → IsMasks m → w ≡ mask_table_of x.plan m → RecordEnds m x y t result
+-- the finite table of the masks m, under which x gives the lines; or the first line that it doesn't give
+abbrev pub ConfirmedEnds : Masks → ReadingsView → TranscriptView → Result MasksView TwinError → Type 0
+ConfirmedEnds m x t (Ok masks) = (masks.plan ≡ x.plan) × (masks.words ≡ mask_table_of x.plan m) × IsReadingTable x.plan x.table × (lines_of t.entries ≡ lines_under x m t)
+ConfirmedEnds m x t (Err error) = LinesEnd m x t (Err error)

@@ -14,12 +14,16 @@ use Rattle.transcript_text.specs.Heads.{read_of}
 use Rattle.transcript_text.specs.Writing.{IsWritable}
 use Rattle.ideal_masks.specs.declared.Differ.{Differ}
 use Rattle.ideal_masks.specs.declared.Differ.TheVariants as differ
-use Rattle.ideal_masks.specs.Offsets.{Agree, offsets, shift}
-use Rattle.ideal_masks.specs.Isolation.{offsets_between}
-use Rattle.ideal_masks.specs.OffsetEnds.{OffsetsEnd, HasNoWorlds}
+use Rattle.ideal_masks.specs.declared.PoolDiffer.TheVariants as pool_differ
+use Rattle.ideal_masks.specs.Pools.{Pool, nobody, ShareWords}
+use Rattle.ideal_masks.specs.Offsets.{AgreeFor, offsets_for, shift}
+use Rattle.ideal_masks.specs.Isolation.{offsets_between_for}
+use Rattle.ideal_masks.specs.OffsetEnds.{IsAlike, IsFirstKnown, OffsetsEnd, PooledEnd, HasNoWorlds, HasNoWorldsFor}
 use Rattle.twin_worlds.specs.declared.rows.MovedRow.{MovedRow}
 use Rattle.twin_worlds.specs.declared.answers.TwinError.{TwinError}
 use Rattle.twin_worlds.specs.declared.answers.TwinError.TheVariants as twin
+use Rattle.twin_worlds.specs.declared.answers.PoolTwinError.{PoolTwinError}
+use Rattle.twin_worlds.specs.declared.answers.PoolTwinError.TheVariants as pool_twin
 use Rattle.twin_worlds.specs.MovedRows.{rows_of, AreMoved}
 
 -- ---- the transcript
@@ -42,16 +46,25 @@ pub record IsRecord (m : Masks) (x : ReadingsView) (text : List ℕ) (t : Transc
 
 -- ---- the second world
 
--- the masks m, shifted so that y takes the place of x under the events of t
-abbrev pub shifted : ReadingsView → ReadingsView → TranscriptView → Masks → Masks
-shifted x y t m = shift (offsets x.plan.groups (reading x.table) (reading y.table) (reverse (events_of t.entries))) m
+-- the masks m, shifted for a pool so that y takes the place of x under the events of t
+abbrev pub shifted_for : Pool → ReadingsView → ReadingsView → TranscriptView → Masks → Masks
+shifted_for pool x y t m = shift (offsets_for pool x.plan.groups (reading x.table) (reading y.table) (reverse (events_of t.entries))) m
 
--- the tables agree, y gives the lines of t under the shifted masks, and the rows are the words that the shift moves
-pub record AreTwins (m : Masks) (x y : ReadingsView) (t : TranscriptView) (rows : List MovedRow) : Type 0 where
-  pub agree : Agree x.plan.groups (reading x.table) (reading y.table) (reverse (events_of t.entries))
-  pub second : lines_of t.entries ≡ lines_under y (shifted x y t m) t
-  pub rows_are : rows ≡ rows_of m (offsets_between x.plan x.table y.table (events_of t.entries))
-  pub moved : AreMoved x.plan m (shifted x y t m) rows
+-- the tables agree for the pool, y gives the lines of t under the shifted masks, the pool has the same words, and the rows are the words
+-- that the shift moves
+pub record AreTwinsFor (pool : Pool) (m : Masks) (x y : ReadingsView) (t : TranscriptView) (rows : List MovedRow) : Type 0 where
+  pub agree : AgreeFor pool x.plan.groups (reading x.table) (reading y.table) (reverse (events_of t.entries))
+  pub second : lines_of t.entries ≡ lines_under y (shifted_for pool x y t m) t
+  pub words : ShareWords pool m (shifted_for pool x y t m)
+  pub rows_are : rows ≡ rows_of m (offsets_between_for pool x.plan x.table y.table (events_of t.entries))
+  pub moved : AreMoved x.plan m (shifted_for pool x y t m) rows
+
+-- and where nobody is in the pool
+abbrev pub shifted : ReadingsView → ReadingsView → TranscriptView → Masks → Masks
+shifted = shifted_for nobody
+
+abbrev pub AreTwins : Masks → ReadingsView → ReadingsView → TranscriptView → List MovedRow → Type 0
+AreTwins = AreTwinsFor nobody
 
 -- ---- what is wrong
 
@@ -69,6 +82,18 @@ pub record Disagree (x y : ReadingsView) (t : TranscriptView) (cause : Differ) :
   pub ends : OffsetsEnd x y (events_of t.entries) (Err cause)
   pub no_worlds : HasNoWorlds x y (events_of t.entries) cause
 
+-- the first place where one table alone has a reading; or else, where the pool knows the same readings of both, the first round open to it
+-- with other totals: then no masks at all that give the pool the same words make the transcripts one
+pub record DisagreeFor (pool : Pool) (x y : ReadingsView) (t : TranscriptView) (cause : Differ) : Type 0 where
+  pub known : cause ≢ differ.Memory
+  pub ends : PooledEnd pool x y (events_of t.entries) (Err (pool_differ.Other cause))
+  pub no_worlds : HasNoWorldsFor pool x y (events_of t.entries) cause
+
+-- the tables have the same presence, and this is the first place of a meter of the pool where they have another reading
+pub record KnowsApart (pool : Pool) (x y : ReadingsView) (g r i : ℕ) : Type 0 where
+  pub alike : (h q j : ℕ) → IsAlike (reading x.table) (reading y.table) h q j
+  pub first : IsFirstKnown pool (reading x.table) (reading y.table) g r i
+
 -- ---- the answer
 
 -- the moved words; or the first cause in this order; want of memory is free
@@ -80,3 +105,10 @@ TwinEnds m x y text (Err (twin.NotThis line expected found tick fate)) =
     (t : TranscriptView) × IsTextOf t text × (t.plan ≡ x.plan) × ((k : ℕ) × (line ≡ entry_line t.plan k) × IsFirstOther m x t k expected found tick fate)
 TwinEnds m x y text (Err (twin.Differ cause)) = (t : TranscriptView) × IsRecord m x text t × Disagree x y t cause
 TwinEnds m x y text (Err twin.Memory) = ⊤
+
+-- the same for a pool: presence comes first, then a reading that the pool knows, then a total of the others
+abbrev pub PooledTwinEnds : Pool → Masks → ReadingsView → ReadingsView → List ℕ → Result (List MovedRow) PoolTwinError → Type 0
+PooledTwinEnds pool m x y text (Ok rows) = (t : TranscriptView) × IsRecord m x text t × AreTwinsFor pool m x y t rows
+PooledTwinEnds pool m x y text (Err (pool_twin.Known g r i)) = (t : TranscriptView) × IsRecord m x text t × KnowsApart pool x y g r i
+PooledTwinEnds pool m x y text (Err (pool_twin.Other (twin.Differ cause))) = (t : TranscriptView) × IsRecord m x text t × DisagreeFor pool x y t cause
+PooledTwinEnds pool m x y text (Err (pool_twin.Other error)) = TwinEnds m x y text (Err error)

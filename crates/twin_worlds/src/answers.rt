@@ -50,3 +50,36 @@ impl<T: Drop> From<AllocFailed<T>> for TwinError {
         TwinError::Memory
     }
 }
+
+/// Why `pooled_twin` finds no moved words.
+#[derive(Clone, Copy, PartialEq, Eq)]
+pub enum PoolTwinError {
+    /// The tables have their readings at the same places, and other readings at this place, whose meter is in the pool. It is
+    /// the first such by group, round and meter.
+    Known { group: u16, round: u32, meter: u8 },
+    /// A cause of `twin`. A total is that of the survivors outside the pool, and comes after `Known`.
+    Other(TwinError),
+}
+
+impl From<TwinError> for PoolTwinError {
+    ghost use Rattle.std.specs.Prelude.{◌≡◌};
+    ghost use Rattle.twin_worlds.specs.declared.answers.PoolTwinError.TheVariants.{Other};
+
+    ghost from_gives = { λ error e. e ≡ Other error };
+
+    fn from(error: TwinError) -> PoolTwinError {
+        PoolTwinError::Other(error)
+    }
+}
+
+impl From<AllocError> for PoolTwinError {
+    ghost use Rattle.std.specs.Prelude.{◌≡◌};
+    ghost use Rattle.twin_worlds.specs.declared.answers.PoolTwinError.TheVariants.{Other};
+    ghost use Rattle.twin_worlds.specs.declared.answers.TwinError.TheVariants.{Memory};
+
+    ghost from_gives = { λ _ e. e ≡ Other Memory };
+
+    fn from(_error: AllocError) -> PoolTwinError {
+        PoolTwinError::Other(TwinError::Memory)
+    }
+}

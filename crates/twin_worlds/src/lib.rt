@@ -11,9 +11,9 @@ mod twins;
 mod world;
 mod writing;
 
-pub use answers::TwinError;
+pub use answers::{PoolTwinError, TwinError};
 pub use rows::{MovedRow, MovedWords};
-pub use twins::{transcript_of_plan, twin};
+pub use twins::{pooled_twin, transcript_of_plan, twin};
 pub use writing::moved_text;
 
 pub mod laws;

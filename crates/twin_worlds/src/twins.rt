@@ -3,17 +3,19 @@
 ghost use Rattle.std.specs.Prelude.{◌≡◌};
 ghost use Rattle.pair_keys.specs.Keys.{table_of};
 ghost use Rattle.mask_stream.specs.KeyStreams.{streams};
-ghost use Rattle.twin_worlds.specs.Ends.{TextEnds, HeadEnds, AgreementEnds, MovedEnds, RecordEnds};
-ghost use Rattle.twin_worlds.specs.Twins.{TwinEnds};
+ghost use Rattle.ideal_masks.specs.Pools.{pool_of};
+ghost use Rattle.twin_worlds.specs.Ends.{TextEnds, HeadEnds, ConfirmedEnds, AgreementEnds, PooledAgreementEnds};
+ghost use Rattle.twin_worlds.specs.Twins.{TwinEnds, PooledTwinEnds};
 
 use crate::comparing::confirm;
 use crate::heads::is_same_plan;
 use crate::moving::moved_words;
 use crate::world::World;
-use crate::{MovedWords, TwinError};
+use crate::{MovedWords, PoolTwinError, TwinError};
 use group_plan::{Plan, Readings};
-use ideal_masks::{Differ, MaskTable, Offsets, offsets};
+use ideal_masks::{Differ, MaskTable, Offsets, PoolDiffer, offsets, pooled_offsets};
 use mask_stream::ChaMasks;
+use missing_round::MeterSet;
 use pair_keys::KeyTable;
 use std::alloc::Global;
 use transcript_log::Transcript;
@@ -60,46 +62,54 @@ fn agreed_offsets(
     }
 }
 
-/// The words of a table of masks that move so that the second table of readings gives the lines of a transcript, where
-/// the first gives them under these words.
-fn moved_between(
+// The offsets between two tables that agree for a pool.
+fn agreed_pooled_offsets(
     alloc: Global,
-    masks: &MaskTable,
+    known: &[MeterSet],
     first: &Readings,
     second: &Readings,
     transcript: &Transcript,
-) -> Result<MovedWords, TwinError>
-    requires masks { masks.now.plan ≡ first.now.plan }
-    requires transcript { transcript.now.plan ≡ first.now.plan }
-    requires second { second.now.plan ≡ first.now.plan }
-    ensures { MovedEnds masks.now.words first.now second.now transcript.now result }
+) -> Result<Offsets, PoolTwinError>
+    requires first { first.now.plan ≡ transcript.now.plan }
+    requires second { second.now.plan ≡ transcript.now.plan }
+    ensures { PooledAgreementEnds (pool_of known.now) first.now second.now transcript.now result }
 {
-    let _plan = first.plan();
-    let world = World {
-        readings: first,
-        masks,
-    };
-    confirm(alloc, &world, transcript)?;
-    let offsets = agreed_offsets(alloc, first, second, transcript)?;
-    Ok(moved_words(alloc, masks, &offsets)?)
+    match pooled_offsets(alloc, known, first, second, transcript) {
+        Ok(offsets) => Ok(offsets),
+        Err(
+            PoolDiffer::Known {
+                group,
+                round,
+                meter,
+            },
+        ) => Err(PoolTwinError::Known {
+            group,
+            round,
+            meter,
+        }),
+        Err(PoolDiffer::Other(Differ::Memory)) => Err(PoolTwinError::Other(TwinError::Memory)),
+        Err(PoolDiffer::Other(cause)) => Err(PoolTwinError::Other(TwinError::Differ(cause))),
+    }
 }
 
-/// The words of the keys that move so that the second table of readings gives the lines of a transcript, where the first
-/// gives them under the keys.
-fn moved_of_keys(
+// The words of the keys, where the first table gives the lines of a transcript under them.
+fn confirmed_masks(
     alloc: Global,
     keys: &KeyTable,
     first: &Readings,
-    second: &Readings,
     transcript: &Transcript,
-) -> Result<MovedWords, TwinError>
+) -> Result<MaskTable, TwinError>
     requires keys { (table_of keys.now).plan ≡ first.now.plan }
     requires transcript { transcript.now.plan ≡ first.now.plan }
-    requires second { second.now.plan ≡ first.now.plan }
-    ensures { RecordEnds (streams (table_of keys.now)) first.now second.now transcript.now result }
+    ensures { ConfirmedEnds (streams (table_of keys.now)) first.now transcript.now result }
 {
     let masks = MaskTable::taken(alloc, first.plan(), &ChaMasks::new(keys))?;
-    moved_between(alloc, &masks, first, second, transcript)
+    let world = World {
+        readings: first,
+        masks: &masks,
+    };
+    confirm(alloc, &world, transcript)?;
+    Ok(masks)
 }
 
 /// The mask words that move so that the second table of readings gives the transcript of this text, where the first table
@@ -118,5 +128,30 @@ pub fn twin(
     ensures { TwinEnds (streams (table_of keys.now)) first.now second.now text.now result }
 {
     let transcript = transcript_of_plan(alloc, plan, text)?;
-    moved_of_keys(alloc, keys, first, second, &transcript)
+    let masks = confirmed_masks(alloc, keys, first, &transcript)?;
+    let offsets = agreed_offsets(alloc, first, second, &transcript)?;
+    Ok(moved_words(alloc, &masks, &offsets)?)
+}
+
+/// The mask words that move so that the second table of readings gives the transcript of this text, and a pool of meters the
+/// same readings and the same words, where the first table gives it under the words of the keys. `known` are the meters of
+/// the pool, as a set for each group; a group past the last has none.
+pub fn pooled_twin(
+    alloc: Global,
+    plan: &Plan,
+    keys: &KeyTable,
+    known: &[MeterSet],
+    first: &Readings,
+    second: &Readings,
+    text: &[u8],
+) -> Result<MovedWords, PoolTwinError>
+    requires keys { (table_of keys.now).plan ≡ plan.now }
+    requires first { first.now.plan ≡ plan.now }
+    requires second { second.now.plan ≡ plan.now }
+    ensures { PooledTwinEnds (pool_of known.now) (streams (table_of keys.now)) first.now second.now text.now result }
+{
+    let transcript = transcript_of_plan(alloc, plan, text)?;
+    let masks = confirmed_masks(alloc, keys, first, &transcript)?;
+    let offsets = agreed_pooled_offsets(alloc, known, first, second, &transcript)?;
+    Ok(moved_words(alloc, &masks, &offsets)?)
 }

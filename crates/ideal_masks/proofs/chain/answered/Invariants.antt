@@ -7,4 +7,4 @@ use Rattle.ideal_masks.proofs.chain.answered.Given as goal
 
 abbrev pub invariant-loop-meter : goal.invariant-loop-meter
 invariant-loop-meter l =
-    l.answered ≡ filter (λ i. is_member i l.survivors && is_answer_sent (shape_of l.book) l.group l.round i (past l.book)) (group l.meter)
+    l.answered ≡ filter (λ i. is_member i l.others && is_answer_sent (shape_of l.book) l.group l.round i (past l.book)) (group l.meter)

@@ -2,12 +2,13 @@ use Rattle.std.proofs.Common.{◌++◌}
 use Rattle.group_plan.specs.Plans.{size}
 use Rattle.ideal_masks.specs.Moves.{own_list, pair_list}
 use Rattle.ideal_masks.specs.Chains.{moves_of}
+use Rattle.ideal_masks.specs.Pools.{pool_of}
 use Rattle.ideal_masks.proofs.RowLists.{list-more}
 use Rattle.ideal_masks.proofs.worlds.add_group.Goals as goal
 
 pub loop-round-preserved : goal.loop-round-preserved
 loop-round-preserved c =
     let b = c.args.book.now in
-    let o = moves_of c.args.first.now c.args.second.now b in
+    let o = moves_of (pool_of c.args.known.now) c.args.first.now c.args.second.now b in
     let n = size b.presence.plan.groups c.args.group in
     list-more (λ r. own_list o c.args.group r n ++ pair_list o c.args.group r n) c.loop-round.round c.args.moves.now.items c.loop-round.moves.items c.add_round.new.moves.items c.loop-round.invariant c.in_ok-add_round.ensures

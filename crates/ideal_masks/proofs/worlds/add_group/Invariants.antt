@@ -2,9 +2,10 @@ use Rattle.std.proofs.Common.{◌++◌}
 use Rattle.group_plan.specs.Plans.{size}
 use Rattle.ideal_masks.specs.Chains.{moves_of}
 use Rattle.ideal_masks.specs.Moves.{own_list, pair_list}
+use Rattle.ideal_masks.specs.Pools.{pool_of}
 use Rattle.ideal_masks.proofs.RowLists.{IsListTo}
 use Rattle.ideal_masks.proofs.worlds.add_group.Given as goal
 
 abbrev pub invariant-loop-round : goal.invariant-loop-round
 invariant-loop-round l =
-    IsListTo (λ r. own_list (moves_of l.first l.second l.book) l.group r (size l.book.presence.plan.groups l.group) ++ pair_list (moves_of l.first l.second l.book) l.group r (size l.book.presence.plan.groups l.group)) l.round l.fn.moves.items l.moves.items
+    IsListTo (λ r. own_list (moves_of (pool_of l.known) l.first l.second l.book) l.group r (size l.book.presence.plan.groups l.group) ++ pair_list (moves_of (pool_of l.known) l.first l.second l.book) l.group r (size l.book.presence.plan.groups l.group)) l.round l.fn.moves.items l.moves.items

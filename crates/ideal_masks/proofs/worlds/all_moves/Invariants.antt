@@ -3,9 +3,10 @@ use Rattle.std.specs.List.{flat_map, range_with_len}
 use Rattle.group_plan.specs.Plans.{size}
 use Rattle.ideal_masks.specs.Chains.{moves_of}
 use Rattle.ideal_masks.specs.Moves.{own_list, pair_list}
+use Rattle.ideal_masks.specs.Pools.{pool_of}
 use Rattle.ideal_masks.proofs.RowLists.{IsListTo}
 use Rattle.ideal_masks.proofs.worlds.all_moves.Given as goal
 
 abbrev pub invariant-loop-group : goal.invariant-loop-group
 invariant-loop-group l =
-    IsListTo (λ g. flat_map (λ r. own_list (moves_of l.first l.second l.book) g r (size l.book.presence.plan.groups g) ++ pair_list (moves_of l.first l.second l.book) g r (size l.book.presence.plan.groups g)) (range_with_len 0 l.book.presence.plan.rounds)) l.group [] l.moves.items
+    IsListTo (λ g. flat_map (λ r. own_list (moves_of (pool_of l.known) l.first l.second l.book) g r (size l.book.presence.plan.groups g) ++ pair_list (moves_of (pool_of l.known) l.first l.second l.book) g r (size l.book.presence.plan.groups g)) (range_with_len 0 l.book.presence.plan.rounds)) l.group [] l.moves.items

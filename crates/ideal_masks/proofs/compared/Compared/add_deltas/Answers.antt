@@ -4,7 +4,7 @@ use Rattle.missing_round.specs.Words.{word, group}
 use Rattle.pair_keys.specs.declared.KeyId.TheVariants.{Own}
 use Rattle.group_book.specs.Books.{shape_of, past}
 use Rattle.ideal_masks.specs.Moves.{moved}
-use Rattle.ideal_masks.specs.Chains.{deltas, deltas_of, size_of}
+use Rattle.ideal_masks.specs.Chains.{deltas, pool_in, own_deltas_of, size_of}
 use Rattle.ideal_masks.proofs.OwnLemmas.{own-more}
 use Rattle.ideal_masks.proofs.PairLists.{owns-open}
 use Rattle.ideal_masks.proofs.compared.Compared.add_deltas.Goals as goal
@@ -15,8 +15,8 @@ loop-meter-init c = sym (append-nil c.args.moves.now.items)
 pub loop-meter-preserved : goal.loop-meter-preserved
 loop-meter-preserved c =
     let at = c.args.self.now in
-    own-more at.group at.round c.loop-meter.meter c.delta-by.result (deltas_of at) c.own_id.result c.args.moves.now.items c.loop-meter.moves.items c.push_moved.new.moves.items
-    c.loop-meter.invariant c.own_id.ensures (ap word c.delta-by.ensures) c.in_ok-push_moved.ensures
+    own-more at.group at.round c.loop-meter.meter c.own_delta-by.result (own_deltas_of at) c.own_id.result c.args.moves.now.items c.loop-meter.moves.items c.push_moved.new.moves.items
+    c.loop-meter.invariant c.own_id.ensures (ap word c.own_delta-by.ensures) c.in_ok-push_moved.ensures
 
 pub returns : goal.returns
 returns c =
@@ -24,5 +24,5 @@ returns c =
     let b = at.book.now in
     let end : c.loop-meter.meter ≡ size_of at = omega (arith, c.meters-meter-end.ensures.meters, c.loop-meter-test.false, c.loop-meter.auto.meter-end) in
     c.loop-meter.invariant
-    ∙ ap (λ n. c.args.moves.now.items ++ flat_map (λ i. moved (Own at.group i) at.round (deltas_of at i)) (group n)) end
-    ∙ ap (λ l. c.args.moves.now.items ++ l) (sym (owns-open (shape_of b) (deltas at.first.now at.second.now) (past b) at.group at.round (size_of at) c.requires.open))
+    ∙ ap (λ n. c.args.moves.now.items ++ flat_map (λ i. moved (Own at.group i) at.round (own_deltas_of at i)) (group n)) end
+    ∙ ap (λ l. c.args.moves.now.items ++ l) (sym (owns-open (pool_in at) (shape_of b) (deltas at.first.now at.second.now) (past b) at.group at.round (size_of at) c.requires.open))

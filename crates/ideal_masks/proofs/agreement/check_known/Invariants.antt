@@ -1,0 +1,7 @@
+use Rattle.group_plan.specs.Tables.{reading}
+use Rattle.ideal_masks.specs.Pools.{pool_of}
+use Rattle.ideal_masks.specs.AgreementParts.{AreKnownBefore}
+use Rattle.ideal_masks.proofs.agreement.check_known.Given as goal
+
+abbrev pub invariant-loop-group : goal.invariant-loop-group
+invariant-loop-group l = AreKnownBefore (pool_of l.known) (reading l.first.table) (reading l.second.table) l.group 0 0

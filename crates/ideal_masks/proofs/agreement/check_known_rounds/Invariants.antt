@@ -1,0 +1,7 @@
+use Rattle.group_plan.specs.Tables.{reading}
+use Rattle.ideal_masks.specs.Pools.{pool_of}
+use Rattle.ideal_masks.specs.AgreementParts.{AreKnownBefore}
+use Rattle.ideal_masks.proofs.agreement.check_known_rounds.Given as goal
+
+abbrev pub invariant-loop-round : goal.invariant-loop-round
+invariant-loop-round l = AreKnownBefore (pool_of l.known) (reading l.first.table) (reading l.second.table) l.group l.round 0
