@@ -9,14 +9,15 @@ program is run with N = 1, 2, 3 .. until a run makes fewer calls. The kinds are
     memory   malloc, calloc, realloc and aligned_alloc find none
     open, read, write, fsync, fdatasync, rename     the call fails
     handle   the call for a second handle of a file fails
+    lock     the call for the lock of a file fails
     short    a read or write moves one byte in place of several
 
 One line of a table is printed for each command and kind: how many runs, how they ended, and how many left something wrong:
-another file than the command's own; a file that is neither what was there nor what the command puts; or, at the command's
-own status, other files or another output than where nothing is refused. The exit status is 0 where each run ended with a
-status that the kind has (memory: 1 or the command's own; short and handle: the command's own; the others: 3, 4 or the
-command's own)
-and left nothing wrong, and else 1.
+another file than the command's own; a file that is neither what was there nor what the command puts; one of two new files without
+the other, but where memory or a rename was refused; or, at the command's own status, other files or another output than where
+nothing is refused. The exit status is 0 where each run ended with a
+status that the kind has (memory: 1 or the command's own; short, handle and lock: the command's own; fsync, fdatasync and rename:
+4; the others: 3, 4 or the command's own) and left nothing wrong, and else 1.
 """
 import argparse
 import collections
@@ -44,11 +45,11 @@ COMMANDS = [
 # A command whose transcript of 6 MB is written ahead in many parts: only calls on files are refused, since it asks for memory too
 # often.
 LARGE_COMMAND = ("load 1 8 20 96 1 >transcript", 0)
-LARGE_KINDS = ("open", "write", "fsync", "fdatasync", "handle", "rename")
+LARGE_KINDS = ("open", "write", "fsync", "fdatasync", "handle", "lock", "rename")
 
 Usual = collections.namedtuple("Usual", "status printed files")
 
-KINDS = ("memory", "open", "read", "write", "fsync", "fdatasync", "handle", "rename", "short")
+KINDS = ("memory", "open", "read", "write", "fsync", "fdatasync", "handle", "lock", "rename", "short")
 
 SHIM = r"""
 #define _GNU_SOURCE
@@ -113,6 +114,12 @@ int fcntl(int fd, int command, ...) {
     return command == F_DUPFD_CLOEXEC && is_refused("handle") ? -1 : syscall(SYS_fcntl, fd, command, value);
 }
 
+int flock(int fd, int operation) {
+    if (!is_refused("lock")) return syscall(SYS_flock, fd, operation);
+    errno = ENOLCK;
+    return -1;
+}
+
 int fsync(int fd) { return is_refused("fsync") ? -1 : syscall(SYS_fsync, fd); }
 int fdatasync(int fd) { return is_refused("fdatasync") ? -1 : syscall(SYS_fdatasync, fd); }
 int rename(const char *from, const char *to) { return is_refused("rename") ? -1 : syscall(SYS_rename, from, to); }
@@ -149,16 +156,23 @@ def case_files(files, command):
 
 
 def allowed(kind, usual):
-    return {"memory": {1, usual}, "short": {usual}, "handle": {usual}}.get(kind, {3, 4, usual})
+    """The statuses of a run in which a call of this kind is refused. What isn't on the disk is never put."""
+    if kind in ("fsync", "fdatasync", "rename"):
+        return {4}
+    return {"memory": {1, usual}, "short": {usual}, "handle": {usual}, "lock": {usual}}.get(kind, {3, 4, usual})
 
 
-def is_wrong(usual, status, printed, before, after):
+def is_wrong(kind, usual, status, printed, before, after):
     """Whether a run left something wrong, where `usual` is the run in which nothing is refused."""
     if status == usual.status:
         return after != usual.files or printed != usual.printed
     if not before.keys() <= after.keys():
         return True
-    return any(data not in (before.get(name), usual.files.get(name)) for name, data in after.items())
+    put = {name for name, data in after.items() if data != before.get(name)}
+    all_put = {name for name, data in usual.files.items() if data != before.get(name)}
+    if put and put != all_put and kind not in ("memory", "rename"):
+        return True
+    return any(after[name] != usual.files.get(name) for name in put)
 
 
 def try_kind(options, shim, command, usual, kind, files):
@@ -176,7 +190,7 @@ def try_kind(options, shim, command, usual, kind, files):
                 break
             ended[status] += 1
             after = files_in(room)
-            wrong += is_wrong(usual, status, printed, before, after)
+            wrong += is_wrong(kind, usual, status, printed, before, after)
             for name in after.keys() - before.keys():
                 os.remove(os.path.join(room, name))
     how = ", ".join(f"{count} with {status}" for status, count in sorted(ended.items()))

@@ -2,7 +2,7 @@
 
 use collector_workers::{Free, Gate};
 use commands::with_lanes;
-use desk_outside::MemoryDesk;
+use desk_outside::{Desk, MemoryDesk};
 use std::alloc::Global;
 use std::process::Abort;
 use std::sync::Wait;
@@ -110,11 +110,11 @@ pub fn desk_of(
 }
 
 /// The status of the program on these words, parted by blanks.
-pub fn status_of<R: Threads + Wait + Sync, G: Gate>(
+pub fn status_of<R: Threads + Wait + Sync, D: Desk, G: Gate>(
     rt: &R,
     alloc: Global,
     line: &str,
-    desk: &mut MemoryDesk,
+    desk: &mut D,
     gate: &G,
 ) -> Result<u8, Fail> {
     let mut words = Vec::new(alloc);
@@ -125,11 +125,11 @@ pub fn status_of<R: Threads + Wait + Sync, G: Gate>(
 }
 
 /// Runs the program on these words, parted by blanks, and looks for its status.
-pub fn check_status<R: Threads + Wait + Abort + Sync, G: Gate>(
+pub fn check_status<R: Threads + Wait + Abort + Sync, D: Desk, G: Gate>(
     rt: &R,
     alloc: Global,
     line: &str,
-    desk: &mut MemoryDesk,
+    desk: &mut D,
     gate: &G,
     status: u8,
     row: &str,

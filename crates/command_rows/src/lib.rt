@@ -9,6 +9,8 @@ mod billing_tests;
 #[cfg(test)]
 mod command_tests;
 #[cfg(test)]
+mod file_tests;
+#[cfg(test)]
 mod fixtures;
 #[cfg(test)]
 mod load_tests;

@@ -350,9 +350,9 @@ fn run_commits_cross(rt: HostRuntime) -> Result<(), Fail> {
     Ok(())
 }
 
-// Keeps the greatest number of a worker that came.
+/// Keeps the greatest number of a worker that came.
 #[derive(Drop)]
-struct Greatest {
+pub struct Greatest {
     worker: AtomicU64,
 }
 
@@ -362,18 +362,29 @@ impl Gate for Greatest {
     }
 }
 
+impl Greatest {
+    /// Nobody has come.
+    pub fn new() -> Greatest {
+        Greatest {
+            worker: AtomicU64::new(0),
+        }
+    }
+
+    /// The greatest number, or 0 where nobody came.
+    pub fn number(&self) -> usize {
+        self.worker.load(Ordering::SeqCst) as usize
+    }
+}
+
 // A run with one worker has no second one, whatever a run has where no number is given.
 #[test]
 fn one_worker_works_alone(rt: HostRuntime) -> Result<(), Fail> {
     let alloc = rt.alloc();
-    let gate = Greatest {
-        worker: AtomicU64::new(0),
-    };
+    let gate = Greatest::new();
     let rows = format!(in alloc; "{HEAD}{NORTH}")?;
     let words = format!(in alloc; "{RUN} 1")?;
     let mut desk = desk_of(alloc, &rows, READINGS, Vec::new(alloc))?;
     check_status(&rt, alloc, &words, &mut desk, &gate, 0, &words)?;
-    let greatest = gate.worker.load(Ordering::SeqCst) as usize;
-    check_number(&rt, greatest, 1, "the greatest worker");
+    check_number(&rt, gate.number(), 1, "the greatest worker");
     Ok(())
 }

@@ -10,7 +10,9 @@ Commands
       check the report against the transcript alone, with no key and no reading
   twin PLAN READINGS OTHER TRANSCRIPT MASKS
       show that other readings with the same totals give the same transcript;
-      write the mask words that would differ
+      write the mask words that would differ. For those who hold the keys:
+      whoever has MASKS and OTHER has the readings. Keep MASKS, and show a
+      regulator what is printed
   make SEED GROUPS METERS ROUNDS PLAN READINGS
       make a plan and readings from a seed, and write them
   load SEED GROUPS METERS ROUNDS WORKERS [TRANSCRIPT]

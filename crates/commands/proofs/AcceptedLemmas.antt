@@ -35,7 +35,7 @@ use Rattle.commands.specs.Twins.{TwinBytes, AreReadBy, TwinValues, AreTwinValues
 use Rattle.command_words.specs.declared.outcome.Outcome.{Outcome}
 use Rattle.command_words.specs.declared.outcome.Outcome.TheVariants.{Done, NoMemory, BadWords, CannotRead, TooLong, CannotWrite, CannotPrint, BadPlan, BadReadings, BadTranscript, BadReport, Impossible, OtherRow, OtherPlan, OtherLine, OtherPresence, OtherTotal, BadLane, NoPartner}
 use Rattle.command_words.specs.Words.{RunNames, TwinNames, Size, Command, Run, Audit, Twin, Make, Load, Convert, Public, Help, Version, BillNames, HideNames, Bill, Hide}
-use Rattle.commands.specs.Calls.{most_bytes, EndsAtFetch, IsRead, after_fetches, Unread, Putting, putting, PutsEnd}
+use Rattle.commands.specs.Calls.{most_bytes, EndsAtFetch, IsRead, after_fetches, Unread, Putting, putting, PutsEnd, names_of, Unwritable}
 use Rattle.transcript_text.specs.Spelling.{transcript_text}
 use Rattle.commands.specs.Ends.{fetched_by, put_by, converted_line, RefusesLane, RefusesReadings, RunRefuses, RunEnds, audited_line, AuditCommandEnds, compared_by, moved_line, TwinCommandEnds, made_plan_text, made_readings_text, made_line, MakeEnds, put_where, LoadRefuses, LoadEnds, ConvertRefuses, ConvertEnds, public_line, PublicRefuses, PublicEnds, Ends}
 use Rattle.command_words.specs.Outcomes.{status_of, IsFault}
@@ -47,6 +47,7 @@ use Rattle.group_plan.specs.Tables.{ReadingsView}
 use Rattle.plan_files.specs.Spelling.{readings_text}
 use Rattle.commands.specs.Billing.{Metered, AreMetered, MeteredRefuses, bills_in, bills_text_in, HideBytes, AreHideBytes, TextRefuses, Finds, IsAlone}
 use Rattle.commands.specs.BillingEnds.{billed_by, bills_line, BillEnds, hidden_by, hidden_line, HideRefuses, HideEnds}
+use Rattle.commands.proofs.CommandEndings.{unwritable_puts}
 
 -- ---- what was read
 
@@ -99,6 +100,10 @@ puts_calm files line v w (OtherPresence group round meter) ends = absurd ends
 puts_calm files line v w (OtherTotal group round first second) ends = absurd ends
 puts_calm files line v w (BadLane fault) ends = absurd ends
 puts_calm files line v w (NoPartner group round meter) ends = absurd ends
+
+-- a name that can't be written
+unwritable_calm : (files : List Putting) (v w : View) (outcome : Outcome) → Unwritable (names_of files) v w outcome → IsCalm outcome
+unwritable_calm files v w outcome ends = puts_calm files [] v w outcome (unwritable_puts files [] v w outcome ends)
 
 -- fetches of which none finds too many bytes
 unread_calm : (names : List (List ℕ)) (v w : View) (outcome : Outcome)
@@ -178,7 +183,9 @@ run_calm : (cupboard : List Meaning) (names : RunNames) (v w : View) (outcome : 
 run_calm cupboard names v w outcome good (inl unread) =
     unread_calm (fetched_by names) v w outcome (two_are_short v w names.plan names.readings good.plan_bytes good.readings_bytes good.plan good.readings) unread
 run_calm cupboard names v w outcome good (inr (p, r, p_read, r_read, inl refused)) = nothing_refused cupboard names v p r outcome good p_read r_read refused.0
-run_calm cupboard names v w outcome good (inr (p, r, p_read, r_read, inr (texts, made, only, ends))) =
+run_calm cupboard names v w outcome good (inr (p, r, p_read, r_read, inr (inl (values, ends)))) =
+    unwritable_calm (putting names.transcript [] ∷ putting names.report [] ∷ []) (after_fetches (fetched_by names) v) w outcome ends
+run_calm cupboard names v w outcome good (inr (p, r, p_read, r_read, inr (inr (texts, made, only, ends)))) =
     puts_calm (put_by names texts) texts.summary (after_fetches (fetched_by names) v) w outcome ends
 
 -- ---- `audit`
@@ -380,7 +387,9 @@ load_not_refused cupboard size (NoPartner group round meter) good ends = absurd 
 load_calm : (cupboard : List Meaning) (size : Size) (transcript : Option (List ℕ)) (v w : View) (outcome : Outcome) → LoadAccepts cupboard size
     → LoadEnds cupboard size transcript v w outcome → IsCalm outcome
 load_calm cupboard size transcript v w outcome good (inl refused) = load_not_refused cupboard size outcome good refused.0
-load_calm cupboard size transcript v w outcome good (inr (texts, is, only, ends)) = puts_calm (put_where transcript texts.transcript) texts.summary v w outcome ends
+load_calm cupboard size None v w outcome good (inr (inl ends)) = absurd ends
+load_calm cupboard size (Some name) v w outcome good (inr (inl (values, ends))) = unwritable_calm (putting name [] ∷ []) v w outcome ends
+load_calm cupboard size transcript v w outcome good (inr (inr (texts, is, only, ends))) = puts_calm (put_where transcript texts.transcript) texts.summary v w outcome ends
 
 -- ---- `convert`
 

@@ -1,8 +1,9 @@
 -- How commands end, from how their parts do.
 use Rattle.std.proofs.Common.{◌≡◌, List, [], ◌∷◌, ◌++◌, ℕ, Bool, true, false, length, inl, inr, subst, sym, ap, ◌∙◌, refl, Result, Ok, Err}
 use Rattle.std.specs.Borrow.{Bor}
-use Rattle.std.specs.Prelude.{Option}
+use Rattle.std.specs.Prelude.{Option, Some}
 use Rattle.desk_outside.specs.Desk.{View, IsLonger, Fetched, after_step}
+use Rattle.link_lanes.specs.Fits.{hung_by}
 use Rattle.link_lanes.specs.Lanes.{Meaning}
 use Rattle.link_lanes.specs.declared.cupboard.RackError.{RackError}
 use Rattle.transcript_text.specs.declared.version.Version.TheVariants.{One}
@@ -18,8 +19,8 @@ use Rattle.twin_worlds.specs.declared.rows.MovedRow.{MovedRow}
 use Rattle.twin_worlds.specs.MasksText.{masks_text}
 use Rattle.commands.specs.Twins.{TwinBytes, AreReadBy, Compared, TwinRefuses}
 use Rattle.command_words.specs.Words.{RunNames, TwinNames, Size}
-use Rattle.commands.specs.Calls.{most_bytes, HasFetched, EndsAtFetch, Unread, IsRead, after_fetches, putting, PutsEnd}
-use Rattle.commands.specs.Ends.{fetched_by, put_by, RunEnds, RefusesLane, RefusesReadings, audited_line, AuditCommandEnds, compared_by, moved_line, TwinCommandEnds, made_file_of, made_plan_text, made_readings_text, put_where, LoadEnds, converted_line, ConvertEnds}
+use Rattle.commands.specs.Calls.{most_bytes, HasFetched, EndsAtFetch, Unread, IsRead, after_fetches, Putting, putting, HasPut, names_of, Unwritable, PutsEnd}
+use Rattle.commands.specs.Ends.{fetched_by, put_by, RunEnds, RefusesLane, RefusesReadings, audited_line, AuditCommandEnds, compared_by, moved_line, TwinCommandEnds, made_file_of, made_plan_text, made_readings_text, IsMade, put_where, LoadEnds, converted_line, ConvertEnds}
 use Rattle.audit_check.specs.declared.answers.AuditCounts.{AuditCounts}
 use Rattle.plan_files.specs.declared.fault.FileError.{FileError}
 use Rattle.plan_files.specs.PlanFiles.{plan_of}
@@ -27,7 +28,7 @@ use Rattle.plan_files.specs.Readings.{readings_of}
 use Rattle.load_maker.specs.Made.{made_plan, made_file, made_readings}
 use Rattle.load_maker.specs.MadeFiles.{AreRead}
 use Rattle.commands.specs.Audits.{Audited, AuditRefuses}
-use Rattle.commands.specs.Runs.{Texts, Makes}
+use Rattle.commands.specs.Runs.{HasValues, Texts, Makes}
 use Rattle.commands.proofs.RunLemmas.{is_only}
 
 -- ---- fetches
@@ -83,6 +84,42 @@ pub two_read : (first second : List ℕ) (v u w : View) (one two : List ℕ) →
 two_read first second v u w one two first_read after second_read end =
     (first_read, read_after (first ∷ []) second two v u after second_read, end ∙ ap (after_fetches (second ∷ [])) after)
 
+-- ---- puts
+
+-- nothing was put
+has_put_none : (files : List Putting) (v w : View) → w ≡ v → HasPut files v w
+has_put_none [] v w same = same
+has_put_none (p ∷ ps) v w same = inl same
+
+-- a name can't be written, so no file was put
+pub unwritable_puts : (files : List Putting) (line : List ℕ) (v w : View) (outcome : Outcome) → Unwritable (names_of files) v w outcome → PutsEnd files line v w outcome
+unwritable_puts files line v w Done ends = absurd ends
+unwritable_puts files line v w NoMemory ends = has_put_none files v w ends
+unwritable_puts files line v w BadWords ends = absurd ends
+unwritable_puts files line v w (CannotRead name) ends = absurd ends
+unwritable_puts files line v w (TooLong name) ends = absurd ends
+unwritable_puts files line v w (CannotWrite name) ends = inr ends
+unwritable_puts files line v w CannotPrint ends = absurd ends
+unwritable_puts files line v w (BadPlan name fault) ends = absurd ends
+unwritable_puts files line v w (BadReadings name fault) ends = absurd ends
+unwritable_puts files line v w (BadTranscript name fault) ends = absurd ends
+unwritable_puts files line v w (BadReport name number) ends = absurd ends
+unwritable_puts files line v w (Impossible name number) ends = absurd ends
+unwritable_puts files line v w (OtherRow at from_frames reported) ends = absurd ends
+unwritable_puts files line v w (OtherPlan name) ends = absurd ends
+unwritable_puts files line v w (OtherLine name number expected) ends = absurd ends
+unwritable_puts files line v w (OtherPresence group round meter) ends = absurd ends
+unwritable_puts files line v w (OtherTotal group round first second) ends = absurd ends
+unwritable_puts files line v w (BadLane fault) ends = absurd ends
+unwritable_puts files line v w (NoPartner group round meter) ends = absurd ends
+
+-- two files are put under their names
+pub puts_named : (n m first second one two line : List ℕ) (v w : View) (outcome : Outcome) → n ≡ first → m ≡ second
+    → PutsEnd (putting n one ∷ putting m two ∷ []) line v w outcome → PutsEnd (putting first one ∷ putting second two ∷ []) line v w outcome
+puts_named n m first second one two line v w outcome n_is m_is ends =
+    subst (λ name. PutsEnd (putting first one ∷ putting name two ∷ []) line v w outcome) m_is
+    (subst (λ name. PutsEnd (putting name one ∷ putting m two ∷ []) line v w outcome) n_is ends)
+
 -- ---- `run`, `convert`, `audit` and `load`
 
 -- the texts of a run are put and said
@@ -104,28 +141,46 @@ run_ends cupboard names v u w texts outcome plan readings p r transcript report 
     let here : PutsEnd (put_by names texts) texts.summary (after_fetches (fetched_by names) v) w outcome =
     subst (λ u. PutsEnd (put_by names texts) texts.summary u w outcome) after by_summary
     in
-    inr (plan, readings, plan_read, readings_read, inr (texts, made_here, is_only cupboard plan readings texts made_here, here))
+    inr (plan, readings, plan_read, readings_read, inr (inr (texts, made_here, is_only cupboard plan readings texts made_here, here)))
 
--- the first file is put under the name for which it was begun
-pub first_named : (n m second : List ℕ) (bytes more line : List ℕ) (v w : View) (outcome : Outcome) → n ≡ m
-    → PutsEnd (putting n bytes ∷ putting second more ∷ []) line v w outcome → PutsEnd (putting m bytes ∷ putting second more ∷ []) line v w outcome
-first_named n m second bytes more line v w outcome same = subst (λ name. PutsEnd (putting name bytes ∷ putting second more ∷ []) line v w outcome) same
+-- the files of a run have values, but a name can't be written
+pub run_unwritable : (cupboard : List Meaning) (names : RunNames) (v u w : View) (outcome : Outcome) (why : Refusal) (plan readings p r : List ℕ) (is_writable : Bool) (n m : List ℕ)
+    → IsRead (v.held names.plan) plan → IsRead (v.held names.readings) readings → u ≡ after_fetches (fetched_by names) v → p ≡ plan → r ≡ readings
+    → why ≡ refusal.Unwritable → TextsEnd cupboard p r is_writable (Err why) → n ≡ names.transcript → m ≡ names.report
+    → Unwritable (n ∷ m ∷ []) u w outcome → RunEnds cupboard names v w outcome
+run_unwritable cupboard names v u w outcome why plan readings p r is_writable n m plan_read readings_read after plan_is readings_is why_is ends n_is m_is unwritable =
+    let values : HasValues cupboard p r = (subst (λ why. TextsEnd cupboard p r is_writable (Err why)) why_is ends).1 in
+    let here : HasValues cupboard plan readings =
+    subst (λ bytes. HasValues cupboard plan bytes) readings_is (subst (λ bytes. HasValues cupboard bytes r) plan_is values)
+    in
+    let by_names : Unwritable (names.transcript ∷ names.report ∷ []) u w outcome =
+    subst (λ x. Unwritable (names.transcript ∷ x ∷ []) u w outcome) m_is (subst (λ x. Unwritable (x ∷ m ∷ []) u w outcome) n_is unwritable)
+    in
+    inr (plan, readings, plan_read, readings_read, inr (inl (here, subst (λ u. Unwritable (names.transcript ∷ names.report ∷ []) u w outcome) after by_names)))
+
+-- the plan file of a run is refused
+pub run_refuses_plan : (cupboard : List Meaning) (names : RunNames) (v w : View) (name : Bor (List ℕ)) (fault got : FileError) (why : Refusal) (is_writable : Bool) (plan readings p r : List ℕ)
+    → IsRead (v.held names.plan) plan → IsRead (v.held names.readings) readings → w ≡ after_fetches (fetched_by names) v → p ≡ plan
+    → name.now ≡ names.plan → why ≡ refusal.Plan fault → TextsEnd cupboard p r is_writable (Err why) → got ≡ fault → RunEnds cupboard names v w (BadPlan name got)
+run_refuses_plan cupboard names v w name fault got why is_writable plan readings p r plan_read readings_read after plan_is name_is why_is ends same =
+    let refuses : plan_of p ≡ Err fault = subst (λ why. TextsEnd cupboard p r is_writable (Err why)) why_is ends in
+    inr (plan, readings, plan_read, readings_read, inl ((name_is, subst (λ f. plan_of plan ≡ Err f) (sym same) (ap plan_of (sym plan_is) ∙ refuses)), after))
 
 -- a lane row of a run is refused
-pub run_refuses_lane : (cupboard : List Meaning) (names : RunNames) (v w : View) (fault got : RackError) (why : Refusal) (plan readings p r : List ℕ)
+pub run_refuses_lane : (cupboard : List Meaning) (names : RunNames) (v w : View) (fault got : RackError) (why : Refusal) (is_writable : Bool) (plan readings p r : List ℕ)
     → IsRead (v.held names.plan) plan → IsRead (v.held names.readings) readings → w ≡ after_fetches (fetched_by names) v → p ≡ plan → r ≡ readings
-    → why ≡ refusal.Lane fault → TextsEnd cupboard p r (Err why) → got ≡ fault → RunEnds cupboard names v w (BadLane got)
-run_refuses_lane cupboard names v w fault got why plan readings p r plan_read readings_read after plan_is readings_is why_is ends same =
-    let refuses : RefusesLane cupboard p fault = subst (λ why. TextsEnd cupboard p r (Err why)) why_is ends in
+    → why ≡ refusal.Lane fault → TextsEnd cupboard p r is_writable (Err why) → got ≡ fault → RunEnds cupboard names v w (BadLane got)
+run_refuses_lane cupboard names v w fault got why is_writable plan readings p r plan_read readings_read after plan_is readings_is why_is ends same =
+    let refuses : RefusesLane cupboard p fault = subst (λ why. TextsEnd cupboard p r is_writable (Err why)) why_is ends in
     let here : RefusesLane cupboard plan fault = subst (λ bytes. RefusesLane cupboard bytes fault) plan_is refuses in
     inr (plan, readings, plan_read, readings_read, inl (subst (RefusesLane cupboard plan) (sym same) here, after))
 
 -- the readings file of a run is refused
-pub run_refuses_readings : (cupboard : List Meaning) (names : RunNames) (v w : View) (name : Bor (List ℕ)) (fault got : FileError) (why : Refusal) (plan readings p r : List ℕ)
+pub run_refuses_readings : (cupboard : List Meaning) (names : RunNames) (v w : View) (name : Bor (List ℕ)) (fault got : FileError) (why : Refusal) (is_writable : Bool) (plan readings p r : List ℕ)
     → IsRead (v.held names.plan) plan → IsRead (v.held names.readings) readings → w ≡ after_fetches (fetched_by names) v → p ≡ plan → r ≡ readings
-    → name.now ≡ names.readings → why ≡ refusal.Readings fault → TextsEnd cupboard p r (Err why) → got ≡ fault → RunEnds cupboard names v w (BadReadings name got)
-run_refuses_readings cupboard names v w name fault got why plan readings p r plan_read readings_read after plan_is readings_is name_is why_is ends same =
-    let refuses : RefusesReadings cupboard p r fault = subst (λ why. TextsEnd cupboard p r (Err why)) why_is ends in
+    → name.now ≡ names.readings → why ≡ refusal.Readings fault → TextsEnd cupboard p r is_writable (Err why) → got ≡ fault → RunEnds cupboard names v w (BadReadings name got)
+run_refuses_readings cupboard names v w name fault got why is_writable plan readings p r plan_read readings_read after plan_is readings_is name_is why_is ends same =
+    let refuses : RefusesReadings cupboard p r fault = subst (λ why. TextsEnd cupboard p r is_writable (Err why)) why_is ends in
     let here : RefusesReadings cupboard plan readings fault =
     subst (λ bytes. RefusesReadings cupboard plan bytes fault) readings_is (subst (λ bytes. RefusesReadings cupboard bytes r fault) plan_is refuses)
     in
@@ -168,10 +223,10 @@ audit_ends transcript report v u w counts outcome tb rb given other line t_read 
     inr (tb, rb, t_read, r_read, inr (counts, here, subst (λ u. PutsEnd [] (audited_line counts.rows counts.totals) u w outcome) after by_line))
 
 -- the made files are read as what they were made of, so no run refuses them
-pub made_plan_is_read : (cupboard : List Meaning) (size : Size) (p r : List ℕ) (why : Refusal) (fault : FileError) → p ≡ made_plan_text size
-    → AreRead size.seed size.groups size.meters size.rounds → why ≡ refusal.Plan fault → TextsEnd cupboard p r (Err why) → ⊥
-made_plan_is_read cupboard size p r why fault p_is made why_is ends =
-    let bad : plan_of p ≡ Err fault = subst (λ x. TextsEnd cupboard p r (Err x)) why_is ends in
+pub made_plan_is_read : (cupboard : List Meaning) (size : Size) (is_writable : Bool) (p r : List ℕ) (why : Refusal) (fault : FileError) → p ≡ made_plan_text size
+    → AreRead size.seed size.groups size.meters size.rounds → why ≡ refusal.Plan fault → TextsEnd cupboard p r is_writable (Err why) → ⊥
+made_plan_is_read cupboard size is_writable p r why fault p_is made why_is ends =
+    let bad : plan_of p ≡ Err fault = subst (λ x. TextsEnd cupboard p r is_writable (Err x)) why_is ends in
     let well : plan_of p ≡ Ok (made_file_of size) = ap plan_of p_is ∙ made.plan in
     cc
 
@@ -190,10 +245,10 @@ readings_not_refused cupboard size p r fault p_is r_is made (file, slots, plan_i
     let plan : file.plan ≡ made_plan size.groups size.meters size.rounds = ap (λ f. f.plan) (sym same) ∙ plan_of_made size in
     not_both (readings_of file.plan r) (made_readings size.seed size.groups size.meters size.rounds) fault (ap (λ plan. readings_of plan r) plan ∙ ap (readings_of (made_plan size.groups size.meters size.rounds)) r_is ∙ made.readings) bad
 
-pub made_readings_are_read : (cupboard : List Meaning) (size : Size) (p r : List ℕ) (why : Refusal) (fault : FileError) → p ≡ made_plan_text size → r ≡ made_readings_text size
-    → AreRead size.seed size.groups size.meters size.rounds → why ≡ refusal.Readings fault → TextsEnd cupboard p r (Err why) → ⊥
-made_readings_are_read cupboard size p r why fault p_is r_is made why_is ends =
-    readings_not_refused cupboard size p r fault p_is r_is made (subst (λ x. TextsEnd cupboard p r (Err x)) why_is ends)
+pub made_readings_are_read : (cupboard : List Meaning) (size : Size) (is_writable : Bool) (p r : List ℕ) (why : Refusal) (fault : FileError) → p ≡ made_plan_text size → r ≡ made_readings_text size
+    → AreRead size.seed size.groups size.meters size.rounds → why ≡ refusal.Readings fault → TextsEnd cupboard p r is_writable (Err why) → ⊥
+made_readings_are_read cupboard size is_writable p r why fault p_is r_is made why_is ends =
+    readings_not_refused cupboard size p r fault p_is r_is made (subst (λ x. TextsEnd cupboard p r is_writable (Err x)) why_is ends)
 
 -- the texts of a load are put, where there is a name, and said
 pub load_ends : (cupboard : List Meaning) (size : Size) (name given : Option (List ℕ)) (v w : View) (texts : Texts) (outcome : Outcome) (p r transcript summary : List ℕ)
@@ -208,16 +263,45 @@ load_ends cupboard size name given v w texts outcome p r transcript summary name
     let by_summary : PutsEnd (put_where given texts.transcript) texts.summary v w outcome =
     subst (λ s. PutsEnd (put_where given texts.transcript) s v w outcome) s_is by_transcript
     in
-    inr (
+    inr (inr (
       texts,
       here,
       is_only cupboard (made_plan_text size) (made_readings_text size) texts here,
       subst (λ n. PutsEnd (put_where n texts.transcript) texts.summary v w outcome) (sym name_is) by_summary,
-    )
+    ))
+
+-- the lane row of a load gets its lane, but the name can't be written
+pub load_unwritable : (cupboard : List Meaning) (size : Size) (is_writable : Bool) (n name : List ℕ) (v w : View) (outcome : Outcome) (p r : List ℕ) (why : Refusal)
+    → IsMade size p r → why ≡ refusal.Unwritable → TextsEnd cupboard p r is_writable (Err why) → n ≡ name → Unwritable (n ∷ []) v w outcome
+    → LoadEnds cupboard size (Some name) v w outcome
+load_unwritable cupboard size is_writable n name v w outcome p r why made why_is ends n_is unwritable =
+    let values : HasValues cupboard p r = (subst (λ why. TextsEnd cupboard p r is_writable (Err why)) why_is ends).1 in
+    let here : HasValues cupboard (made_plan_text size) (made_readings_text size) =
+    subst (λ bytes. HasValues cupboard (made_plan_text size) bytes) made.readings (subst (λ bytes. HasValues cupboard bytes r) made.plan values)
+    in
+    inr (inl (here, subst (λ x. Unwritable (x ∷ []) v w outcome) n_is unwritable))
+
+-- the lane row of the made plan is refused
+pub load_refuses_lane : (cupboard : List Meaning) (size : Size) (is_writable : Bool) (name : Option (List ℕ)) (v w : View) (p r : List ℕ) (why : Refusal) (fault : RackError)
+    → IsMade size p r → why ≡ refusal.Lane fault → TextsEnd cupboard p r is_writable (Err why) → w ≡ v → LoadEnds cupboard size name v w (BadLane fault)
+load_refuses_lane cupboard size is_writable name v w p r why fault made why_is ends same =
+    let refuses : RefusesLane cupboard p fault = subst (λ why. TextsEnd cupboard p r is_writable (Err why)) why_is ends in
+    let well : plan_of p ≡ Ok (made_file_of size) = ap plan_of made.plan ∙ made.read.plan in
+    let file : made_file_of size ≡ refuses.0 = (let is = refuses.1 in cc) in
+    inl (ap (λ f. hung_by cupboard f.lanes) file ∙ refuses.2, same)
 
 -- a call before, which changed nothing that is seen
 pub load_from : (cupboard : List Meaning) (size : Size) (name : Option (List ℕ)) (u v w : View) (outcome : Outcome) → u ≡ v → LoadEnds cupboard size name u w outcome → LoadEnds cupboard size name v w outcome
 load_from cupboard size name u v w outcome same = subst (λ v. LoadEnds cupboard size name v w outcome) same
+
+-- the bytes are made for some size
+pub some_made : (size : Size) (p r : List ℕ) → p ≡ made_plan_text size → r ≡ made_readings_text size → AreRead size.seed size.groups size.meters size.rounds
+    → (made_for : Size) × IsMade made_for p r
+some_made size p r plan readings read = (size, record { plan = plan; readings = readings; read = read })
+
+-- under the name that the words give
+pub load_named : (cupboard : List Meaning) (size : Size) (given name : Option (List ℕ)) (v w : View) (outcome : Outcome) → given ≡ name → LoadEnds cupboard size name v w outcome → LoadEnds cupboard size given v w outcome
+load_named cupboard size given name v w outcome same = subst (λ name. LoadEnds cupboard size name v w outcome) (sym same)
 
 -- ---- `twin`
 

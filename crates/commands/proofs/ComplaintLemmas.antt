@@ -35,7 +35,8 @@ of_line : (cupboard : List Meaning) (command : Command) (v w : View) (name : _) 
     → HasComplaint (OtherLine name line expected)
 of_line cupboard (Run names workers) v w name line expected (inl unread) = absurd unread
 of_line cupboard (Run names workers) v w name line expected (inr (p, r, p_read, r_read, inl refused)) = absurd refused.0
-of_line cupboard (Run names workers) v w name line expected (inr (p, r, p_read, r_read, inr (texts, made, only, ends))) = absurd ends
+of_line cupboard (Run names workers) v w name line expected (inr (p, r, p_read, r_read, inr (inl (values, ends)))) = absurd ends
+of_line cupboard (Run names workers) v w name line expected (inr (p, r, p_read, r_read, inr (inr (texts, made, only, ends)))) = absurd ends
 of_line cupboard (Audit transcript report) v w name line expected (inl unread) = absurd unread
 of_line cupboard (Audit transcript report) v w name line expected (inr (tb, rb, t_read, r_read, inl refused)) = absurd refused.0
 of_line cupboard (Audit transcript report) v w name line expected (inr (tb, rb, t_read, r_read, inr (counts, audited, ends))) = absurd ends
@@ -44,7 +45,9 @@ of_line cupboard (Twin names) v w name line expected (inr (bytes, read, inl ((na
 of_line cupboard (Twin names) v w name line expected (inr (bytes, read, inr (rows, compared, ends))) = absurd ends
 of_line cupboard (Make size plan readings) v w name line expected ends = absurd ends
 of_line cupboard (Load size workers transcript) v w name line expected (inl refused) = absurd refused.0
-of_line cupboard (Load size workers transcript) v w name line expected (inr (texts, made, only, ends)) = absurd ends
+of_line cupboard (Load size workers None) v w name line expected (inr (inl ends)) = absurd ends
+of_line cupboard (Load size workers (Some transcript)) v w name line expected (inr (inl (values, ends))) = absurd ends
+of_line cupboard (Load size workers transcript) v w name line expected (inr (inr (texts, made, only, ends))) = absurd ends
 of_line cupboard (Convert old transcript) v w name line expected (inl unread) = absurd unread
 of_line cupboard (Convert old transcript) v w name line expected (inr (bytes, read, inl refused)) = absurd refused.0
 of_line cupboard (Convert old transcript) v w name line expected (inr (bytes, read, inr (t, has, text, ends))) = absurd ends

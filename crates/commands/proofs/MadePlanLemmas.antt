@@ -113,12 +113,15 @@ run_hung size is fault (file, plan, refused) =
 
 no_lane : (command : Command) (v w : View) (fault : RackError) → RunsMadePlan command v → Ends full_cupboard (Some command) v w (BadLane fault) → ⊥
 no_lane (Load size workers transcript) v w fault is (inl refused) = let hung = made_hung size is in not_both (hung_by full_cupboard (made_file_of size).lanes) hung.0 fault hung.1 refused.0
-no_lane (Load size workers transcript) v w fault is (inr (texts, made, only, ends)) = ends
+no_lane (Load size workers None) v w fault is (inr (inl unwritable)) = unwritable
+no_lane (Load size workers (Some name)) v w fault is (inr (inl (values, ends))) = ends
+no_lane (Load size workers transcript) v w fault is (inr (inr (texts, made, only, ends))) = ends
 no_lane (Run names workers) v w fault is (inl unread) = unread
 no_lane (Run names workers) v w fault (size, is, held) (inr (p, r, p_read, r_read, inl refused)) =
     let same = read_is v names.plan (made_plan_text size) p (plan_held size is names.plan v held) p_read in
     run_hung size is fault (subst (λ bytes. RefusesLane full_cupboard bytes fault) (sym same) refused.0)
-no_lane (Run names workers) v w fault is (inr (p, r, p_read, r_read, inr (texts, made, only, ends))) = ends
+no_lane (Run names workers) v w fault is (inr (p, r, p_read, r_read, inr (inl (values, ends)))) = ends
+no_lane (Run names workers) v w fault is (inr (p, r, p_read, r_read, inr (inr (texts, made, only, ends)))) = ends
 no_lane (Audit transcript report) v w fault is ends = absurd is
 no_lane (Twin names) v w fault is ends = absurd is
 no_lane (Make size plan readings) v w fault is ends = absurd is

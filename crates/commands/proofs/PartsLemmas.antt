@@ -91,15 +91,6 @@ parts-recorded keeps sent received known t all written recorded =
       };
     }
 
--- nothing is recorded yet
-pub none-recorded : (keeps : TranscriptView → Type 0) (t : TranscriptView) → keeps (no_entries t.plan) → IsRecorded keeps t
-none-recorded keeps t empty = record { count = 0; is = record { within = omega arith; kept = empty } }
-
--- a run that passed nothing on
-pub runs-untold : (keeps : TranscriptView → Type 0) (r : Result RunTexts Refusal) → ((plan : PlanView) → keeps (no_entries plan)) → IfOk r (λ kept. IsRecorded keeps kept.transcript)
-runs-untold keeps (Ok kept) empty = none-recorded keeps kept.transcript (empty kept.transcript.plan)
-runs-untold keeps (Err refusal) empty = tt
-
 -- a run that passed parts on, of which the first were received
 pub runs-told : (keeps : TranscriptView → Type 0) (sent received known : List TranscriptView) (r : Result RunTexts Refusal)
     → received ++ known ≡ sent → IsOfParts keeps received → IfOk r (λ kept. IsRecorded (AreParts sent) kept.transcript) → IfOk r (λ kept. IsRecorded keeps kept.transcript)

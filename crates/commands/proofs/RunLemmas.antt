@@ -48,7 +48,7 @@ use Rattle.transcript_text.specs.Spelling.{transcript_text}
 use Rattle.transcript_text.proofs.ReadAgain.{read_again}
 use Rattle.totals_report.specs.Books.{row_in as book_row, summary_in as book_summary}
 use Rattle.tick_run.specs.Finished.{IsFinished}
-use Rattle.commands.specs.Runs.{Values, plan_in, readings_in, shape_in, clock_in, AreValues, AreSound, IsRunOf, row_in, Texts, AreTexts, Makes, IsOnly}
+use Rattle.commands.specs.Runs.{Values, HasValues, plan_in, readings_in, shape_in, clock_in, AreValues, AreSound, IsRunOf, row_in, Texts, AreTexts, Makes, IsOnly}
 use Rattle.commands.specs.RunTexts.{AreTextsOf, TextsEnd}
 use Rattle.commands.specs.declared.texts.Refusal.TheVariants.{Readings as ReadingsRefusal}
 use Rattle.ideal_masks.proofs.Isolation.{isolated}
@@ -329,11 +329,20 @@ but_memory (cause.Member e) claim other is = is
 but_memory cause.NotMember claim other is = is
 
 -- the readings file has a fault, where the plan file has none and its lanes hang
-pub readings_refused : (cupboard : List Meaning) (plan_bytes readings_bytes : List ℕ) (file : PlanFileView) (lanes : List LaneRow) (slots : List Slot) (fault : FileError)
+pub readings_refused : (cupboard : List Meaning) (plan_bytes readings_bytes : List ℕ) (is_writable : Bool) (file : PlanFileView) (lanes : List LaneRow) (slots : List Slot) (fault : FileError)
     → plan_of plan_bytes ≡ Ok file → lanes ≡ file.lanes → hung_by cupboard lanes ≡ Ok slots → ReadingsEnd file.plan readings_bytes (Err fault)
-    → (fault.cause ≡ cause.Memory → ⊥) → TextsEnd cupboard plan_bytes readings_bytes (Err (ReadingsRefusal fault))
-readings_refused cupboard plan_bytes readings_bytes file lanes slots fault plan_is rows hang ends other =
+    → (fault.cause ≡ cause.Memory → ⊥) → TextsEnd cupboard plan_bytes readings_bytes is_writable (Err (ReadingsRefusal fault))
+readings_refused cupboard plan_bytes readings_bytes is_writable file lanes slots fault plan_is rows hang ends other =
     (file, slots, plan_is, ap (hung_by cupboard) (sym rows) ∙ hang, but_memory fault.cause _ other ends)
+
+-- neither file has a fault and the lanes hang
+pub has_values : (cupboard : List Meaning) (plan_bytes readings_bytes : List ℕ) (file : PlanFileView) (lanes : List LaneRow) (slots : List Slot) (readings : ReadingsView)
+    → plan_of plan_bytes ≡ Ok file → lanes ≡ file.lanes → hung_by cupboard lanes ≡ Ok slots → readings_of file.plan readings_bytes ≡ Ok readings
+    → HasValues cupboard plan_bytes readings_bytes
+has_values cupboard plan_bytes readings_bytes file lanes slots readings plan_is rows hang readings_are = (
+  record { file = file; slots = slots; readings = readings },
+  record { plan = plan_is; lanes = ap (hung_by cupboard) (sym rows) ∙ hang; readings = readings_are },
+)
 
 -- ---- what the files and the lanes alone decide
 

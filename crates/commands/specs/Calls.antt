@@ -1,5 +1,5 @@
 -- The calls of a command on the desk: it fetches files, one after the other, then it puts files and says a line.
-use Rattle.std.specs.Prelude.{◌≡◌, ◌≤◌, ◌⊎◌, ◌^◌, ℕ, Bool, true, false, List, [], ◌∷◌, length, Result, Ok, Err, Vec}
+use Rattle.std.specs.Prelude.{◌≡◌, ◌≤◌, ◌⊎◌, ◌^◌, ℕ, Bool, true, false, List, [], ◌∷◌, length, map, Result, Ok, Err, Vec}
 use Rattle.std.specs.declared.alloc.Global.{Global}
 use Rattle.desk_outside.specs.Desk.{View, Held, Holds, IsLonger, IsPrefixOf, Fetched, Stored, Unstored, Said, after_step}
 use Rattle.command_words.specs.declared.outcome.Outcome.{Outcome}
@@ -76,10 +76,34 @@ EndsAtPut [] v w last = ⊥
 EndsAtPut (p ∷ ps) v w last =
     ((last ≡ p.name) × (w ≡ after_step v (Unstored p.name))) ⊎ EndsAtPut ps (after_step v (Stored p.name p.bytes)) w last
 
+-- the name is one of these
+abbrev pub IsAmong : List ℕ → List (List ℕ) → Type 0
+IsAmong name [] = ⊥
+IsAmong name (other ∷ others) = (name ≡ other) ⊎ IsAmong name others
+
+-- none was put: the put of `last`, which is one of these names, was answered Failed, and it holds what it held
+abbrev pub NonePut : List (List ℕ) → View → View → List ℕ → Type 0
+NonePut names v w last = IsAmong last names × (w ≡ after_step v (Unstored last))
+
+-- one of these names can't be written, so none was put
+abbrev pub Unwritable : List (List ℕ) → View → View → Outcome → Type 0
+Unwritable names v w NoMemory = w ≡ v
+Unwritable names v w (CannotWrite name) = NonePut names v w name.now
+Unwritable names v w _ = ⊥
+
+-- the names of files
+abbrev pub names_of : List Putting → List (List ℕ)
+names_of files = map (λ p. p.name) files
+
 -- the files are put in order and then the line is said, up to this end
 abbrev pub PutsEnd : List Putting → List ℕ → View → View → Outcome → Type 0
 PutsEnd files line v w Done = w ≡ after_step (after_puts files v) (Said line false)
 PutsEnd files line v w NoMemory = HasPut files v w
-PutsEnd files line v w (CannotWrite name) = EndsAtPut files v w name.now
+PutsEnd files line v w (CannotWrite name) = EndsAtPut files v w name.now ⊎ NonePut (names_of files) v w name.now
 PutsEnd files line v w CannotPrint = (front : List ℕ) × IsPrefixOf front line × (w ≡ after_step (after_puts files v) (Said front true))
 PutsEnd files line v w _ = ⊥
+
+-- a begun file was committed, or that ends the command
+abbrev pub Committed : (has : List ℕ → Type 0) (has_failed : Bool) (name : List ℕ) → View → View → Result (Unit {0}) Outcome → Type 0
+Committed has has_failed name v w (Ok done) = (has_failed ≡ false) × ((bytes : List ℕ) → has bytes → w ≡ after_step v (Stored name bytes))
+Committed has has_failed name v w (Err outcome) = Unwritable (name ∷ []) v w outcome

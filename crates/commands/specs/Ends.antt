@@ -16,16 +16,17 @@ use Rattle.command_words.specs.declared.usage.TheConstants.{USAGE, VERSION}
 use Rattle.command_words.specs.declared.outcome.Outcome.{Outcome}
 use Rattle.command_words.specs.declared.outcome.Outcome.TheVariants.{NoMemory, BadWords, BadPlan, BadReadings, BadTranscript, BadLane}
 use Rattle.command_words.specs.Words.{RunNames, TwinNames, Size, Command, Run, Audit, Twin, Make, Load, Convert, Public, Help, Version, Bill, Hide}
-use Rattle.commands.specs.Calls.{IsRead, after_fetches, Unread, Putting, putting, PutsEnd}
+use Rattle.commands.specs.Calls.{IsRead, after_fetches, Unread, Putting, putting, PutsEnd, Unwritable}
 use Rattle.plan_files.specs.PlanFiles.{public_of}
 use Rattle.plan_files.specs.Spelling.{plan_text, public_text, readings_text}
 use Rattle.load_maker.specs.Made.{made_file, made_readings}
+use Rattle.load_maker.specs.MadeFiles.{AreRead}
 use Rattle.audit_check.specs.declared.answers.AuditCounts.{AuditCounts}
 use Rattle.commands.specs.Audits.{Audited, AuditRefuses}
 use Rattle.twin_worlds.specs.declared.rows.MovedRow.{MovedRow}
 use Rattle.twin_worlds.specs.MasksText.{masks_text}
 use Rattle.commands.specs.Twins.{TwinBytes, AreReadBy, Compared, TwinRefuses}
-use Rattle.commands.specs.Runs.{Texts, Makes, IsOnly}
+use Rattle.commands.specs.Runs.{Texts, Makes, IsOnly, HasValues}
 use Rattle.commands.specs.BillingEnds.{BillEnds, HideEnds}
 
 -- ---- `run PLAN READINGS REPORT TRANSCRIPT [WORKERS]`
@@ -61,13 +62,18 @@ RunRefuses cupboard names p r (BadReadings name fault) = (name.now ≡ names.rea
 RunRefuses cupboard names p r NoMemory = ⊤
 RunRefuses cupboard names p r _ = ⊥
 
--- how it ends: a file is not read, or what they say is refused, or the texts are put and said
+-- the files have values, but one of the names that it puts can't be written
+abbrev pub RunUnwritable : List Meaning → RunNames → (plan_bytes readings_bytes : List ℕ) → View → View → Outcome → Type 0
+RunUnwritable cupboard names p r v w outcome = HasValues cupboard p r × Unwritable (names.transcript ∷ names.report ∷ []) v w outcome
+
+-- how it ends: a file is not read, or what they say is refused, or a name can't be written, or the texts are put and said
 abbrev pub RunEnds : List Meaning → RunNames → View → View → Outcome → Type 0
 RunEnds cupboard names v w outcome =
     Unread (fetched_by names) v w outcome
     ⊎ ((p r : List ℕ) × IsRead (v.held names.plan) p × IsRead (v.held names.readings) r
     × ((RunRefuses cupboard names p r outcome × (w ≡ after_fetches (fetched_by names) v))
-    ⊎ TextsPut cupboard names p r (after_fetches (fetched_by names) v) w outcome))
+    ⊎ (RunUnwritable cupboard names p r (after_fetches (fetched_by names) v) w outcome
+    ⊎ TextsPut cupboard names p r (after_fetches (fetched_by names) v) w outcome)))
 
 -- ---- `audit TRANSCRIPT REPORT`
 
@@ -133,6 +139,12 @@ MakeEnds size plan readings v w outcome =
 
 -- ---- `load SEED GROUPS METERS ROUNDS WORKERS [TRANSCRIPT]`
 
+-- the bytes are those of the two files of a size, which are read as what they say
+pub record IsMade (size : Size) (plan_bytes readings_bytes : List ℕ) : Type 0 where
+  pub plan : plan_bytes ≡ made_plan_text size
+  pub readings : readings_bytes ≡ made_readings_text size
+  pub read : AreRead size.seed size.groups size.meters size.rounds
+
 -- the transcript is put where it has a name
 abbrev pub put_where : Option (List ℕ) → List ℕ → List Putting
 put_where None bytes = []
@@ -144,13 +156,23 @@ LoadRefuses cupboard size (BadLane fault) = hung_by cupboard (made_file_of size)
 LoadRefuses cupboard size NoMemory = ⊤
 LoadRefuses cupboard size _ = ⊥
 
--- how it ends: it is refused, or the made files make these texts, of which the transcript is put and the summary said
+-- the lane row of the made plan gets its lane, but the name can't be written
+abbrev pub LoadUnwritable : List Meaning → Size → Option (List ℕ) → View → View → Outcome → Type 0
+LoadUnwritable cupboard size None v w outcome = ⊥
+LoadUnwritable cupboard size (Some name) v w outcome = HasValues cupboard (made_plan_text size) (made_readings_text size) × Unwritable (name ∷ []) v w outcome
+
+-- the made files make these texts, of which the transcript is put and the summary said
+abbrev pub LoadPut : List Meaning → Size → Option (List ℕ) → View → View → Outcome → Type 0
+LoadPut cupboard size transcript v w outcome =
+    (texts : Texts) × Makes cupboard (made_plan_text size) (made_readings_text size) texts
+    × IsOnly cupboard (made_plan_text size) (made_readings_text size) texts
+    × PutsEnd (put_where transcript texts.transcript) texts.summary v w outcome
+
+-- how it ends: it is refused, or the name can't be written, or the texts are put and said
 abbrev pub LoadEnds : List Meaning → Size → Option (List ℕ) → View → View → Outcome → Type 0
 LoadEnds cupboard size transcript v w outcome =
     (LoadRefuses cupboard size outcome × (w ≡ v))
-    ⊎ ((texts : Texts) × Makes cupboard (made_plan_text size) (made_readings_text size) texts
-    × IsOnly cupboard (made_plan_text size) (made_readings_text size) texts
-    × PutsEnd (put_where transcript texts.transcript) texts.summary v w outcome)
+    ⊎ (LoadUnwritable cupboard size transcript v w outcome ⊎ LoadPut cupboard size transcript v w outcome)
 
 -- ---- `convert OLD TRANSCRIPT`
 

@@ -1,5 +1,5 @@
 -- The texts of a finished run, and what the runner of the two files answers.
-use Rattle.std.specs.Prelude.{◌≡◌, ℕ, List, Result, Ok, Err, ⊤}
+use Rattle.std.specs.Prelude.{◌≡◌, ℕ, Bool, false, List, Result, Ok, Err, ⊤}
 use Rattle.group_book.specs.Books.{BookView}
 use Rattle.link_lanes.specs.Lanes.{Meaning}
 use Rattle.plan_files.specs.PlanFiles.{plan_of}
@@ -12,8 +12,8 @@ use Rattle.totals_report.specs.Reading.{rows_of_text}
 use Rattle.totals_report.specs.Reports.{report_rows, report_text, summary_text}
 use Rattle.commands.specs.declared.texts.RunTexts.{RunTexts}
 use Rattle.commands.specs.declared.texts.Refusal.{Refusal}
-use Rattle.commands.specs.declared.texts.Refusal.TheVariants.{Plan, Lane, Readings, Memory}
-use Rattle.commands.specs.Runs.{Texts, Makes}
+use Rattle.commands.specs.declared.texts.Refusal.TheVariants.{Plan, Lane, Readings, Unwritable, Memory}
+use Rattle.commands.specs.Runs.{HasValues, Texts, Makes}
 use Rattle.commands.specs.Ends.{RefusesLane, RefusesReadings}
 
 -- the texts that are kept, that of the transcript as its value
@@ -29,11 +29,12 @@ pub record AreTextsOf (book : BookView) (t : TranscriptView) (texts : Texts) : T
   pub rows_back : rows_of_text texts.report ≡ Ok (report_rows book.presence.plan (row_in book))
   pub summary : texts.summary ≡ summary_text (summary_in book)
 
--- the texts of a run of the values of the bytes, or the first that is refused: the plan file, a lane row of it, or the readings file;
--- want of memory is free
-abbrev pub TextsEnd : List Meaning → List ℕ → List ℕ → Result RunTexts Refusal → Type 0
-TextsEnd cupboard plan_bytes readings_bytes (Ok kept) = Makes cupboard plan_bytes readings_bytes (texts_of kept)
-TextsEnd cupboard plan_bytes readings_bytes (Err (Plan fault)) = plan_of plan_bytes ≡ Err fault
-TextsEnd cupboard plan_bytes readings_bytes (Err (Lane fault)) = RefusesLane cupboard plan_bytes fault
-TextsEnd cupboard plan_bytes readings_bytes (Err (Readings fault)) = RefusesReadings cupboard plan_bytes readings_bytes fault
-TextsEnd cupboard plan_bytes readings_bytes (Err Memory) = ⊤
+-- the texts of a run of the values of the bytes, or the first that is refused: the plan file, a lane row of it, the readings file, or the
+-- names that the texts go to; want of memory is free
+abbrev pub TextsEnd : List Meaning → List ℕ → List ℕ → Bool → Result RunTexts Refusal → Type 0
+TextsEnd cupboard plan_bytes readings_bytes is_writable (Ok kept) = Makes cupboard plan_bytes readings_bytes (texts_of kept)
+TextsEnd cupboard plan_bytes readings_bytes is_writable (Err (Plan fault)) = plan_of plan_bytes ≡ Err fault
+TextsEnd cupboard plan_bytes readings_bytes is_writable (Err (Lane fault)) = RefusesLane cupboard plan_bytes fault
+TextsEnd cupboard plan_bytes readings_bytes is_writable (Err (Readings fault)) = RefusesReadings cupboard plan_bytes readings_bytes fault
+TextsEnd cupboard plan_bytes readings_bytes is_writable (Err Unwritable) = (is_writable ≡ false) × HasValues cupboard plan_bytes readings_bytes
+TextsEnd cupboard plan_bytes readings_bytes is_writable (Err Memory) = ⊤

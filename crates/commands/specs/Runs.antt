@@ -59,6 +59,10 @@ pub record AreValues (cupboard : List Meaning) (plan_bytes readings_bytes : List
   pub lanes : hung_by cupboard v.file.lanes ≡ Ok v.slots
   pub readings : readings_of v.file.plan readings_bytes ≡ Ok v.readings
 
+-- the bytes have values, for which the cupboard has the lanes
+abbrev pub HasValues : List Meaning → (plan_bytes readings_bytes : List ℕ) → Type 0
+HasValues cupboard plan_bytes readings_bytes = (v : Values) × AreValues cupboard plan_bytes readings_bytes v
+
 -- what all such values are: a plan within its limits, and readings below 2^40 of members alone
 pub record AreSound (v : Values) : Type 0 where
   pub limits : IsWithinLimits (plan_in v)

@@ -1,9 +1,7 @@
 //! The file of a transcript, of which much is written ahead, while the run goes on.
 
-ghost use Rattle.std.specs.Prelude.{◌≡◌, ◌≤◌, ◌<◌, List, ℕ, Some, IfSome, IsErrOf};
-ghost use Rattle.std.specs.Option.{ForSome};
+ghost use Rattle.std.specs.Prelude.{◌≡◌, ◌≤◌, ◌<◌, ◌++◌, [], true, length, take};
 ghost use Rattle.group_plan.specs.Plans.{PlanView};
-ghost use Rattle.desk_outside.specs.Desk.{Rose, PutEnds};
 ghost use Rattle.transcript_log.specs.Transcripts.{no_entries};
 ghost use Rattle.transcript_text.specs.Spelling.{transcript_text};
 ghost use Rattle.transcript_text.specs.Writing.{lines_text, begun_text};
@@ -13,233 +11,77 @@ ghost use Rattle.rtrb.specs.Ends.{SameRing};
 ghost use Rattle.commands.specs.Ahead.{IsAhead};
 ghost use Rattle.commands.specs.Parts.{IsOfParts};
 
+use crate::desk_calls::Begun;
 use crate::parts::PartsIn;
 use crate::source::TranscriptPieces;
-use crossbeam_channel::{Receiver, Sender, bounded};
-use desk_outside::{BegunFile, Desk, DeskError, FileFlusher};
+use desk_outside::BegunFile;
 use std::alloc::Global;
 use std::sync::Wait;
-use std::thread;
 use std::thread::Threads;
 use transcript_log::Transcript;
 use transcript_text::TextPieces;
 
-/// The file of a transcript, which a desk has begun for a name. It is a head start only: where there is no such file, or it
-/// was given up, the whole text is put in the end.
+/// The file of a transcript, which has the text of its first entries.
 #[derive(Drop)]
 pub struct Ahead<'n, 'r, R, B: BegunFile + Drop> {
-    pub(crate) rt: &'r R,
-    pub(crate) alloc: Global,
-    pub(crate) name: &'n str,
-    pub(crate) file: Option<B>,
-    // How many entries have their lines in the file, after its head; none where the file was given up.
-    pub(crate) entries: Option<usize>,
-    ghost named: { ForSome file (λ f. B.name f ≡ name.now) },
+    rt: &'r R,
+    alloc: Global,
+    pub begun: Begun<'n, B>,
+    /// How many entries there are in the file.
+    pub entries: usize,
 }
 
-impl<'n, 'r, R: Threads + Sync, B: BegunFile + Send + Drop> Ahead<'n, 'r, R, B> {
-    /// A file that the desk begins for a name, with nothing in it.
-    pub fn begin<D: Desk<Begun = B>>(
-        rt: &'r R,
-        alloc: Global,
-        name: &'n str,
-        desk: &mut D,
-    ) -> Ahead<'n, 'r, R, B>
-        ensures same_view { D.view desk.new ≡ D.view desk.old }
-        ensures same_faults { D.faults desk.new ≡ D.faults desk.old }
-        ensures name { result.name.now ≡ name.now }
-        ensures empty { (plan : PlanView) → IsAhead B.contents result.entries result.file (no_entries plan) }
+impl<'n, 'r, R: Threads + Sync, B: BegunFile + Drop> Ahead<'n, 'r, R, B> {
+    /// A file that has nothing yet.
+    pub fn new(rt: &'r R, alloc: Global, begun: Begun<'n, B>) -> Ahead<'n, 'r, R, B>
+        requires { B.has begun.file [] }
+        ensures begun { result.begun ≡ begun.entry }
+        ensures empty { (plan : PlanView) → IsAhead B.has result.begun.file result.entries (no_entries plan) }
     {
         Ahead {
             rt,
             alloc,
-            name,
-            file: desk.begin(name),
-            entries: Some(0),
+            begun,
+            entries: 0,
         }
     }
 
-    /// A file that the desk begins for a name, where there is one; no file where there is none.
-    pub fn begin_where<D: Desk<Begun = B>>(
-        rt: &'r R,
-        alloc: Global,
-        name: Option<&'n str>,
-        desk: &mut D,
-    ) -> Ahead<'n, 'r, R, B>
-        ensures same_view { D.view desk.new ≡ D.view desk.old }
-        ensures same_faults { D.faults desk.new ≡ D.faults desk.old }
-        ensures name { IfSome name.entry (λ n. result.name.now ≡ n.now) }
-        ensures empty { (plan : PlanView) → IsAhead B.contents result.entries result.file (no_entries plan) }
+    /// Appends the text of a part.
+    fn append(&mut self, part: &Transcript)
+        ensures name { self.new.begun.name.now ≡ self.old.begun.name.now }
+        ensures remembers { B.failed self.old.begun.file ≡ true → B.failed self.new.begun.file ≡ true }
+        ensures records { Records (IsAhead B.has self.old.begun.file self.old.entries) (IsAhead B.has self.new.begun.file self.new.entries) part.now }
     {
-        match name {
-            Some(name) => Ahead::begin(rt, alloc, name, desk),
-            None => Ahead {
-                rt,
-                alloc,
-                name: "",
-                file: None,
-                entries: None,
-            },
+        let more = part.len();
+        if more == 0 {
+            return;
         }
+        let mut pieces = TranscriptPieces {
+            text: part_text(self.rt, self.alloc, self.entries, part),
+        };
+        self.begun.append(&mut pieces);
+        self.entries = self.entries.saturating_add(more);
     }
 
-    /// Lets the file go.
-    pub fn discard<D: Desk<Begun = B>>(self, desk: &mut D)
-        ensures same_view { D.view desk.new ≡ D.view desk.old }
-        ensures same_faults { D.faults desk.new ≡ D.faults desk.old }
+    /// The file with the whole text: what is left of it is appended.
+    pub fn finished(self, transcript: &Transcript) -> Begun<'n, B>
+        requires { IsRecorded (IsAhead B.has self.begun.file self.entries) transcript.now }
+        ensures name { result.name.now ≡ self.entry.begun.name.now }
+        ensures text { B.has result.file (transcript_text transcript.now) }
     {
         let Ahead {
-            rt: _,
-            alloc: _,
-            name: _,
-            file,
-            entries: _,
-        } = self;
-        if let Some(file) = file {
-            desk.discard(file);
-        }
-    }
-}
-
-impl<R: Threads + Sync, B: BegunFile + Drop> Ahead<'_, '_, R, B> {
-    /// Whether there is a file, and it isn't given up.
-    pub(crate) fn is_writing(&self) -> bool {
-        self.file.is_some() && self.entries.is_some()
-    }
-
-    /// Appends the text of a part, or gives the file up.
-    fn append(&mut self, part: &Transcript)
-        ensures name { self.new.name.now ≡ self.old.name.now }
-        ensures records { Records (IsAhead B.contents self.old.entries self.old.file) (IsAhead B.contents self.new.entries self.new.file) part.now }
-    {
-        match (self.file.take(), self.entries) {
-            (Some(mut file), Some(entries)) => {
-                self.entries = append_part(self.rt, self.alloc, &mut file, entries, part);
-                self.file = Some(file);
-            }
-            (file, _) => self.file = file,
-        }
-    }
-}
-
-/// A file, and the end of the way by which its parts came.
-#[derive(Drop)]
-pub(crate) struct Appended<'n, 'r, R, B: BegunFile + Drop> {
-    pub ahead: Ahead<'n, 'r, R, B>,
-    pub parts: PartsIn,
-}
-
-impl<'n, 'r, R: Threads + Wait + Sync, B: BegunFile + Send + Drop> Ahead<'n, 'r, R, B> {
-    /// Appends the parts as they come, until no part comes any more or the file is given up. The other end of the bell is told where
-    /// there is much to have on the disk.
-    fn append_all(self, parts: PartsIn, bell: Option<Sender<()>>) -> Appended<'n, 'r, R, B>
-        requires { IsOfParts (IsAhead B.contents self.entries self.file) (received parts.ring) }
-        ensures name { result.ahead.name.now ≡ self.entry.name.now }
-        ensures same { SameRing parts.ring.end result.parts.ring.end }
-        ensures written { IsOfParts (IsAhead B.contents result.ahead.entries result.ahead.file) (received result.parts.ring) }
-    {
-        let rt = self.rt;
-        let mut ahead = self;
-        let mut parts = parts;
-        let mut flushes = Flushes { bell, entries: 0 };
-        'parts: for _ in rt.forever() {
-            if !ahead.is_writing() {
-                break 'parts;
-            }
-            match parts.ring.pop() {
-                Ok(part) => {
-                    ahead.append(&part);
-                    flushes.tell(rt, ahead.entries);
-                }
-                Err(_) => {
-                    if parts.bell.recv(rt).is_err() {
-                        break 'parts;
-                    }
-                }
-            }
-        }
-        Appended { ahead, parts }
-    }
-
-    /// Appends the parts as they come, until no part comes any more or the file is given up. A thread has them on the disk meanwhile.
-    pub(crate) fn append_and_flush(self, parts: PartsIn) -> Appended<'n, 'r, R, B>
-        requires { IsOfParts (IsAhead B.contents self.entries self.file) (received parts.ring) }
-        ensures name { result.ahead.name.now ≡ self.entry.name.now }
-        ensures same { SameRing parts.ring.end result.parts.ring.end }
-        ensures written { IsOfParts (IsAhead B.contents result.ahead.entries result.ahead.file) (received result.parts.ring) }
-    {
-        let (rt, alloc) = (self.rt, self.alloc);
-        let ahead = self;
-        let (Some(flusher), Ok((bell, wakes))) = (ahead.flusher(), bounded(alloc, 1)) else {
-            return ahead.append_all(parts, None);
-        };
-        let (flushed, appended) = thread::join(
             rt,
-            move || flush_all(rt, flusher, wakes),
-            move || -> Appended<'_, '_, R, B>
-                requires { IsOfParts (IsAhead B.contents ahead.entries ahead.file) (received parts.ring) }
-                ensures name { result.ahead.name.now ≡ ahead.entry.name.now }
-                ensures same { SameRing parts.ring.end result.parts.ring.end }
-                ensures written { IsOfParts (IsAhead B.contents result.ahead.entries result.ahead.file) (received result.parts.ring) }
-            { ahead.append_all(parts, Some(bell)) },
-        );
-        let Appended { mut ahead, parts } = appended;
-        if flushed.is_err() {
-            ahead.entries = None;
-        }
-        Appended { ahead, parts }
-    }
-
-    /// What has the bytes of the file on the disk, where there is a file.
-    fn flusher(&self) -> Option<B::Flusher> {
-        match &self.file {
-            Some(file) => file.flusher(),
-            None => None,
-        }
-    }
-}
-
-/// So many entries are to go to the disk at a time.
-const ENTRIES_A_FLUSH: usize = 16_384;
-
-/// The bell of the thread that has entries on the disk, where there is one, and how many were appended when it was told.
-#[derive(Drop)]
-struct Flushes {
-    bell: Option<Sender<()>>,
-    entries: usize,
-}
-
-impl Flushes {
-    /// Tells the thread where there are enough entries more.
-    fn tell<R: Wait>(&mut self, rt: &R, appended: Option<usize>) {
-        let Some(entries) = appended else {
-            return;
+            alloc,
+            mut begun,
+            entries,
+        } = self;
+        let _all = transcript.len();
+        let mut rest = TranscriptPieces {
+            text: rest_text(rt, alloc, entries, transcript),
         };
-        if entries.saturating_sub(self.entries) < ENTRIES_A_FLUSH {
-            return;
-        }
-        self.entries = entries;
-        if let Some(bell) = &self.bell {
-            // Where the bell is full, it wakes the thread for these entries too.
-            let _ = bell.try_send(rt, ());
-        }
+        begun.append(&mut rest);
+        begun
     }
-}
-
-/// Has on the disk what is appended, each time that it is told, until nobody is there to tell.
-fn flush_all<R: Wait, F: FileFlusher + Drop>(
-    rt: &R,
-    flusher: F,
-    bell: Receiver<()>,
-) -> Result<(), DeskError> {
-    let mut flusher = flusher;
-    'flushes: for _ in rt.forever() {
-        if bell.recv(rt).is_err() {
-            break 'flushes;
-        }
-        flusher.flush()?;
-    }
-    Ok(())
 }
 
 /// The text of a part behind so many entries: the first one's has the head.
@@ -259,61 +101,56 @@ fn part_text<'a, R: Threads + Sync>(
     }
 }
 
-/// Appends a part to the file, which has the text of so many entries. The answer is how many it has the text of then; none where
-/// that is not known.
-fn append_part<R: Threads + Sync, B: BegunFile>(
-    rt: &R,
+/// The text of a transcript behind so many entries: all of it where there are none.
+fn rest_text<'a, R: Threads + Sync>(
+    rt: &'a R,
     alloc: Global,
-    file: &mut B,
     entries: usize,
-    part: &Transcript,
-) -> Option<usize>
-    ensures name { B.name file.new ≡ B.name file.old }
-    ensures records { Records (IsAhead B.contents (Some entries) (Some file.old)) (IsAhead B.contents result (Some file.new)) part.now }
+    transcript: &'a Transcript,
+) -> TextPieces<'a, R>
+    requires { entries ≤ length transcript.now.entries }
+    ensures whole { entries ≡ 0 → result ≡ transcript_text transcript.now }
+    ensures rest { 0 < entries → begun_text transcript.now.plan (take entries transcript.now.entries) ++ result ≡ transcript_text transcript.now }
 {
-    let more = part.len();
-    if more == 0 {
-        return Some(entries);
-    }
-    let mut pieces = TranscriptPieces {
-        text: part_text(rt, alloc, entries, part),
-    };
-    match file.append(&mut pieces) {
-        Ok(()) => entries.checked_add(more),
-        Err(_) => None,
+    if entries == 0 {
+        TextPieces::new(rt, alloc, transcript)
+    } else {
+        TextPieces::after(rt, alloc, transcript, entries)
     }
 }
 
-/// Puts a transcript: what is left of its text behind what was written ahead, or the whole text.
-pub fn put_transcript<R: Threads + Sync, B: BegunFile + Send + Drop, D: Desk<Begun = B>>(
-    ahead: Ahead<'_, '_, R, B>,
-    transcript: &Transcript,
-    desk: &mut D,
-) -> Result<(), DeskError>
-    requires { IsRecorded (IsAhead B.contents ahead.entries ahead.file) transcript.now }
-    ensures ends { PutEnds ahead.entry.name.now (transcript_text transcript.now) (D.view desk.old) (D.view desk.new) result }
-    ensures later { D.faults desk.old ≤ D.faults desk.new }
-    ensures cause { IsErrOf result DeskError.Failed → Rose (D.faults desk.old) (D.faults desk.new) }
-{
-    let Ahead {
-        rt,
-        alloc,
-        name,
-        file,
-        entries,
-    } = ahead;
-    match (file, entries) {
-        (Some(file), Some(entries)) if entries > 0 => {
-            let mut rest = TranscriptPieces {
-                text: TextPieces::after(rt, alloc, transcript, entries),
-            };
-            return desk.put_begun(file, &mut rest);
+/// A file, and the end of the way by which its parts came.
+#[derive(Drop)]
+pub(crate) struct Appended<'n, 'r, R, B: BegunFile + Drop> {
+    pub ahead: Ahead<'n, 'r, R, B>,
+    pub parts: PartsIn,
+}
+
+impl<'n, 'r, R: Threads + Wait + Sync, B: BegunFile + Drop> Ahead<'n, 'r, R, B> {
+    /// Appends the parts as they come, until no part comes any more or the file has failed.
+    pub(crate) fn append_all(self, parts: PartsIn) -> Appended<'n, 'r, R, B>
+        requires { IsOfParts (IsAhead B.has self.begun.file self.entries) (received parts.ring) }
+        ensures name { result.ahead.begun.name.now ≡ self.entry.begun.name.now }
+        ensures remembers { B.failed self.entry.begun.file ≡ true → B.failed result.ahead.begun.file ≡ true }
+        ensures same { SameRing parts.ring.end result.parts.ring.end }
+        ensures written { IsOfParts (IsAhead B.has result.ahead.begun.file result.ahead.entries) (received result.parts.ring) }
+    {
+        let rt = self.rt;
+        let mut ahead = self;
+        let mut parts = parts;
+        'parts: for _ in rt.forever() {
+            if ahead.begun.file.has_failed() {
+                break 'parts;
+            }
+            match parts.ring.pop() {
+                Ok(part) => ahead.append(&part),
+                Err(_) => {
+                    if parts.bell.recv(rt).is_err() {
+                        break 'parts;
+                    }
+                }
+            }
         }
-        (Some(file), _) => desk.discard(file),
-        (None, _) => {}
+        Appended { ahead, parts }
     }
-    let mut whole = TranscriptPieces {
-        text: TextPieces::new(rt, alloc, transcript),
-    };
-    desk.put_pieces(name, &mut whole)
 }

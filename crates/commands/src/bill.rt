@@ -17,7 +17,7 @@ use crate::metered::read_metered;
 use crate::source::Source;
 use billing_read::{bills_of, bills_text};
 use command_words::{BillWords, Outcome, Period};
-use desk_outside::Desk;
+use desk_outside::{Desk, Readers};
 use group_plan::{Plan, Readings};
 use std::alloc::{AllocError, Global};
 use std::thread::Threads;
@@ -110,6 +110,7 @@ pub fn bill<'a, R: Threads + Sync, D: Desk>(
     let file = NewFile {
         name: files.bills,
         source: Source::Bytes(made.text.as_slice()),
+        readers: Readers::Any,
     };
     put_one(rt, alloc, file, line.as_bytes(), desk)
 }

@@ -8,7 +8,7 @@ ghost use Rattle.command_words.specs.Outcomes.{IsFault};
 use crate::desk_calls::{NewFile, fetch, put_one};
 use crate::source::Source;
 use command_words::{ConvertFiles, Outcome};
-use desk_outside::Desk;
+use desk_outside::{Desk, Readers};
 use std::alloc::{AllocError, Global};
 use std::thread::Threads;
 use transcript_text::{ReadError, read_old};
@@ -47,6 +47,7 @@ pub fn convert<'a, R: Threads + Sync, D: Desk>(
     let file = NewFile {
         name: files.transcript,
         source: Source::Transcript(&transcript),
+        readers: Readers::Any,
     };
     put_one(rt, alloc, file, line.as_bytes(), desk)
 }

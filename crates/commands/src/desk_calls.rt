@@ -1,21 +1,16 @@
 //! The calls of a command on the desk: fetches at its beginning, puts and a said line at its end.
 
-ghost use Rattle.std.specs.Prelude.{◌≡◌, ◌≤◌, ◌++◌, [], ◌∷◌, IfErr, OnOk, IsErrOf};
-ghost use Rattle.desk_outside.specs.Desk.{Rose, PutEnds};
-ghost use Rattle.transcript_text.specs.Spelling.{transcript_text};
-ghost use Rattle.tick_run.specs.Recorded.{IsRecorded};
-ghost use Rattle.commands.specs.Ahead.{IsAhead};
-ghost use Rattle.commands.specs.Calls.{OneFetched, TwoFetched, putting, PutsEnd};
+ghost use Rattle.std.specs.Prelude.{◌≡◌, ◌≤◌, ◌⊎◌, ◌++◌, ℕ, List, [], ◌∷◌, true, IfOk, IfErr};
+ghost use Rattle.desk_outside.specs.Desk.{Rose};
+ghost use Rattle.commands.specs.Calls.{OneFetched, TwoFetched, putting, PutsEnd, Committed, IsAmong, Unwritable};
 ghost use Rattle.command_words.specs.Outcomes.{IsFault};
 ghost use Rattle.commands.specs.Sources.{source_bytes};
 
-use crate::ahead::{Ahead, put_transcript};
 use crate::source::{Source, TranscriptPieces};
 use command_words::Outcome;
-use desk_outside::{BegunFile, Desk, DeskError, FetchError};
-use std::alloc::Global;
+use desk_outside::{BegunFile, Desk, DeskError, FetchError, Pieces, Readers, Slice};
+use std::alloc::{AllocError, Global};
 use std::thread::Threads;
-use transcript_log::Transcript;
 use transcript_text::TextPieces;
 
 /// The most bytes that a file may have.
@@ -73,32 +68,153 @@ pub fn say<'a, D: Desk>(line: &[u8], desk: &mut D) -> Outcome<'a>
     }
 }
 
-/// A file to put: its name, and where its bytes come from.
+/// A file to put: its name, where its bytes come from, and who may read it.
 #[derive(Clone, Copy)]
 pub struct NewFile<'a, 'b> {
     pub name: &'a str,
     pub source: Source<'b>,
+    pub readers: Readers,
 }
 
-/// Puts a file.
-fn put<R: Threads + Sync, D: Desk>(
+/// A file that the desk has begun, with the command's name of it.
+#[derive(Drop)]
+pub struct Begun<'a, B: BegunFile + Drop> {
+    pub name: &'a str,
+    pub file: B,
+    ghost named: { B.name file ≡ name.now },
+}
+
+impl<B: BegunFile + Drop> Begun<'_, B> {
+    /// Appends the bytes that are still to come.
+    pub fn append<P: Pieces>(&mut self, pieces: &mut P)
+        requires { P.ready pieces.old }
+        ensures name { self.new.name.now ≡ self.old.name.now }
+        ensures has { (bytes : List ℕ) → B.has self.old.file bytes → B.has self.new.file (bytes ++ P.rest pieces.old) }
+        ensures remembers { B.failed self.old.file ≡ true → B.failed self.new.file ≡ true }
+    {
+        self.file.append(pieces);
+    }
+
+    /// Appends the bytes of a source.
+    pub fn append_source<R: Threads + Sync>(&mut self, rt: &R, alloc: Global, source: Source<'_>)
+        ensures name { self.new.name.now ≡ self.old.name.now }
+        ensures has { (bytes : List ℕ) → B.has self.old.file bytes → B.has self.new.file (bytes ++ source_bytes source.entry) }
+        ensures remembers { B.failed self.old.file ≡ true → B.failed self.new.file ≡ true }
+    {
+        match source {
+            Source::Bytes(rest) => self.append(&mut Slice { rest }),
+            Source::Transcript(transcript) => {
+                let mut pieces = TranscriptPieces {
+                    text: TextPieces::new(rt, alloc, transcript),
+                };
+                self.append(&mut pieces);
+            }
+        }
+    }
+
+    /// Has all its bytes on the disk. Whether that failed, or something before it.
+    fn fails_to_flush(&mut self) -> bool
+        ensures name { self.new.name.now ≡ self.old.name.now }
+        ensures has { (bytes : List ℕ) → B.has self.old.file bytes → B.has self.new.file bytes }
+        ensures remembers { B.failed self.old.file ≡ true → B.failed self.new.file ≡ true }
+        ensures fails { result ≡ B.failed self.new.file }
+    {
+        self.file.flush().is_err()
+    }
+}
+
+/// Begins a file for a command.
+pub fn begin<'a, B: BegunFile + Drop, D: Desk<Begun = B>>(
+    name: &'a str,
+    readers: Readers,
+    desk: &mut D,
+) -> Result<Begun<'a, B>, AllocError>
+    ensures same_view { D.view desk.new ≡ D.view desk.old }
+    ensures same_faults { D.faults desk.new ≡ D.faults desk.old }
+    ensures begun { IfOk result (λ begun. (begun.name.now ≡ name.now) × B.has begun.file []) }
+{
+    let file = desk.begin(name, readers)?;
+    Ok(Begun { name, file })
+}
+
+/// Commits a file, or says how the command ends.
+fn commit<'a, B: BegunFile + Drop, D: Desk<Begun = B>>(
+    begun: Begun<'a, B>,
+    desk: &mut D,
+) -> Result<(), Outcome<'a>>
+    ensures ends { Committed (B.has begun.entry.file) (B.failed begun.entry.file) begun.entry.name.now (D.view desk.old) (D.view desk.new) result }
+    ensures later { D.faults desk.old ≤ D.faults desk.new }
+    ensures cause { IfErr result (λ outcome. IsFault outcome → Rose (D.faults desk.old) (D.faults desk.new)) }
+{
+    let Begun { name, file } = begun;
+    match desk.commit(file) {
+        Ok(()) => Ok(()),
+        Err(DeskError::Failed) => Err(Outcome::CannotWrite(name)),
+        Err(DeskError::Memory) => Err(Outcome::NoMemory),
+    }
+}
+
+/// Says that a file that has failed can't be written.
+pub fn commit_failed<'a, B: BegunFile + Drop, D: Desk<Begun = B>>(
+    begun: Begun<'a, B>,
+    desk: &mut D,
+) -> Outcome<'a>
+    requires { B.failed begun.file ≡ true }
+    ensures ends { (names : List (List ℕ)) → IsAmong begun.entry.name.now names → Unwritable names (D.view desk.old) (D.view desk.new) result }
+    ensures later { D.faults desk.old ≤ D.faults desk.new }
+    ensures cause { IsFault result → Rose (D.faults desk.old) (D.faults desk.new) }
+{
+    match commit(begun, desk) {
+        Ok(()) => unreachable!(),
+        Err(outcome) => outcome,
+    }
+}
+
+/// Commits a file and then says a line.
+pub fn commit_one<'a, B: BegunFile + Drop, D: Desk<Begun = B>>(
+    begun: Begun<'a, B>,
+    line: &[u8],
+    desk: &mut D,
+) -> Outcome<'a>
+    ensures ends { (bytes : List ℕ) → B.has begun.entry.file bytes → PutsEnd (putting begun.entry.name.now bytes ∷ []) line.now (D.view desk.old) (D.view desk.new) result }
+    ensures later { D.faults desk.old ≤ D.faults desk.new }
+    ensures cause { IsFault result → Rose (D.faults desk.old) (D.faults desk.new) }
+{
+    match commit(begun, desk) {
+        Ok(()) => say(line, desk),
+        Err(outcome) => outcome,
+    }
+}
+
+/// Appends the bytes of a source to the second of two files, commits both, one after the other, once both are on the disk, and then says a
+/// line. Where either of them has failed, neither is committed. A first file that is a pipe is closed before the second gets its bytes.
+pub fn commit_two<'a, R: Threads + Sync, B: BegunFile + Drop, D: Desk<Begun = B>>(
     rt: &R,
     alloc: Global,
-    file: NewFile<'_, '_>,
+    first: Begun<'a, B>,
+    second: Begun<'a, B>,
+    source: Source<'_>,
+    line: &[u8],
     desk: &mut D,
-) -> Result<(), DeskError>
-    ensures ends { PutEnds file.entry.name.now (source_bytes file.entry.source) (D.view desk.old) (D.view desk.new) result }
+) -> Outcome<'a>
+    ensures ends { (one : List ℕ) → B.has first.entry.file one → B.has second.entry.file []
+        → PutsEnd (putting first.entry.name.now one ∷ putting second.entry.name.now (source_bytes source.entry) ∷ []) line.now (D.view desk.old) (D.view desk.new) result }
+    ensures neither { (B.failed first.entry.file ≡ true) ⊎ (B.failed second.entry.file ≡ true)
+        → Unwritable (first.entry.name.now ∷ second.entry.name.now ∷ []) (D.view desk.old) (D.view desk.new) result }
     ensures later { D.faults desk.old ≤ D.faults desk.new }
-    ensures cause { IsErrOf result DeskError.Failed → Rose (D.faults desk.old) (D.faults desk.new) }
+    ensures cause { IsFault result → Rose (D.faults desk.old) (D.faults desk.new) }
 {
-    match file.source {
-        Source::Bytes(bytes) => desk.put(file.name, bytes),
-        Source::Transcript(transcript) => {
-            let mut pieces = TranscriptPieces {
-                text: TextPieces::new(rt, alloc, transcript),
-            };
-            desk.put_pieces(file.name, &mut pieces)
-        }
+    let (mut first, mut second) = (first, second);
+    if first.fails_to_flush() {
+        return commit_failed(first, desk);
+    }
+    second.append_source(rt, alloc, source);
+    if second.fails_to_flush() {
+        return commit_failed(second, desk);
+    }
+    match commit(first, desk) {
+        Ok(()) => commit_one(second, line, desk),
+        Err(outcome) => outcome,
     }
 }
 
@@ -114,19 +230,15 @@ pub fn put_one<'a, R: Threads + Sync, D: Desk>(
     ensures later { D.faults desk.old ≤ D.faults desk.new }
     ensures cause { IsFault result → Rose (D.faults desk.old) (D.faults desk.new) }
 {
-    match put(rt, alloc, file, desk) {
-        Ok(()) => {}
-        Err(DeskError::Failed) => return Outcome::CannotWrite(file.name),
-        Err(DeskError::Memory) => return Outcome::NoMemory,
-    }
-    match desk.say(line) {
-        Ok(()) => Outcome::Done,
-        Err(DeskError::Failed) => Outcome::CannotPrint,
-        Err(DeskError::Memory) => Outcome::NoMemory,
-    }
+    let Ok(mut begun) = begin(file.name, file.readers, desk) else {
+        return Outcome::NoMemory;
+    };
+    begun.append_source(rt, alloc, file.source);
+    commit_one(begun, line, desk)
 }
 
-/// Puts two files, one after the other, and then says a line.
+/// Puts two files, or neither, and then says a line. Only where the second can't take its name, once the first has, the first alone
+/// is put.
 pub fn put_two<'a, R: Threads + Sync, D: Desk>(
     rt: &R,
     alloc: Global,
@@ -139,75 +251,12 @@ pub fn put_two<'a, R: Threads + Sync, D: Desk>(
     ensures later { D.faults desk.old ≤ D.faults desk.new }
     ensures cause { IsFault result → Rose (D.faults desk.old) (D.faults desk.new) }
 {
-    match put(rt, alloc, first, desk) {
-        Ok(()) => {}
-        Err(DeskError::Failed) => return Outcome::CannotWrite(first.name),
-        Err(DeskError::Memory) => return Outcome::NoMemory,
-    }
-    match put(rt, alloc, second, desk) {
-        Ok(()) => {}
-        Err(DeskError::Failed) => return Outcome::CannotWrite(second.name),
-        Err(DeskError::Memory) => return Outcome::NoMemory,
-    }
-    match desk.say(line) {
-        Ok(()) => Outcome::Done,
-        Err(DeskError::Failed) => Outcome::CannotPrint,
-        Err(DeskError::Memory) => Outcome::NoMemory,
-    }
-}
-
-/// Puts a transcript of which much may be written ahead, and then says a line.
-pub fn put_ahead<'a, R: Threads + Sync, B: BegunFile + Send + Drop, D: Desk<Begun = B>>(
-    ahead: Ahead<'a, '_, R, B>,
-    transcript: &Transcript,
-    line: &[u8],
-    desk: &mut D,
-) -> Outcome<'a>
-    requires { IsRecorded (IsAhead B.contents ahead.entries ahead.file) transcript.now }
-    ensures ends { PutsEnd (putting ahead.entry.name.now (transcript_text transcript.now) ∷ []) line.now (D.view desk.old) (D.view desk.new) result }
-    ensures later { D.faults desk.old ≤ D.faults desk.new }
-    ensures cause { IsFault result → Rose (D.faults desk.old) (D.faults desk.new) }
-{
-    let name = ahead.name;
-    match put_transcript(ahead, transcript, desk) {
-        Ok(()) => {}
-        Err(DeskError::Failed) => return Outcome::CannotWrite(name),
-        Err(DeskError::Memory) => return Outcome::NoMemory,
-    }
-    match desk.say(line) {
-        Ok(()) => Outcome::Done,
-        Err(DeskError::Failed) => Outcome::CannotPrint,
-        Err(DeskError::Memory) => Outcome::NoMemory,
-    }
-}
-
-/// Puts a transcript of which much may be written ahead, then another file, and then says a line.
-pub fn put_run<'a, R: Threads + Sync, B: BegunFile + Send + Drop, D: Desk<Begun = B>>(
-    ahead: Ahead<'a, '_, R, B>,
-    transcript: &Transcript,
-    second: NewFile<'a, '_>,
-    line: &[u8],
-    desk: &mut D,
-) -> Outcome<'a>
-    requires { IsRecorded (IsAhead B.contents ahead.entries ahead.file) transcript.now }
-    ensures ends { PutsEnd (putting ahead.entry.name.now (transcript_text transcript.now) ∷ putting second.entry.name.now (source_bytes second.entry.source) ∷ []) line.now (D.view desk.old) (D.view desk.new) result }
-    ensures later { D.faults desk.old ≤ D.faults desk.new }
-    ensures cause { IsFault result → Rose (D.faults desk.old) (D.faults desk.new) }
-{
-    let (rt, alloc, name) = (ahead.rt, ahead.alloc, ahead.name);
-    match put_transcript(ahead, transcript, desk) {
-        Ok(()) => {}
-        Err(DeskError::Failed) => return Outcome::CannotWrite(name),
-        Err(DeskError::Memory) => return Outcome::NoMemory,
-    }
-    match put(rt, alloc, second, desk) {
-        Ok(()) => {}
-        Err(DeskError::Failed) => return Outcome::CannotWrite(second.name),
-        Err(DeskError::Memory) => return Outcome::NoMemory,
-    }
-    match desk.say(line) {
-        Ok(()) => Outcome::Done,
-        Err(DeskError::Failed) => Outcome::CannotPrint,
-        Err(DeskError::Memory) => Outcome::NoMemory,
-    }
+    let Ok(mut one) = begin(first.name, first.readers, desk) else {
+        return Outcome::NoMemory;
+    };
+    let Ok(two) = begin(second.name, second.readers, desk) else {
+        return Outcome::NoMemory;
+    };
+    one.append_source(rt, alloc, first.source);
+    commit_two(rt, alloc, one, two, second.source, line, desk)
 }

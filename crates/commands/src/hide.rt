@@ -15,7 +15,7 @@ use crate::metered::read_metered;
 use crate::source::Source;
 use billing_read::{Partner, other_world, partner};
 use command_words::{HideWords, Outcome, Place};
-use desk_outside::Desk;
+use desk_outside::{Desk, Readers};
 use group_plan::{Plan, Readings};
 use plan_files::write_readings;
 use std::alloc::{AllocError, Global};
@@ -212,6 +212,8 @@ pub fn hide<'a, R: Threads + Sync, D: Desk>(
     let file = NewFile {
         name: files.other,
         source: Source::Bytes(hidden.text.as_slice()),
+        // All readings but a few stand in it as they are.
+        readers: Readers::Owner,
     };
     put_one(rt, alloc, file, line.as_bytes(), desk)
 }

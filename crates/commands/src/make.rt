@@ -10,7 +10,7 @@ ghost use Rattle.command_words.specs.Outcomes.{IsFault};
 use crate::desk_calls::{NewFile, put_two};
 use crate::source::Source;
 use command_words::{MakeWords, Outcome};
-use desk_outside::Desk;
+use desk_outside::{Desk, Readers};
 use load_maker::{MakeError, make as make_files};
 use std::alloc::{AllocError, Global};
 use std::thread::Threads;
@@ -47,10 +47,13 @@ pub fn make<'a, R: Threads + Sync, D: Desk>(
     let plan = NewFile {
         name: words.plan,
         source: Source::Bytes(made.plan.as_slice()),
+        // It has keys.
+        readers: Readers::Owner,
     };
     let readings = NewFile {
         name: words.readings,
         source: Source::Bytes(made.readings.as_slice()),
+        readers: Readers::Any,
     };
     put_two(rt, alloc, plan, readings, line.as_bytes(), desk)
 }

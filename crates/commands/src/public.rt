@@ -10,7 +10,7 @@ ghost use Rattle.commands.specs.Ends.{public_line, PublicRefuses, PublicEnds};
 use crate::desk_calls::{NewFile, fetch, put_one};
 use crate::source::Source;
 use command_words::{Outcome, PublicFiles};
-use desk_outside::Desk;
+use desk_outside::{Desk, Readers};
 use group_plan::Plan;
 use plan_files::{FileCause, PlanFile, read_plan};
 use std::alloc::{AllocError, Global};
@@ -99,6 +99,7 @@ pub fn public<'a, R: Threads + Sync, D: Desk>(
     let new = NewFile {
         name: files.public,
         source: Source::Bytes(text.as_slice()),
+        readers: Readers::Any,
     };
     put_one(rt, alloc, new, line.as_bytes(), desk)
 }

@@ -1,26 +1,27 @@
 //! The command `run`.
 
-ghost use Rattle.std.specs.Prelude.{◌≤◌, map};
+ghost use Rattle.std.specs.Prelude.{◌≡◌, ◌≤◌, ◌⊎◌, [], ◌∷◌, true, map};
 ghost use Rattle.desk_outside.specs.Desk.{Rose};
 ghost use Rattle.command_words.specs.Words.{names_of};
+ghost use Rattle.commands.specs.Calls.{Unwritable};
 ghost use Rattle.commands.specs.Ends.{RunEnds};
 ghost use Rattle.command_words.specs.Outcomes.{IsFault};
 
 use crate::ahead::Ahead;
-use crate::desk_calls::{NewFile, fetch_two, put_run};
+use crate::desk_calls::{Begun, begin, commit_failed, commit_two, fetch_two};
 use crate::run_ahead::{RunAhead, run_ahead};
 use crate::source::Source;
 use crate::texts::{Refusal, RunInput};
 use collector_workers::Gate;
 use command_words::{Outcome, RunWords};
-use desk_outside::Desk;
+use desk_outside::{BegunFile, Desk, Readers};
 use link_lanes::Lane;
 use std::alloc::Global;
 use std::sync::Wait;
 use std::thread::Threads;
 
-/// Fetches the plan and the readings, runs, puts the transcript and then the report, and says the summary. The transcript's file
-/// is begun before the run, so that much of it is written while the run goes on.
+/// Fetches the plan and the readings, runs, puts the transcript and then the report, and says the summary. Both files are begun
+/// before the run, so that a name that can't be written is found then, and much of the transcript is written while the run goes on.
 pub fn run<'a, R: Threads + Wait + Sync, D: Desk, G: Gate>(
     rt: &R,
     alloc: Global,
@@ -40,30 +41,51 @@ pub fn run<'a, R: Threads + Wait + Sync, D: Desk, G: Gate>(
         Ok(bytes) => bytes,
         Err(outcome) => return outcome,
     };
-    let begun = Ahead::begin(rt, alloc, files.transcript, desk);
+    let Ok(transcript) = begin(files.transcript, Readers::Any, desk) else {
+        return Outcome::NoMemory;
+    };
+    let Ok(report) = begin(files.report, Readers::Any, desk) else {
+        return Outcome::NoMemory;
+    };
     let input = RunInput {
         plan,
         readings,
         cupboard,
         workers: words.workers,
+        is_writable: !transcript.file.has_failed() && !report.file.has_failed(),
     };
+    let begun = Ahead::new(rt, alloc, transcript);
     let RunAhead { ahead, texts } = run_ahead(rt, alloc, input, gate, begun);
     let texts = match texts {
         Ok(texts) => texts,
-        Err(refusal) => {
-            ahead.discard(desk);
-            return match refusal {
-                Refusal::Plan(fault) => Outcome::BadPlan(files.plan, fault),
-                Refusal::Lane(fault) => Outcome::BadLane(fault),
-                Refusal::Readings(fault) => Outcome::BadReadings(files.readings, fault),
-                Refusal::Memory => Outcome::NoMemory,
-            };
-        }
+        Err(refusal) => match refusal {
+            Refusal::Plan(fault) => return Outcome::BadPlan(files.plan, fault),
+            Refusal::Lane(fault) => return Outcome::BadLane(fault),
+            Refusal::Readings(fault) => return Outcome::BadReadings(files.readings, fault),
+            Refusal::Unwritable => return first_failed(ahead.begun, report, desk),
+            Refusal::Memory => return Outcome::NoMemory,
+        },
     };
-    let report = NewFile {
-        name: files.report,
-        source: Source::Bytes(texts.report.as_slice()),
-    };
+    let transcript = ahead.finished(&texts.transcript);
+    let report_bytes = Source::Bytes(texts.report.as_slice());
     let line = texts.summary.as_slice();
-    put_run(ahead, &texts.transcript, report, line, desk)
+    commit_two(rt, alloc, transcript, report, report_bytes, line, desk)
+}
+
+/// Says which of two files has failed, the first one before the second, and can't be written.
+fn first_failed<'a, B: BegunFile + Drop, D: Desk<Begun = B>>(
+    first: Begun<'a, B>,
+    second: Begun<'a, B>,
+    desk: &mut D,
+) -> Outcome<'a>
+    requires { (B.failed first.file ≡ true) ⊎ (B.failed second.file ≡ true) }
+    ensures ends { Unwritable (first.entry.name.now ∷ second.entry.name.now ∷ []) (D.view desk.old) (D.view desk.new) result }
+    ensures later { D.faults desk.old ≤ D.faults desk.new }
+    ensures cause { IsFault result → Rose (D.faults desk.old) (D.faults desk.new) }
+{
+    if first.file.has_failed() {
+        commit_failed(first, desk)
+    } else {
+        commit_failed(second, desk)
+    }
 }

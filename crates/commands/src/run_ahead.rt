@@ -1,6 +1,6 @@
 //! A run, whose transcript a thread writes ahead.
 
-ghost use Rattle.std.specs.Prelude.{◌≡◌, ◌≤◌, ◌^◌, [], length, map, IfOk};
+ghost use Rattle.std.specs.Prelude.{◌≡◌, ◌≤◌, ◌^◌, [], true, length, map, IfOk};
 ghost use Rattle.group_plan.specs.Plans.{PlanView};
 ghost use Rattle.rtrb.specs.Ring.{sent, received};
 ghost use Rattle.rtrb.specs.Ends.{SameRing};
@@ -16,11 +16,10 @@ use crate::texts::{Refusal, RunInput, RunTexts, run_texts};
 use collector_workers::Gate;
 use desk_outside::BegunFile;
 use rtrb::Producer;
-use std::alloc::Global;
+use std::alloc::{AllocError, Global};
 use std::sync::Wait;
 use std::thread;
 use std::thread::Threads;
-use tick_run::Nobody;
 use transcript_log::Transcript;
 
 /// What a run came to, and the parts that were passed on.
@@ -44,7 +43,7 @@ fn run_and_tell<R: Threads + Wait + Sync, G: Gate>(
     requires fresh { sent parts.ring ≡ [] }
     ensures same { SameRing parts.entry.ring.end result.ring.end }
     ensures told { IfOk result.texts (λ kept. IsRecorded (AreParts (sent result.ring)) kept.transcript) }
-    ensures texts { TextsEnd (map (λ b. meaning b) input.cupboard.items) input.plan.items input.readings.items result.texts }
+    ensures texts { TextsEnd (map (λ b. meaning b) input.cupboard.items) input.plan.items input.readings.items input.is_writable result.texts }
 {
     let mut parts = parts;
     let texts = run_texts(rt, alloc, input, gate, &mut parts);
@@ -63,27 +62,7 @@ pub struct RunAhead<'n, 'r, R, B: BegunFile + Drop> {
     pub texts: Result<RunTexts, Refusal>,
 }
 
-/// Runs, and writes nothing ahead.
-fn run_alone<'n, 'r, R: Threads + Wait + Sync, G: Gate, B: BegunFile + Send + Drop>(
-    rt: &R,
-    alloc: Global,
-    input: RunInput,
-    gate: &G,
-    ahead: Ahead<'n, 'r, R, B>,
-) -> RunAhead<'n, 'r, R, B>
-    requires plan { length input.plan.items ≤ 2 ^ 28 }
-    requires readings { length input.readings.items ≤ 2 ^ 28 }
-    requires workers { (1 ≤ input.workers) × (input.workers ≤ 16) }
-    requires empty { (plan : PlanView) → IsAhead B.contents ahead.entries ahead.file (no_entries plan) }
-    ensures name { result.ahead.name.now ≡ ahead.entry.name.now }
-    ensures recorded { IfOk result.texts (λ kept. IsRecorded (IsAhead B.contents result.ahead.entries result.ahead.file) kept.transcript) }
-    ensures texts { TextsEnd (map (λ b. meaning b) input.cupboard.items) input.plan.items input.readings.items result.texts }
-{
-    let texts = run_texts(rt, alloc, input, gate, &mut Nobody);
-    RunAhead { ahead, texts }
-}
-
-/// Runs, while a thread writes the entries of the run to the file as they come.
+/// Runs, while a thread writes what the run passes on.
 fn run_beside<'n, 'r, R: Threads + Wait + Sync, G: Gate, B: BegunFile + Send + Drop>(
     rt: &R,
     alloc: Global,
@@ -98,19 +77,21 @@ fn run_beside<'n, 'r, R: Threads + Wait + Sync, G: Gate, B: BegunFile + Send + D
     requires workers { (1 ≤ input.workers) × (input.workers ≤ 16) }
     requires pair { SameRing out.ring.end into.ring.end }
     requires sent { sent out.ring ≡ [] }
-    requires written { IsOfParts (IsAhead B.contents ahead.entries ahead.file) (received into.ring) }
-    ensures name { result.ahead.name.now ≡ ahead.entry.name.now }
-    ensures recorded { IfOk result.texts (λ kept. IsRecorded (IsAhead B.contents result.ahead.entries result.ahead.file) kept.transcript) }
-    ensures texts { TextsEnd (map (λ b. meaning b) input.cupboard.items) input.plan.items input.readings.items result.texts }
+    requires written { IsOfParts (IsAhead B.has ahead.begun.file ahead.entries) (received into.ring) }
+    ensures name { result.ahead.begun.name.now ≡ ahead.entry.begun.name.now }
+    ensures remembers { B.failed ahead.entry.begun.file ≡ true → B.failed result.ahead.begun.file ≡ true }
+    ensures recorded { IfOk result.texts (λ kept. IsRecorded (IsAhead B.has result.ahead.begun.file result.ahead.entries) kept.transcript) }
+    ensures texts { TextsEnd (map (λ b. meaning b) input.cupboard.items) input.plan.items input.readings.items input.is_writable result.texts }
 {
     let (appended, told) = thread::join(
         rt,
         move || -> Appended<'_, '_, R, B>
-            requires { IsOfParts (IsAhead B.contents ahead.entries ahead.file) (received into.ring) }
-            ensures name { result.ahead.name.now ≡ ahead.entry.name.now }
+            requires { IsOfParts (IsAhead B.has ahead.begun.file ahead.entries) (received into.ring) }
+            ensures name { result.ahead.begun.name.now ≡ ahead.entry.begun.name.now }
+            ensures remembers { B.failed ahead.entry.begun.file ≡ true → B.failed result.ahead.begun.file ≡ true }
             ensures same { SameRing into.ring.end result.parts.ring.end }
-            ensures written { IsOfParts (IsAhead B.contents result.ahead.entries result.ahead.file) (received result.parts.ring) }
-        { ahead.append_and_flush(into) },
+            ensures written { IsOfParts (IsAhead B.has result.ahead.begun.file result.ahead.entries) (received result.parts.ring) }
+        { ahead.append_all(into) },
         move || -> Told
             requires plan { length input.plan.items ≤ 2 ^ 28 }
             requires readings { length input.readings.items ≤ 2 ^ 28 }
@@ -118,7 +99,7 @@ fn run_beside<'n, 'r, R: Threads + Wait + Sync, G: Gate, B: BegunFile + Send + D
             requires fresh { sent out.ring ≡ [] }
             ensures same { SameRing out.entry.ring.end result.ring.end }
             ensures told { IfOk result.texts (λ kept. IsRecorded (AreParts (sent result.ring)) kept.transcript) }
-            ensures texts { TextsEnd (map (λ b. meaning b) input.cupboard.items) input.plan.items input.readings.items result.texts }
+            ensures texts { TextsEnd (map (λ b. meaning b) input.cupboard.items) input.plan.items input.readings.items input.is_writable result.texts }
         { run_and_tell(rt, alloc, input, gate, out) },
     );
     let Appended { ahead, mut parts } = appended;
@@ -127,7 +108,7 @@ fn run_beside<'n, 'r, R: Threads + Wait + Sync, G: Gate, B: BegunFile + Send + D
     RunAhead { ahead, texts }
 }
 
-/// Runs. Where the file is begun, a thread writes the entries of the run to it as they come.
+/// Runs, while a thread writes the entries of the run to the file as they come.
 pub fn run_ahead<'n, 'r, R: Threads + Wait + Sync, G: Gate, B: BegunFile + Send + Drop>(
     rt: &R,
     alloc: Global,
@@ -138,16 +119,17 @@ pub fn run_ahead<'n, 'r, R: Threads + Wait + Sync, G: Gate, B: BegunFile + Send 
     requires plan { length input.plan.items ≤ 2 ^ 28 }
     requires readings { length input.readings.items ≤ 2 ^ 28 }
     requires workers { (1 ≤ input.workers) × (input.workers ≤ 16) }
-    requires empty { (plan : PlanView) → IsAhead B.contents ahead.entries ahead.file (no_entries plan) }
-    ensures name { result.ahead.name.now ≡ ahead.entry.name.now }
-    ensures recorded { IfOk result.texts (λ kept. IsRecorded (IsAhead B.contents result.ahead.entries result.ahead.file) kept.transcript) }
-    ensures texts { TextsEnd (map (λ b. meaning b) input.cupboard.items) input.plan.items input.readings.items result.texts }
+    requires empty { (plan : PlanView) → IsAhead B.has ahead.begun.file ahead.entries (no_entries plan) }
+    ensures name { result.ahead.begun.name.now ≡ ahead.entry.begun.name.now }
+    ensures remembers { B.failed ahead.entry.begun.file ≡ true → B.failed result.ahead.begun.file ≡ true }
+    ensures recorded { IfOk result.texts (λ kept. IsRecorded (IsAhead B.has result.ahead.begun.file result.ahead.entries) kept.transcript) }
+    ensures texts { TextsEnd (map (λ b. meaning b) input.cupboard.items) input.plan.items input.readings.items input.is_writable result.texts }
 {
-    if !ahead.is_writing() {
-        return run_alone(rt, alloc, input, gate, ahead);
-    }
     match parts_way(rt, alloc) {
         Ok((out, into)) => run_beside(rt, alloc, input, gate, ahead, out, into),
-        Err(_) => run_alone(rt, alloc, input, gate, ahead),
+        Err(AllocError) => RunAhead {
+            ahead,
+            texts: Err(Refusal::Memory),
+        },
     }
 }

@@ -24,6 +24,8 @@ pub struct RunInput {
     pub readings: Vec<u8>,
     pub cupboard: Vec<Box<dyn Lane>>,
     pub workers: u32,
+    /// Whether all names that the texts go to can be written. Where one can't, nothing is run.
+    pub is_writable: bool,
 }
 
 /// The texts of a run. That of the transcript is long, and made only as it is put.
@@ -43,6 +45,8 @@ pub enum Refusal {
     Lane(RackError),
     /// The readings file has this fault.
     Readings(FileError),
+    /// The files have no fault, but a name can't be written.
+    Unwritable,
     /// Memory ran out.
     Memory,
 }
@@ -81,13 +85,14 @@ pub fn run_texts<R: Threads + Wait + Sync, G: Gate, W: Recorder>(
     requires keeps { (plan : PlanView) → W.keeps recorder.old (no_entries plan) }
     ensures same { (first : W) → W.same first recorder.old → W.same first recorder.new }
     ensures recorded { IfOk result (λ kept. IsRecorded (W.keeps recorder.new) kept.transcript) }
-    ensures texts { TextsEnd (map (λ b. meaning b) input.cupboard.items) input.plan.items input.readings.items result }
+    ensures texts { TextsEnd (map (λ b. meaning b) input.cupboard.items) input.plan.items input.readings.items input.is_writable result }
 {
     let RunInput {
         plan,
         readings: table,
         cupboard,
         workers,
+        is_writable,
     } = input;
     let file = match read_plan(alloc, &plan) {
         Ok(file) => file,
@@ -112,6 +117,9 @@ pub fn run_texts<R: Threads + Wait + Sync, G: Gate, W: Recorder>(
         },
     };
     drop(table);
+    if !is_writable {
+        return Err(Refusal::Unwritable);
+    }
     let finished = match run_plan(
         rt, alloc, &file.plan, &readings, &file.keys, &mut rack, workers, gate, recorder,
     ) {

@@ -12,7 +12,7 @@ ghost use Rattle.command_words.specs.Words.{TwinNames};
 use crate::desk_calls::{NewFile, fetch_two, put_one};
 use crate::source::Source;
 use command_words::{Outcome, TwinFiles};
-use desk_outside::Desk;
+use desk_outside::{Desk, Readers};
 use ideal_masks::Differ;
 use plan_files::{FileCause, read_plan, read_readings};
 use std::alloc::{AllocError, Global};
@@ -171,6 +171,8 @@ pub fn twin<'a, R: Threads + Sync, D: Desk>(
     let file = NewFile {
         name: files.masks,
         source: Source::Bytes(text.as_slice()),
+        // With the other table it gives the readings away.
+        readers: Readers::Owner,
     };
     put_one(rt, alloc, file, line.as_bytes(), desk)
 }

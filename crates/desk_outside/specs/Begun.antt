@@ -1,18 +1,11 @@
--- What a file that is begun ahead of its bytes has.
-use Rattle.std.specs.Prelude.{◌≡◌, ℕ, List, ◌++◌, Option, Some, None, Result, ⊤}
-use Rattle.std.specs.Option.{option_map}
+-- What a commit of a file that was begun leaves.
+use Rattle.std.specs.Prelude.{◌≡◌, ℕ, Bool, false, List, Result, Ok, Err}
 use Rattle.desk_outside.specs.declared.desk.DeskError.{DeskError}
-use Rattle.desk_outside.specs.Desk.{View, PutEnds}
+use Rattle.desk_outside.specs.declared.desk.DeskError.TheVariants.{Failed, Memory}
+use Rattle.desk_outside.specs.Desk.{View, Stored, Unstored, after_step}
 
--- the file has these bytes, where that is told
-abbrev pub Has : Option (List ℕ) → List ℕ → Type 0
-Has None bytes = ⊤
-Has (Some told) bytes = told ≡ bytes
-
--- what it has with more at its end, where that is told
-abbrev pub grown : Option (List ℕ) → List ℕ → Option (List ℕ)
-grown told more = option_map (λ bytes. bytes ++ more) told
-
--- what a put of it leaves, with the last bytes at its end: what a put of all its bytes does
-abbrev pub BegunPutEnds : List ℕ → Option (List ℕ) → List ℕ → View → View → Result (Unit {0}) DeskError → Type 0
-BegunPutEnds name told last v w result = (bytes : List ℕ) → Has told bytes → PutEnds name (bytes ++ last) v w result
+-- nothing of the file had failed and its bytes are put, or else the name holds what it held
+abbrev pub CommitEnds : (has : List ℕ → Type 0) (has_failed : Bool) (name : List ℕ) → View → View → Result (Unit {0}) DeskError → Type 0
+CommitEnds has has_failed name v w (Ok done) = (has_failed ≡ false) × ((bytes : List ℕ) → has bytes → w ≡ after_step v (Stored name bytes))
+CommitEnds has has_failed name v w (Err Failed) = w ≡ after_step v (Unstored name)
+CommitEnds has has_failed name v w (Err Memory) = w ≡ v

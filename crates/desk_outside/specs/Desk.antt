@@ -84,12 +84,6 @@ FetchEnds name most v w (Err FetchFailed) = w ≡ after_step v (Fetched name tru
 FetchEnds name most v w (Err (FetchTooLong seen)) = (w ≡ after_step v (Fetched name false)) × (seen ≡ most + 1) × IsLonger (v.held name) most
 FetchEnds name most v w (Err FetchMemory) = w ≡ v
 
--- what a put leaves: the bytes, or after a failure the old ones
-abbrev pub PutEnds : List ℕ → List ℕ → View → View → Result (Unit {0}) DeskError → Type 0
-PutEnds name bytes v w (Ok done) = w ≡ after_step v (Stored name bytes)
-PutEnds name bytes v w (Err Failed) = w ≡ after_step v (Unstored name)
-PutEnds name bytes v w (Err Memory) = w ≡ v
-
 -- what a say leaves: the bytes appended, or after a failure a prefix of them
 abbrev pub SayEnds : List ℕ → View → View → Result (Unit {0}) DeskError → Type 0
 SayEnds bytes v w (Ok done) = w ≡ after_step v (Said bytes false)

@@ -26,9 +26,9 @@ after_place v name bytes = record v { held = stored v.held name bytes }
 abbrev pub begun_name : BegunInMemory → List ℕ
 begun_name file = string_bytes file.name
 
--- what a begun file has
-abbrev pub begun_bytes : BegunInMemory → List ℕ
-begun_bytes file = file.bytes.items
+-- a begun file has these bytes, unless memory ran out
+abbrev pub has_bytes : BegunInMemory → List ℕ → Type 0
+has_bytes file bytes = file.has_failed ≡ false → file.bytes.items ≡ bytes
 
 -- how often its calls have failed
 abbrev pub faults_of : MemoryDesk → ℕ

@@ -1,33 +1,46 @@
-//! New files that a desk has begun ahead of their bytes.
+//! New files that a desk has begun.
 
-ghost use Rattle.std.specs.Prelude.{◌≡◌, ℕ, List, Option, OnOk};
-ghost use Rattle.desk_outside.specs.Begun.{grown};
+ghost use Rattle.std.specs.Prelude.{◌≡◌, ◌++◌, ℕ, List, Bool, true, false, OnOk, OnErr};
 
 use crate::{DeskError, Pieces};
 
-/// Has the bytes of a begun file on the disk, from another thread than that which appends them.
-pub trait FileFlusher {
-    /// Has on the disk what was appended so far.
-    fn flush(&mut self) -> Result<(), DeskError>;
+/// Who may read a new file.
+#[derive(Clone, Copy)]
+pub enum Readers {
+    /// Whoever may read any new file.
+    Any,
+    /// Its owner alone.
+    Owner,
 }
 
-/// A new file that a desk has begun for a name. No name holds it until the desk puts it.
+/// A new file that a desk has begun for a name. No name holds it until the desk commits it, and where it is let go before, nothing
+/// of it stays. It remembers what failed, and then it is not committed.
 pub trait BegunFile {
-    type Flusher: FileFlusher + Send + Drop;
-
     /// The name for which it was begun.
     ghost name: { Self → List ℕ };
 
-    /// The bytes that it has, where that is told.
-    ghost contents: { Self → Option (List ℕ) };
+    /// It has these bytes, where that is told and nothing has failed.
+    ghost has: { Self → List ℕ → Type 0 };
 
-    /// Appends the bytes that are still to come. After an error nothing is known of what the file has.
-    fn append<P: Pieces>(&mut self, pieces: &mut P) -> Result<(), DeskError>
+    /// Whether something has failed.
+    ghost failed: { Self → Bool };
+
+    /// Appends the bytes that are still to come, of which few are in memory at a time.
+    fn append<P: Pieces>(&mut self, pieces: &mut P)
         requires { P.ready pieces.old }
         ensures name { name self.new ≡ name self.old }
-        ensures contents { OnOk result (contents self.new ≡ grown (contents self.old) (P.rest pieces.old)) };
+        ensures has { (bytes : List ℕ) → has self.old bytes → has self.new (bytes ++ P.rest pieces.old) }
+        ensures remembers { failed self.old ≡ true → failed self.new ≡ true };
 
-    /// What has its bytes on the disk while more are appended. None where that can't be had. Where a flush fails, the file is not
-    /// to be put: the desk may not come to know of it.
-    fn flusher(&self) -> Option<Self::Flusher>;
+    /// Has all that was appended on the disk, where nothing has failed.
+    fn flush(&mut self) -> Result<(), DeskError>
+        ensures name { name self.new ≡ name self.old }
+        ensures has { (bytes : List ℕ) → has self.old bytes → has self.new bytes }
+        ensures remembers { failed self.old ≡ true → failed self.new ≡ true }
+        ensures done { OnOk result (failed self.new ≡ false) }
+        ensures fails { OnErr result (failed self.new ≡ true) };
+
+    /// Whether something has failed, so that the file will not be committed.
+    fn has_failed(&self) -> bool
+        ensures { result ≡ failed self.now };
 }

@@ -1,10 +1,10 @@
 //! The outside, as a program sees it.
 
-ghost use Rattle.std.specs.Prelude.{◌≡◌, ◌≤◌, ◌<◌, ◌^◌, ℕ, [], IfOk, IfSome, IsErrOf};
-ghost use Rattle.desk_outside.specs.Begun.{Has, BegunPutEnds};
-ghost use Rattle.desk_outside.specs.Desk.{View, FetchEnds, PutEnds, SayEnds, ComplainEnds, Rose};
+ghost use Rattle.std.specs.Prelude.{◌≡◌, ◌≤◌, ◌<◌, ◌^◌, ℕ, [], IfOk, IsErrOf};
+ghost use Rattle.desk_outside.specs.Begun.{CommitEnds};
+ghost use Rattle.desk_outside.specs.Desk.{View, FetchEnds, SayEnds, ComplainEnds, Rose};
 
-use crate::{BegunFile, Pieces};
+use crate::{BegunFile, Readers};
 use std::alloc::{AllocError, Global};
 use std::marker::Model;
 use thiserror::Error;
@@ -14,7 +14,7 @@ use thiserror::Error;
 pub enum DeskKind {
     /// The bytes under a name were asked for.
     Fetch,
-    /// Bytes were put under a name, at once or in pieces.
+    /// A new file was put under a name.
     Put,
     /// Bytes were printed.
     Say,
@@ -77,7 +77,7 @@ pub enum FetchError {
     Memory,
 }
 
-/// Why a put, a say or a complaint was not done.
+/// Why a put, a say or a complaint was not done. A put is the commit of a file.
 #[derive(Clone, Copy, Debug, PartialEq, Eq, Error)]
 pub enum DeskError {
     /// The outside failed, perhaps after some of the bytes.
@@ -106,41 +106,21 @@ pub trait Desk {
         ensures cause { IsErrOf result FetchError.Failed
             → Rose (faults self.old) (faults self.new) };
 
-    /// Puts the bytes under the name, in place of what it held.
-    fn put(&mut self, name: &str, bytes: &[u8]) -> Result<(), DeskError>
-        ensures ends { PutEnds name.now bytes.now (view self.old) (view self.new) result }
-        ensures later { faults self.old ≤ faults self.new }
-        ensures cause { IsErrOf result DeskError.Failed
-            → Rose (faults self.old) (faults self.new) };
-
-    /// Puts the bytes that are still to come under the name, in place of what it held, and has few of them in memory at a
-    /// time. A put that was not done leaves of the pieces nothing that is known.
-    fn put_pieces<P: Pieces>(&mut self, name: &str, pieces: &mut P) -> Result<(), DeskError>
-        requires { P.ready pieces.old }
-        ensures ends { PutEnds name.now (P.rest pieces.old) (view self.old) (view self.new) result }
-        ensures later { faults self.old ≤ faults self.new }
-        ensures cause { IsErrOf result DeskError.Failed
-            → Rose (faults self.old) (faults self.new) };
-
-    /// Begins a new file for a name, ahead of its bytes. None where that can't be had: a put of the name then tells why.
-    fn begin(&mut self, name: &str) -> Option<Self::Begun>
+    /// Begins a new file for a name, which holds what it held. Where the name can't be written, the file has failed. An error where
+    /// memory runs out.
+    fn begin(&mut self, name: &str, readers: Readers) -> Result<Self::Begun, AllocError>
         ensures same_view { view self.new ≡ view self.old }
         ensures same_faults { faults self.new ≡ faults self.old }
-        ensures begun { IfSome result (λ file. (Self.Begun.name file ≡ name.now) × Has (Self.Begun.contents file) []) };
+        ensures begun { IfOk result (λ file. (Self.Begun.name file ≡ name.now) × Self.Begun.has file []) };
 
-    /// Puts what a begun file has, and then the bytes that are still to come, under its name, in place of what that held.
-    /// Where that was not done the begun file is gone.
-    fn put_begun<P: Pieces>(&mut self, file: Self::Begun, pieces: &mut P) -> Result<(), DeskError>
-        requires { P.ready pieces.old }
-        ensures ends { BegunPutEnds (Self.Begun.name file) (Self.Begun.contents file) (P.rest pieces.old) (view self.old) (view self.new) result }
+    /// Puts what a begun file has under its name, in place of what that held: all of it is on the disk before the name has it. Every
+    /// other name holds what it held. So a file that was fetched, begun or put is not written over by another name that leads to it:
+    /// that commit is answered `Failed`.
+    fn commit(&mut self, file: Self::Begun) -> Result<(), DeskError>
+        ensures ends { CommitEnds (Self.Begun.has file) (Self.Begun.failed file) (Self.Begun.name file) (view self.old) (view self.new) result }
         ensures later { faults self.old ≤ faults self.new }
         ensures cause { IsErrOf result DeskError.Failed
             → Rose (faults self.old) (faults self.new) };
-
-    /// Lets a begun file go. Its name holds what it held.
-    fn discard(&mut self, file: Self::Begun)
-        ensures same_view { view self.new ≡ view self.old }
-        ensures same_faults { faults self.new ≡ faults self.old };
 
     /// Prints the bytes.
     fn say(&mut self, bytes: &[u8]) -> Result<(), DeskError>

@@ -1,15 +1,15 @@
 //! The desk in memory, which tells everything and fails where it is told to.
 
-ghost use Rattle.std.specs.Prelude.{◌≡◌, ◌≤◌, ◌<◌, ◌^◌, ◌||◌, ◌++◌, if◌then◌else◌, ℕ, List, [], true, false, Some, None, OnOk, OnErr, IfSome, IsErrOf};
+ghost use Rattle.std.specs.Prelude.{◌≡◌, ◌≤◌, ◌<◌, ◌^◌, ◌||◌, ◌++◌, if◌then◌else◌, ℕ, List, [], true, false, Some, None, OnOk, OnErr, IfOk, IsErrOf};
 ghost use Rattle.std.specs.Option.{option_copied};
 ghost use Rattle.std.specs.Str.{bytes_eq};
 ghost use Rattle.desk_outside.specs.Parts.{held_in, is_listed};
-ghost use Rattle.desk_outside.specs.Begun.{BegunPutEnds};
-ghost use Rattle.desk_outside.specs.Desk.{FetchEnds, PutEnds, SayEnds, ComplainEnds, Rose, Unstored, Said, Complained, call_of, one_more};
+ghost use Rattle.desk_outside.specs.Begun.{CommitEnds};
+ghost use Rattle.desk_outside.specs.Desk.{FetchEnds, SayEnds, ComplainEnds, Rose, Unstored, Said, Complained, call_of, one_more};
 
-use crate::pieces::{Slice, collected, write_pieces};
+use crate::pieces::write_pieces;
 use crate::{
-    BegunFile, CallName, Desk, DeskCall, DeskError, DeskKind, FetchError, FileFlusher, Pieces,
+    BegunFile, CallName, Desk, DeskCall, DeskError, DeskKind, FetchError, Pieces, Readers,
 };
 use std::alloc::{AllocError, Global};
 use std::collections::BTreeMap;
@@ -85,7 +85,7 @@ impl MemoryDesk {
         ensures err { OnErr result (view_of self.new ≡ view_of self.old) }
         ensures turns { turns_of self.new ≡ turns_of self.old }
     {
-        let bytes = collected(self.alloc, Vec::new(self.alloc), &mut Slice { rest: bytes })?;
+        let bytes = bytes.to_vec(self.alloc)?;
         store(self.alloc, &mut self.files, name, bytes)
     }
 
@@ -128,80 +128,39 @@ impl MemoryDesk {
     }
 }
 
-impl MemoryDesk {
-    ghost use Rattle.desk_outside.specs.Memory.{view_of, faults_of, turns_of, after_turn, is_failing, Fails};
-
-    // Puts these bytes, and then those that are still to come, as one call.
-    #[tactic(auto, unfolding(crate::specs::Desk::after_step))]
-    fn put_after<P: Pieces>(
-        &mut self,
-        name: &str,
-        before: Vec<u8>,
-        pieces: &mut P,
-    ) -> Result<(), DeskError>
-        requires { P.ready pieces.old }
-        ensures ends { PutEnds name.now (before.items ++ P.rest pieces.old) (view_of self.old) (view_of self.new) result }
-        ensures later { faults_of self.old ≤ faults_of self.new }
-        ensures cause { IsErrOf result DeskError.Failed
-            → Rose (faults_of self.old) (faults_of self.new) }
-        ensures fails { Fails (is_failing (turns_of self.old)) (Unstored name.now)
-            (view_of self.old) (view_of self.new) result }
-        ensures turn { turns_of self.new
-            ≡ after_turn (turns_of self.old) (is_failing (turns_of self.old)) }
-    {
-        if self.turns.take(false) {
-            note(self.alloc, &mut self.calls, DeskKind::Put, name, true)?;
-            return Err(DeskError::Failed);
-        }
-        let call = DeskCall {
-            kind: DeskKind::Put,
-            name: CallName::new(self.alloc, name)?,
-            failed: false,
-        };
-        self.calls.reserve(1)?;
-        let bytes = collected(self.alloc, before, pieces)?;
-        store(self.alloc, &mut self.files, name, bytes)?;
-        self.calls.push(call).unwrap();
-        Ok(())
-    }
-}
-
-/// A file that a desk in memory has begun.
+/// A file that a desk in memory has begun. Only want of memory fails it.
 #[derive(Drop)]
 pub struct BegunInMemory {
     alloc: Global,
     name: String,
     bytes: Vec<u8>,
-}
-
-/// Has nothing to do: what lies in memory goes to no disk.
-#[derive(Drop)]
-pub struct NoFlusher;
-
-impl FileFlusher for NoFlusher {
-    fn flush(&mut self) -> Result<(), DeskError> {
-        Ok(())
-    }
+    has_failed: bool,
 }
 
 impl BegunFile for BegunInMemory {
-    type Flusher = NoFlusher;
-
-    ghost use Rattle.desk_outside.specs.Memory.{begun_name, begun_bytes};
+    ghost use Rattle.desk_outside.specs.Memory.{begun_name, has_bytes};
 
     ghost name = { begun_name };
 
-    ghost contents = { λ file. Some (begun_bytes file) };
+    ghost has = { has_bytes };
 
-    fn append<P: Pieces>(&mut self, pieces: &mut P) -> Result<(), DeskError> {
-        match write_pieces(self.alloc, &mut self.bytes, pieces) {
-            Ok(()) => Ok(()),
-            Err(_) => Err(DeskError::Memory),
+    ghost failed = { λ file. file.has_failed };
+
+    fn append<P: Pieces>(&mut self, pieces: &mut P) {
+        if write_pieces(self.alloc, &mut self.bytes, pieces).is_err() {
+            self.has_failed = true;
         }
     }
 
-    fn flusher(&self) -> Option<NoFlusher> {
-        None
+    fn flush(&mut self) -> Result<(), DeskError> {
+        if self.has_failed {
+            return Err(DeskError::Memory);
+        }
+        Ok(())
+    }
+
+    fn has_failed(&self) -> bool {
+        self.has_failed
     }
 }
 
@@ -260,7 +219,7 @@ fn append(
 impl Desk for MemoryDesk {
     type Begun = BegunInMemory;
 
-    ghost use Rattle.desk_outside.specs.Memory.{view_of, faults_of, turns_of, after_turn, is_failing, is_failing_fetch, begun_name, begun_bytes, Fails, FetchFails};
+    ghost use Rattle.desk_outside.specs.Memory.{view_of, faults_of, turns_of, after_turn, is_failing, is_failing_fetch, begun_name, has_bytes, Fails, FetchFails};
 
     ghost view = { view_of };
 
@@ -296,52 +255,22 @@ impl Desk for MemoryDesk {
         }
     }
 
-    fn put(&mut self, name: &str, bytes: &[u8]) -> Result<(), DeskError>
-        ensures ends { PutEnds name.now bytes.now (view_of self.old) (view_of self.new) result }
-        ensures later { faults_of self.old ≤ faults_of self.new }
-        ensures cause { IsErrOf result DeskError.Failed
-            → Rose (faults_of self.old) (faults_of self.new) }
-        ensures fails { Fails (is_failing (turns_of self.old)) (Unstored name.now)
-            (view_of self.old) (view_of self.new) result }
-        ensures turn { turns_of self.new
-            ≡ after_turn (turns_of self.old) (is_failing (turns_of self.old)) }
-    {
-        self.put_pieces(name, &mut Slice { rest: bytes })
-    }
-
-    fn put_pieces<P: Pieces>(&mut self, name: &str, pieces: &mut P) -> Result<(), DeskError>
-        requires { P.ready pieces.old }
-        ensures ends { PutEnds name.now (P.rest pieces.old) (view_of self.old) (view_of self.new) result }
-        ensures later { faults_of self.old ≤ faults_of self.new }
-        ensures cause { IsErrOf result DeskError.Failed
-            → Rose (faults_of self.old) (faults_of self.new) }
-        ensures fails { Fails (is_failing (turns_of self.old)) (Unstored name.now)
-            (view_of self.old) (view_of self.new) result }
-        ensures turn { turns_of self.new
-            ≡ after_turn (turns_of self.old) (is_failing (turns_of self.old)) }
-    {
-        self.put_after(name, Vec::new(self.alloc), pieces)
-    }
-
-    fn begin(&mut self, name: &str) -> Option<BegunInMemory>
+    fn begin(&mut self, name: &str, _readers: Readers) -> Result<BegunInMemory, AllocError>
         ensures same_view { view_of self.new ≡ view_of self.old }
         ensures same_faults { faults_of self.new ≡ faults_of self.old }
-        ensures begun { IfSome result (λ file. (begun_name file ≡ name.now) × (begun_bytes file ≡ [])) }
+        ensures begun { IfOk result (λ file. (begun_name file ≡ name.now) × has_bytes file []) }
         ensures same_turns { turns_of self.new ≡ turns_of self.old }
     {
-        match String::from_str(self.alloc, name) {
-            Ok(name) => Some(BegunInMemory {
-                alloc: self.alloc,
-                name,
-                bytes: Vec::new(self.alloc),
-            }),
-            Err(AllocError) => None,
-        }
+        Ok(BegunInMemory {
+            alloc: self.alloc,
+            name: String::from_str(self.alloc, name)?,
+            bytes: Vec::new(self.alloc),
+            has_failed: false,
+        })
     }
 
-    fn put_begun<P: Pieces>(&mut self, file: BegunInMemory, pieces: &mut P) -> Result<(), DeskError>
-        requires { P.ready pieces.old }
-        ensures ends { BegunPutEnds (begun_name file) (Some (begun_bytes file)) (P.rest pieces.old) (view_of self.old) (view_of self.new) result }
+    fn commit(&mut self, file: BegunInMemory) -> Result<(), DeskError>
+        ensures ends { CommitEnds (has_bytes file) file.has_failed (begun_name file) (view_of self.old) (view_of self.new) result }
         ensures later { faults_of self.old ≤ faults_of self.new }
         ensures cause { IsErrOf result DeskError.Failed
             → Rose (faults_of self.old) (faults_of self.new) }
@@ -354,16 +283,24 @@ impl Desk for MemoryDesk {
             alloc: _,
             name,
             bytes,
+            has_failed,
         } = file;
-        self.put_after(&name, bytes, pieces)
-    }
-
-    fn discard(&mut self, file: BegunInMemory)
-        ensures same_view { view_of self.new ≡ view_of self.old }
-        ensures same_faults { faults_of self.new ≡ faults_of self.old }
-        ensures same_turns { turns_of self.new ≡ turns_of self.old }
-    {
-        drop(file);
+        if self.turns.take(false) {
+            note(self.alloc, &mut self.calls, DeskKind::Put, &name, true)?;
+            return Err(DeskError::Failed);
+        }
+        if has_failed {
+            return Err(DeskError::Memory);
+        }
+        let call = DeskCall {
+            kind: DeskKind::Put,
+            name: CallName::new(self.alloc, &name)?,
+            failed: false,
+        };
+        self.calls.reserve(1)?;
+        store(self.alloc, &mut self.files, &name, bytes)?;
+        self.calls.push(call).unwrap();
+        Ok(())
     }
 
     fn say(&mut self, bytes: &[u8]) -> Result<(), DeskError>

@@ -67,19 +67,3 @@ pub fn write_pieces<W: Write, P: Pieces>(
         out.write_all(&piece)?;
     }
 }
-
-/// These bytes, and after them all that are still to come.
-pub(crate) fn collected<P: Pieces>(
-    alloc: Global,
-    before: Vec<u8>,
-    pieces: &mut P,
-) -> Result<Vec<u8>, AllocError>
-    requires { P.ready pieces.old }
-    ensures { IfOk result (λ bytes. bytes.items ≡ before.items ++ P.rest pieces.old) }
-{
-    let mut bytes = before;
-    match write_pieces(alloc, &mut bytes, pieces) {
-        Ok(()) => Ok(bytes),
-        Err(_) => Err(AllocError),
-    }
-}

@@ -1,11 +1,11 @@
 -- The count of faults of a desk over files, and the names of the files that it has begun.
-use Rattle.std.specs.Prelude.{◌≡◌, ℕ, List, Result, Ok, Err, Vec, string_bytes}
+use Rattle.std.specs.Prelude.{◌≡◌, ℕ, Bool, is_some, List, Result, Ok, Err, Vec, string_bytes}
 use Rattle.std.specs.declared.alloc.Global.{Global}
 use Rattle.desk_outside.specs.declared.desk.FetchError.{FetchError}
 use Rattle.desk_outside.specs.declared.desk.FetchError.TheVariants.{Failed as FetchFailed, TooLong as FetchTooLong, Memory as FetchMemory}
 use Rattle.desk_outside.specs.declared.desk.DeskError.{DeskError}
 use Rattle.desk_outside.specs.declared.desk.DeskError.TheVariants.{Failed, Memory}
-use Rattle.file_desk.specs.declared.files.BegunOnDisk.{BegunOnDisk}
+use Rattle.file_desk.specs.declared.begun.BegunOnDisk.{BegunOnDisk}
 use Rattle.file_desk.specs.declared.files.FileDesk.{FileDesk}
 use Rattle.desk_outside.specs.Desk.{one_more}
 
@@ -14,8 +14,12 @@ abbrev pub faults_of : {R : Type 0} → FileDesk R → ℕ
 faults_of d = d.faults
 
 -- the name for which a file was begun
-abbrev pub begun_name : {R : Type 0} → BegunOnDisk R → List ℕ
+abbrev pub begun_name : {R FilesOfR : Type 0} → BegunOnDisk R FilesOfR → List ℕ
 begun_name file = string_bytes file.name
+
+-- whether something of it has failed
+abbrev pub has_failed : {R FilesOfR : Type 0} → BegunOnDisk R FilesOfR → Bool
+has_failed file = is_some file.error
 
 -- a fetch is counted where it failed, and nowhere else
 abbrev pub CountsFetch : ℕ → ℕ → Result (Vec ℕ Global) FetchError → Type 0

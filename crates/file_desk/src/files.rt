@@ -1,52 +1,88 @@
 //! The desk over files and the standard streams, of which it tells nothing.
 
-ghost use Rattle.std.specs.Prelude.{◌≡◌, ◌≤◌, ◌<◌, ◌^◌, string_bytes, None, IfOk, IfSome, IsErrOf};
-ghost use Rattle.desk_outside.specs.Begun.{BegunPutEnds};
-ghost use Rattle.desk_outside.specs.Desk.{FetchEnds, PutEnds, SayEnds, ComplainEnds, Rose, one_more, untold};
+ghost use Rattle.std.specs.Prelude.{◌≡◌, ◌≤◌, ◌<◌, ◌^◌, string_bytes, false, OnOk, IsErrOf, ⊤};
+ghost use Rattle.desk_outside.specs.Begun.{CommitEnds};
+ghost use Rattle.desk_outside.specs.Desk.{FetchEnds, SayEnds, ComplainEnds, Rose, one_more, untold};
 
-use crate::flow::write_groups;
-use crate::whole::{FileId, NewFile, replace, without_link};
-use desk_outside::{
-    BegunFile, Desk, DeskError, FetchError, FileFlusher, Pieces, Slice, write_pieces,
-};
-use std::alloc::Global;
-use std::fs::{File, OpenFile, OpenOptions, Permissions};
-use std::io::{ErrorKind, Read, Write};
-use std::path::PathBuf;
+use crate::begun::{BegunOnDisk, Place, put_error};
+use crate::parts::{FileId, Part, part_name, take_name};
+use crate::writing::{Group, Tail, start_writer};
+use crossbeam_channel::Sender;
+use desk_outside::{BegunFile, Desk, DeskError, FetchError, Readers};
+use std::alloc::{AllocError, Global};
+use std::fs::{File, Metadata, OpenOptions, Permissions};
+use std::io::{ErrorKind, Read};
+use std::os::unix::fs::PermissionsExt;
+use std::path::{Path, PathBuf};
 use std::rt::Files;
+use std::sync::Wait;
 use std::thread::Threads;
 use std::{fs, io, str};
 
 // The name of standard output.
 const OUTPUT: &str = "/dev/stdout";
 
-/// The desk over files, standard output and standard error. A put leaves a whole file: the new one, or where it failed
-/// what was there. It fails on a file that this desk has fetched, by whatever name, and on a link that leads nowhere.
-/// A name of no regular file, such as a pipe, is written as it is, and so is the file that standard output goes to.
+// How many names of parts are tried.
+const MOST_PARTS: u32 = 100;
+
+// The bits of a mode that are the owner's.
+const OWNER_BITS: u32 = 0o700;
+
+// A path that a begun file will take: its folder, whatever the name that leads there, and the last name in it.
 #[derive(Drop)]
-pub struct FileDesk<'r, R> {
-    rt: &'r R,
+struct BegunPath {
+    folder: FileId,
+    last: String,
+    // The name for which the file was begun.
+    name: String,
+}
+
+// A file that was put, and the name under which it was.
+#[derive(Drop)]
+struct PutFile {
+    file: FileId,
+    name: String,
+}
+
+/// The desk over files, standard output and standard error. A commit leaves a whole file: the new one, or where it failed
+/// what was there. It fails on a file that this desk has fetched, by whatever name, on one that it has begun or put under another
+/// name, and on a link that leads nowhere. A name of no regular file, such as a pipe, is written as it is, and so is the file that
+/// standard output goes to.
+#[derive(Drop)]
+pub struct FileDesk<R> {
+    rt: R,
     alloc: Global,
     fetched: Vec<FileId>,
+    begun: Vec<BegunPath>,
+    put: Vec<PutFile>,
+    // The way to the thread that writes larger files, where there is one.
+    writer: Option<Sender<Group>>,
     faults: u64,
     ghost counted: { faults < 2 ^ 64 },
 }
 
-impl<'r, R: Files<File = File> + Print + Eprint + AllocGlobal + Threads> FileDesk<'r, R> {
-    ghost use Rattle.file_desk.specs.Files.{faults_of, Counts};
+impl<R: AllocGlobal + Threads + Wait + Copy + Send + 'static> FileDesk<R> {
+    ghost use Rattle.file_desk.specs.Files.{faults_of};
 
     /// A desk that has fetched nothing and counts no fault.
-    pub fn new(rt: &'r R) -> FileDesk<'r, R>
+    pub fn new(rt: &R) -> FileDesk<R>
         ensures { faults_of result ≡ 0 }
     {
         let alloc = rt.alloc();
         FileDesk {
-            rt,
+            rt: *rt,
             alloc,
             fetched: Vec::new(alloc),
+            begun: Vec::new(alloc),
+            put: Vec::new(alloc),
+            writer: start_writer(*rt, alloc),
             faults: 0,
         }
     }
+}
+
+impl<R: Files<File = File> + Print + Wait + Copy> FileDesk<R> {
+    ghost use Rattle.file_desk.specs.Files.{faults_of, has_failed, Counts};
 
     // Counts a fault.
     fn count_fault(&mut self)
@@ -59,7 +95,7 @@ impl<'r, R: Files<File = File> + Print + Eprint + AllocGlobal + Threads> FileDes
     fn read_front(&mut self, alloc: Global, name: &str, most: u64) -> io::Result<Vec<u8>>
         ensures { faults_of self.new ≡ faults_of self.old }
     {
-        let file = fs::open(self.rt, name)?;
+        let file = fs::open(&self.rt, name)?;
         let metadata = file.metadata()?;
         self.fetched.push(FileId::of(&metadata))?;
         // Room for the whole file at once, so that its bytes need not be moved.
@@ -67,62 +103,6 @@ impl<'r, R: Files<File = File> + Print + Eprint + AllocGlobal + Threads> FileDes
         let mut bytes = Vec::with_capacity(alloc, room as usize)?;
         file.take(most).read_to_end(&mut bytes)?;
         Ok(bytes)
-    }
-
-    // Whether standard output goes to this file.
-    fn is_output(&self, file: FileId) -> bool {
-        match fs::metadata(self.rt, OUTPUT) {
-            Ok(output) => FileId::of(&output) == file,
-            Err(_) => false,
-        }
-    }
-
-    // How to put where the name leads to a file or to something else that takes bytes.
-    fn way_over(&self, found: File, name: &str) -> Result<Way, DeskError> {
-        let metadata = found.metadata().map_err(put_error)?;
-        let file = FileId::of(&metadata);
-        if metadata.is_file() && self.fetched.contains(&file) {
-            return Err(DeskError::Failed);
-        }
-        if self.is_output(file) {
-            return Ok(Way::Output);
-        }
-        if !metadata.is_file() {
-            return Ok(Way::AsItIs(found));
-        }
-        let path = without_link(self.rt, self.alloc, name).map_err(put_error)?;
-        Ok(Way::Whole(path, Some(metadata.permissions())))
-    }
-
-    // How to put under a name that leads nowhere.
-    fn way_new(&self, name: &str) -> Result<Way, DeskError> {
-        if fs::symlink_metadata(self.rt, name).is_ok() {
-            return Err(DeskError::Failed);
-        }
-        Ok(Way::Whole(PathBuf::from_str(self.alloc, name)?, None))
-    }
-
-    // How to put under a name.
-    fn way(&self, name: &str) -> Result<Way, DeskError> {
-        match OpenOptions::new().write(true).open(self.rt, name) {
-            Ok(found) => self.way_over(found, name),
-            Err(error) if error.kind() == ErrorKind::NotFound => self.way_new(name),
-            Err(error) => Err(put_error(error)),
-        }
-    }
-
-    // Puts the pieces and counts nothing.
-    fn put_uncounted<P: Pieces>(&self, name: &str, pieces: &mut P) -> Result<(), DeskError>
-        requires { P.ready pieces.old }
-    {
-        let put = match self.way(name)? {
-            Way::Whole(path, permissions) => {
-                return replace(self.rt, self.alloc, path, permissions, pieces).map_err(put_error);
-            }
-            Way::AsItIs(mut found) => write_pieces(self.alloc, &mut found, pieces),
-            Way::Output => write_pieces(self.alloc, &mut io::writer(self.rt), pieces),
-        };
-        put.map_err(|_| DeskError::Failed)
     }
 
     // Counts a put where it failed.
@@ -136,126 +116,201 @@ impl<'r, R: Files<File = File> + Print + Eprint + AllocGlobal + Threads> FileDes
         put
     }
 
-    // Begins a new file where a put would make one.
-    fn begin_whole(&self, name: &str) -> Option<BegunOnDisk<'r, R>>
-        ensures { IfSome result (λ file. string_bytes file.name ≡ name.now) }
-    {
-        // A pipe isn't opened ahead of its bytes, since its reader would come to their end.
-        if fs::metadata(self.rt, name).is_ok_and(|found| !found.is_file()) {
-            return None;
-        }
-        match self.way(name) {
-            Ok(Way::Whole(path, permissions)) => self.begin_at(name, path, permissions).ok(),
-            Ok(Way::AsItIs(_) | Way::Output) | Err(_) => None,
+    // Whether standard output goes to this file.
+    fn is_output(&self, file: FileId) -> bool {
+        match fs::metadata(&self.rt, OUTPUT) {
+            Ok(output) => FileId::of(&output) == file,
+            Err(_) => false,
         }
     }
 
-    // Begins a new file beside a path, for a name that leads there.
-    fn begin_at(
-        &self,
-        name: &str,
-        path: PathBuf,
-        permissions: Option<Permissions>,
-    ) -> io::Result<BegunOnDisk<'r, R>>
-        ensures { IfOk result (λ file. string_bytes file.name ≡ name.now) }
-    {
-        let name = String::from_str(self.alloc, name)?;
-        let file = NewFile::begin(self.rt, self.alloc, path, permissions)?;
-        Ok(BegunOnDisk {
-            rt: self.rt,
-            alloc: self.alloc,
-            name,
-            file,
+    // Whether this file may not be put under a name: it was fetched, or it was put under another name.
+    fn is_kept(&self, file: FileId, name: &str) -> bool {
+        self.fetched.contains(&file)
+            || self
+                .put
+                .iter()
+                .any(|put| put.file == file && put.name.as_str() != name)
+    }
+
+    // Whether a file was begun for another name than this that leads to the path.
+    fn is_begun(&self, folder: FileId, last: &str, name: &str) -> bool {
+        self.begun.iter().any(|begun| {
+            begun.folder == folder && begun.last.as_str() == last && begun.name.as_str() != name
         })
     }
-}
 
-// How to put under a name.
-#[derive(Drop)]
-enum Way {
-    // By a new file that takes the path, with these permissions or those of any new file.
-    Whole(PathBuf, Option<Permissions>),
-    // Into what the name leads to.
-    AsItIs(File),
-    // Into standard output.
-    Output,
-}
-
-/// A file that a desk over files has begun. It lies beside the path that it will take.
-#[derive(Drop)]
-pub struct BegunOnDisk<'r, R> {
-    rt: &'r R,
-    alloc: Global,
-    name: String,
-    file: NewFile<File>,
-}
-
-impl<'r, R: Files<File = File> + Threads> BegunOnDisk<'r, R> {
-    // Writes the bytes that are still to come, one piece after another.
-    fn write_on<P: Pieces>(&mut self, pieces: &mut P) -> io::Result<()>
-        requires { P.ready pieces.old }
-        ensures { self.new.name ≡ self.old.name }
+    // Where the bytes go for a name that leads to this.
+    fn place_over(
+        &mut self,
+        found: Metadata,
+        name: &str,
+        readers: Readers,
+    ) -> Result<Place<R>, DeskError>
+        ensures { faults_of self.new ≡ faults_of self.old }
     {
-        write_pieces(self.alloc, &mut self.file.handle, pieces)
+        let file = FileId::of(&found);
+        if found.is_dir() || found.is_file() && self.is_kept(file, name) {
+            return Err(DeskError::Failed);
+        }
+        if self.is_output(file) {
+            return Ok(Place::Output);
+        }
+        // A pipe isn't opened ahead of its bytes, since that waits for its reader.
+        if !found.is_file() {
+            return Ok(Place::AsItIs(None));
+        }
+        let _writable = OpenOptions::new()
+            .write(true)
+            .open(&self.rt, name)
+            .map_err(put_error)?;
+        let path = without_link(&self.rt, self.alloc, name).map_err(put_error)?;
+        let mode = found.permissions().mode();
+        let mode = match readers {
+            Readers::Any => mode,
+            Readers::Owner => mode & OWNER_BITS,
+        };
+        let permissions = Permissions::from_mode(mode);
+        self.place_beside(path, name, 0o600, Some(permissions))
+            .map_err(put_error)
     }
 
-    // Writes the bytes that are still to come, which are the last ones, and makes pieces beside that where there are many.
-    fn write_last<P: Pieces>(&mut self, pieces: &mut P) -> io::Result<()>
-        requires { P.ready pieces.old }
-        ensures { self.new.name ≡ self.old.name }
+    // Where the bytes go for a name that leads nowhere.
+    fn place_new(&mut self, name: &str, readers: Readers) -> Result<Place<R>, DeskError>
+        ensures { faults_of self.new ≡ faults_of self.old }
     {
-        write_groups(self.rt, self.alloc, &mut self.file.handle, pieces)
-    }
-}
-
-/// Has the bytes of a file that a desk over files has begun on the disk.
-#[derive(Drop)]
-pub struct DiskFlusher {
-    // A second handle of the file.
-    handle: File,
-}
-
-impl FileFlusher for DiskFlusher {
-    fn flush(&mut self) -> Result<(), DeskError> {
-        self.handle.sync_data().map_err(put_error)
-    }
-}
-
-impl<'r, R: Files<File = File> + Threads> BegunFile for BegunOnDisk<'r, R> {
-    type Flusher = DiskFlusher;
-
-    ghost use Rattle.file_desk.specs.Files.{begun_name};
-
-    ghost name = { begun_name };
-
-    ghost contents = { λ begun. ⟦<File as Write>⟧.contents begun.file.handle };
-
-    fn append<P: Pieces>(&mut self, pieces: &mut P) -> Result<(), DeskError> {
-        self.write_on(pieces).map_err(put_error)
+        if fs::symlink_metadata(&self.rt, name).is_ok() {
+            return Err(DeskError::Failed);
+        }
+        let path = PathBuf::from_str(self.alloc, name)?;
+        let mode = match readers {
+            Readers::Any => 0o666,
+            Readers::Owner => 0o600,
+        };
+        self.place_beside(path, name, mode, None).map_err(put_error)
     }
 
-    fn flusher(&self) -> Option<DiskFlusher> {
-        match self.file.handle.try_clone() {
-            Ok(handle) => Some(DiskFlusher { handle }),
-            Err(_) => None,
+    // Where the bytes go for a name.
+    fn place(&mut self, name: &str, readers: Readers) -> Result<Place<R>, DeskError>
+        ensures { faults_of self.new ≡ faults_of self.old }
+    {
+        match fs::metadata(&self.rt, name) {
+            Ok(found) => self.place_over(found, name, readers),
+            Err(error) if error.kind() == ErrorKind::NotFound => self.place_new(name, readers),
+            Err(error) => Err(put_error(error)),
+        }
+    }
+
+    // A part beside a path, which nobody has begun under another name.
+    fn place_beside(
+        &mut self,
+        path: PathBuf,
+        name: &str,
+        mode: u32,
+        permissions: Option<Permissions>,
+    ) -> io::Result<Place<R>>
+        ensures { faults_of self.new ≡ faults_of self.old }
+    {
+        let last = String::from_str(self.alloc, path.file_name().unwrap_or(""))?;
+        let folder = FileId::of(&folder_of(&self.rt, path.as_path())?);
+        // A path that ends in a slash or a dot is none of a file.
+        if last.is_empty()
+            || !path.as_str().ends_with(last.as_str())
+            || self.is_begun(folder, &last, name)
+        {
+            return Err(io::Error::from(ErrorKind::InvalidInput));
+        }
+        let part = self.part(path, folder, &last, mode)?;
+        if let Some(permissions) = permissions {
+            part.set_permissions(permissions)?;
+        }
+        let name = String::from_str(self.alloc, name)?;
+        self.begun.push(BegunPath { folder, last, name })?;
+        Ok(Place::Beside(part, Tail::new(self.alloc, &self.writer)))
+    }
+
+    // Makes a part of the path. Its name is the path's with `.part` behind it; where another command writes that, or it is a file
+    // that may not be written over, a number follows. What a killed command left under the name is removed.
+    fn part(&self, path: PathBuf, folder: FileId, last: &str, mode: u32) -> io::Result<Part<R>> {
+        for number in 0..MOST_PARTS {
+            let part = part_name(self.alloc, last, number)?;
+            if self.is_begun(folder, &part, "") {
+                continue;
+            }
+            let beside = path.with_file_name(self.alloc, &part)?;
+            if let Some(handle) = take_name(&self.rt, beside.as_path(), mode, &self.fetched)? {
+                return Ok(Part::new(self.rt, handle, beside, path));
+            }
+        }
+        Err(io::Error::from(ErrorKind::AlreadyExists))
+    }
+
+    // Has a part in place of what its path names, unless that may not be written over.
+    fn take_path(&mut self, part: Part<R>, name: String) -> Result<(), DeskError>
+        ensures { faults_of self.new ≡ faults_of self.old }
+    {
+        if part.found().is_some_and(|found| self.is_kept(found, &name)) {
+            return Err(DeskError::Failed);
+        }
+        let file = part.id().map_err(put_error)?;
+        if self.put.push(PutFile { file, name }).is_err() {
+            return Err(DeskError::Memory);
+        }
+        part.take_path().map_err(put_error)
+    }
+
+    // Has the bytes of a file where they go, and puts it where nothing has failed.
+    fn flush_and_put(&mut self, file: BegunOnDisk<R>) -> Result<(), DeskError>
+        ensures whole { OnOk result (has_failed file ≡ false) }
+        ensures same_faults { faults_of self.new ≡ faults_of self.old }
+    {
+        let mut file = file;
+        file.flush()?;
+        self.put_flushed(file)
+    }
+
+    // Puts a file whose bytes are where they go.
+    fn put_flushed(&mut self, file: BegunOnDisk<R>) -> Result<(), DeskError>
+        ensures { faults_of self.new ≡ faults_of self.old }
+    {
+        let BegunOnDisk {
+            rt: _,
+            alloc: _,
+            name,
+            place,
+            error: _,
+            is_flushed: _,
+        } = file;
+        match place {
+            Place::Nowhere => Err(DeskError::Failed),
+            Place::Beside(part, _tail) => self.take_path(part, name),
+            Place::AsItIs(_) | Place::Output => Ok(()),
         }
     }
 }
 
-// Why a put was not done.
-fn put_error(error: io::Error) -> DeskError {
-    match error.kind() {
-        ErrorKind::OutOfMemory => DeskError::Memory,
-        _ => DeskError::Failed,
+// The folder of a path.
+fn folder_of<R: Files>(rt: &R, path: Path<'_>) -> io::Result<Metadata> {
+    match path.parent() {
+        Some(folder) if !folder.as_str().is_empty() => fs::metadata(rt, folder),
+        _ => fs::metadata(rt, "."),
+    }
+}
+
+// The path of the file that a name leads to: the name itself, or where it is a link the path without links.
+fn without_link<R: Files>(rt: &R, alloc: Global, name: &str) -> io::Result<PathBuf> {
+    if fs::symlink_metadata(rt, name)?.is_symlink() {
+        rt.canonicalize(alloc, name)
+    } else {
+        Ok(PathBuf::from_str(alloc, name)?)
     }
 }
 
 #[tactic(auto, unfolding(desk_outside::specs::Desk::after_step))]
-impl<'r, R: Files<File = File> + Print + Eprint + AllocGlobal + Threads + Sync> Desk
-    for FileDesk<'r, R> {
-    type Begun = BegunOnDisk<'r, R>;
+impl<R: Files<File = File> + Print + Eprint + Wait + Copy + Send> Desk for FileDesk<R> {
+    type Begun = BegunOnDisk<R>;
 
-    ghost use Rattle.file_desk.specs.Files.{faults_of, begun_name, CountsFetch, Counts};
+    ghost use Rattle.file_desk.specs.Files.{faults_of, begun_name, has_failed, CountsFetch, Counts};
 
     ghost view = { λ _. untold };
 
@@ -281,52 +336,31 @@ impl<'r, R: Files<File = File> + Print + Eprint + AllocGlobal + Threads + Sync> 
         }
     }
 
-    fn put(&mut self, name: &str, bytes: &[u8]) -> Result<(), DeskError>
-        ensures ends { PutEnds name.now bytes.now untold untold result }
-        ensures later { faults_of self.old ≤ faults_of self.new }
-        ensures cause { IsErrOf result DeskError.Failed
-            → Rose (faults_of self.old) (faults_of self.new) }
-        ensures count { Counts (faults_of self.old) (faults_of self.new) result }
-    {
-        self.put_pieces(name, &mut Slice { rest: bytes })
+    fn begin(&mut self, name: &str, readers: Readers) -> Result<BegunOnDisk<R>, AllocError> {
+        let own = String::from_str(self.alloc, name)?;
+        let (place, error) = match self.place(name, readers) {
+            Ok(place) => (place, None),
+            Err(error) => (Place::Nowhere, Some(error)),
+        };
+        Ok(BegunOnDisk {
+            rt: self.rt,
+            alloc: self.alloc,
+            name: own,
+            place,
+            error,
+            is_flushed: false,
+        })
     }
 
-    fn put_pieces<P: Pieces>(&mut self, name: &str, pieces: &mut P) -> Result<(), DeskError>
-        requires { P.ready pieces.old }
-        ensures ends { PutEnds name.now (P.rest pieces.old) untold untold result }
+    fn commit(&mut self, file: BegunOnDisk<R>) -> Result<(), DeskError>
+        ensures ends { CommitEnds (λ _. ⊤) (has_failed file) (begun_name file) untold untold result }
         ensures later { faults_of self.old ≤ faults_of self.new }
         ensures cause { IsErrOf result DeskError.Failed
             → Rose (faults_of self.old) (faults_of self.new) }
         ensures count { Counts (faults_of self.old) (faults_of self.new) result }
     {
-        let put = self.put_uncounted(name, pieces);
+        let put = self.flush_and_put(file);
         self.counted(put)
-    }
-
-    fn begin(&mut self, name: &str) -> Option<BegunOnDisk<'r, R>> {
-        self.begin_whole(name)
-    }
-
-    fn put_begun<P: Pieces>(
-        &mut self,
-        file: BegunOnDisk<'r, R>,
-        pieces: &mut P,
-    ) -> Result<(), DeskError>
-        requires { P.ready pieces.old }
-        ensures ends { BegunPutEnds (begun_name file.entry) None (P.rest pieces.old) untold untold result }
-        ensures later { faults_of self.old ≤ faults_of self.new }
-        ensures cause { IsErrOf result DeskError.Failed
-            → Rose (faults_of self.old) (faults_of self.new) }
-        ensures count { Counts (faults_of self.old) (faults_of self.new) result }
-    {
-        let mut file = file;
-        let written = file.write_last(pieces);
-        let put = file.file.finish(self.rt, written).map_err(put_error);
-        self.counted(put)
-    }
-
-    fn discard(&mut self, file: BegunOnDisk<'r, R>) {
-        file.file.remove(self.rt);
     }
 
     fn say(&mut self, bytes: &[u8]) -> Result<(), DeskError>
@@ -336,7 +370,7 @@ impl<'r, R: Files<File = File> + Print + Eprint + AllocGlobal + Threads + Sync> 
             → Rose (faults_of self.old) (faults_of self.new) }
         ensures count { Counts (faults_of self.old) (faults_of self.new) result }
     {
-        match Print::write_all(self.rt, bytes) {
+        match Print::write_all(&self.rt, bytes) {
             Ok(()) => Ok(()),
             Err(_) => {
                 self.count_fault();

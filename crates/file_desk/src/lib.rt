@@ -1,8 +1,10 @@
 //! The desk over files and the standard streams.
 #![tactic(auto)]
 
+mod begun;
 mod files;
-mod flow;
-mod whole;
+mod parts;
+mod writing;
 
-pub use files::{BegunOnDisk, DiskFlusher, FileDesk};
+pub use begun::BegunOnDisk;
+pub use files::FileDesk;

@@ -2,11 +2,11 @@
 
 use crate::fixtures::{check, check_bytes, check_same};
 use desk_outside::{
-    BegunFile, Desk, DeskCall, DeskError, DeskKind, FetchError, FileFlusher, MemoryDesk, Pieces,
+    BegunFile, Desk, DeskCall, DeskError, DeskKind, FetchError, MemoryDesk, Pieces, Readers, Slice,
 };
 use file_desk::FileDesk;
 use std::alloc::{AllocError, Global};
-use std::fs::Permissions;
+use std::fs::{File, Permissions};
 use std::io::Read;
 use std::os::fd::AsRawFd;
 use std::os::unix::fs::{PermissionsExt, symlink};
@@ -15,11 +15,18 @@ use std::rt::Files;
 use std::test::Fail;
 use std::{fs, io};
 
+// Begins a file, appends the bytes, and commits it.
+fn put<D: Desk>(desk: &mut D, name: &str, bytes: &[u8]) -> Result<(), DeskError> {
+    let mut file = desk.begin(name, Readers::Any)?;
+    file.append(&mut Slice { rest: bytes });
+    desk.commit(file)
+}
+
 // Whether the call failed, for want of memory too.
 fn fails(desk: &mut MemoryDesk, alloc: Global, kind: DeskKind, name: &str, text: &str) -> bool {
     match kind {
         DeskKind::Fetch => desk.fetch(alloc, name, 3).is_err(),
-        DeskKind::Put => desk.put(name, text.as_bytes()).is_err(),
+        DeskKind::Put => put(desk, name, text.as_bytes()).is_err(),
         DeskKind::Say => desk.say(text.as_bytes()).is_err(),
         DeskKind::Complain => desk.complain(text.as_bytes()).is_err(),
     }
@@ -146,7 +153,7 @@ fn check_puts(
     puts: &[(&str, &[u8], Result<(), DeskError>)],
 ) {
     for (name, bytes, done) in puts {
-        check_same(rt, &desk.put(name, bytes), done, name);
+        check_same(rt, &put(desk, name, bytes), done, name);
     }
 }
 
@@ -215,7 +222,7 @@ fn check_put(
     done: Result<(), DeskError>,
     left: Option<&str>,
 ) {
-    check_same(rt, &desk.put(name, b"new bytes"), &done, name);
+    check_same(rt, &put(desk, name, b"new bytes"), &done, name);
     let held = fs::read_to_string(rt, name).ok();
     check_same(rt, &held.as_deref(), &left, name);
 }
@@ -378,47 +385,27 @@ fn bytes_of_groups(alloc: Global) -> Result<Vec<u8>, AllocError> {
     Ok(bytes)
 }
 
-// Appends a part to a file, and has it on the disk where the file gives what does that.
-fn append_and_flush<B: BegunFile>(
-    file: &mut B,
-    flusher: &mut Option<B::Flusher>,
-    part: &[u8],
-) -> Result<(), DeskError> {
-    file.append(&mut whole(part))?;
-    match flusher {
-        Some(flusher) => flusher.flush(),
-        None => Ok(()),
-    }
-}
-
-// Begins a file, appends each part to it, and puts it with the last pieces. None where it isn't begun.
+// Begins a file, appends each part to it and has it on the disk, appends the last pieces, and commits it.
 fn put_in_parts<D: Desk>(
     desk: &mut D,
     name: &str,
     parts: &[&[u8]],
     last: &mut Made<'_>,
-) -> Option<Result<(), DeskError>> {
-    let mut file = desk.begin(name)?;
-    let mut flusher = file.flusher();
+) -> Result<(), DeskError> {
+    let mut file = desk.begin(name, Readers::Any)?;
     for part in parts {
-        if let Err(error) = append_and_flush(&mut file, &mut flusher, part) {
-            desk.discard(file);
-            return Some(Err(error));
-        }
+        file.append(&mut whole(part));
+        file.flush()?;
     }
-    Some(desk.put_begun(file, last))
+    file.append(last);
+    desk.commit(file)
 }
 
-// Begins a file, appends these pieces to it, and lets it go. None where it isn't begun.
-fn let_go<D: Desk>(
-    desk: &mut D,
-    name: &str,
-    pieces: &mut Made<'_>,
-) -> Option<Result<(), DeskError>> {
-    let mut file = desk.begin(name)?;
-    let appended = file.append(pieces);
-    desk.discard(file);
-    Some(appended)
+// Begins a file, appends these pieces to it, and lets it go. Whether that failed.
+fn let_go<D: Desk>(desk: &mut D, name: &str, pieces: &mut Made<'_>) -> Result<bool, AllocError> {
+    let mut file = desk.begin(name, Readers::Any)?;
+    file.append(pieces);
+    Ok(file.has_failed())
 }
 
 // Looks for what a file holds, and for no more names in its folder than these many.
@@ -447,7 +434,7 @@ fn check_end(
 fn put_new_bytes(rt: &impl Abort, desk: &mut impl Desk, name: &str) {
     let parts = [b"".as_slice(), b"new ".as_slice(), b"by".as_slice()];
     let put = put_in_parts(desk, name, &parts, &mut whole(b"tes"));
-    check_same(rt, &put, &Some(Ok(())), name);
+    check_same(rt, &put, &Ok(()), name);
 }
 
 // Puts files in parts, and looks for what they hold.
@@ -471,16 +458,15 @@ fn file_desk_puts_files_that_it_began(rt: HostRuntime) -> Result<(), Fail> {
     Ok(())
 }
 
-// Names for which no file is begun: those of a fetched file, a link to nothing, a folder, what is no file, and a folder
-// that isn't there.
-static NOT_BEGUN: [&str; 7] = [
+// Names that can't be written: those of a fetched file, a link to nothing, a folder, what is in no folder, and no file.
+static UNWRITABLE: [&str; 7] = [
     "begin_test/fetched",
     "begin_test/to_fetched",
     "begin_test/same_file",
     "begin_test/to_nothing",
     "begin_test",
-    "/dev/null",
     "begin_test/absent/a",
+    "begin_test/a/",
 ];
 
 // A folder with a file, with links to it and to nothing.
@@ -492,23 +478,162 @@ fn make_begin_test(rt: &HostRuntime) -> io::Result<()> {
     fs::hard_link(rt, "begin_test/fetched", "begin_test/same_file")
 }
 
-// Begins no file after a fetch of one of them.
-fn begin_none(rt: &impl Abort, alloc: Global, desk: &mut impl Desk) -> Result<(), FetchError> {
+// Begins a file for each of these names after a fetch of one of them, and finds that it can't be written.
+fn begin_unwritable(rt: &impl Abort, alloc: Global, desk: &mut impl Desk) -> Result<(), Fail> {
     let _ = desk.fetch(alloc, "begin_test/fetched", 3)?;
-    for name in NOT_BEGUN {
-        let put = put_in_parts(desk, name, &[], &mut whole(b"new"));
-        check_same(rt, &put, &None, name);
+    for name in UNWRITABLE {
+        check_same(rt, &let_go(desk, name, &mut whole(b""))?, &true, name);
     }
     Ok(())
 }
 
 #[test]
-fn file_desk_begins_no_file_where_a_put_makes_none(rt: HostRuntime) -> Result<(), Fail> {
+fn file_desk_finds_names_that_cannot_be_written(rt: HostRuntime) -> Result<(), Fail> {
     make_begin_test(&rt)?;
-    begin_none(&rt, rt.alloc(), &mut FileDesk::new(&rt))?;
+    begin_unwritable(&rt, rt.alloc(), &mut FileDesk::new(&rt))?;
     let place = ("begin_test", "begin_test/fetched");
     check_file(&rt, place, b"old", 4)?;
     fs::remove_dir_all(&rt, "begin_test")?;
+    Ok(())
+}
+
+// Where a file was begun or put, this name leads to it.
+const ONE: &str = "names_test/one";
+
+// Other names that lead there: by a folder, and by links to the file and to its folder.
+static OTHER_NAMES: [&str; 3] = [
+    "./names_test/one",
+    "names_test/to_one",
+    "names_test/here/one",
+];
+
+// A folder with a link to itself, and one to a file that is there.
+fn make_names_test(rt: &HostRuntime) -> io::Result<()> {
+    empty_folder(rt, "names_test")?;
+    fs::write(rt, ONE, "old")?;
+    symlink(rt, "one", "names_test/to_one")?;
+    symlink(rt, ".", "names_test/here")
+}
+
+// Puts under other names what is put under one. None of them is put.
+fn check_other_names(rt: &impl Abort, desk: &mut impl Desk) {
+    let failed = Err(DeskError::Failed);
+    for name in OTHER_NAMES {
+        check_same(rt, &put(desk, name, b"other"), &failed, name);
+    }
+}
+
+// Begins a file, and puts under other names what it will put before it is committed and after that.
+fn put_once<D: Desk>(rt: &impl Abort, desk: &mut D) -> Result<(), DeskError> {
+    let mut file = desk.begin(ONE, Readers::Any)?;
+    file.append(&mut Slice { rest: b"first" });
+    check_other_names(rt, desk);
+    desk.commit(file)?;
+    check_other_names(rt, desk);
+    Ok(())
+}
+
+#[test]
+fn file_desk_puts_no_file_under_two_names(rt: HostRuntime) -> Result<(), Fail> {
+    make_names_test(&rt)?;
+    put_once(&rt, &mut FileDesk::new(&rt))?;
+    check_end(&rt, ("names_test", ONE), b"first", 3)?;
+    Ok(())
+}
+
+// Names with the permissions that the files there have, what the file is to be readable for, and the permissions of the new one.
+static MODES: [(&str, Option<u32>, Readers, u32); 4] = [
+    ("modes_test/a", None, Readers::Owner, 0o600),
+    ("modes_test/b", Some(0o644), Readers::Owner, 0o600),
+    ("modes_test/c", Some(0o640), Readers::Any, 0o640),
+    ("modes_test/d", Some(0o600), Readers::Any, 0o600),
+];
+
+// Who may do what with a file.
+fn check_mode(rt: &(impl Files + AllocGlobal + Abort), name: &str, mode: u32) -> io::Result<()> {
+    let found = fs::metadata(rt, name)?.permissions().mode() & 0o777;
+    check_same(rt, &found, &mode, name);
+    Ok(())
+}
+
+// Puts the listed files, and looks at their parts before.
+fn put_modes<D: Desk>(
+    rt: &(impl Files + AllocGlobal + Abort),
+    alloc: Global,
+    desk: &mut D,
+) -> Result<(), Fail> {
+    for (name, there, readers, mode) in MODES.iter() {
+        if let Some(there) = there {
+            fs::write(rt, name, "old")?;
+            fs::set_permissions(rt, name, Permissions::from_mode(*there))?;
+        }
+        let file = desk.begin(name, *readers)?;
+        check_mode(rt, &format!(in alloc; "{name}.part")?, *mode)?;
+        desk.commit(file)?;
+        check_mode(rt, name, *mode)?;
+    }
+    Ok(())
+}
+
+#[test]
+fn file_desk_keeps_secrets(rt: HostRuntime) -> Result<(), Fail> {
+    empty_folder(&rt, "modes_test")?;
+    put_modes(&rt, rt.alloc(), &mut FileDesk::new(&rt))?;
+    check_count(&rt, "modes_test", 4)?;
+    fs::remove_dir_all(&rt, "modes_test")?;
+    Ok(())
+}
+
+// Parts that lie there, and how many names the folder has once `a` is put: one that nobody writes is taken over, and one that was
+// fetched or is locked stays.
+static PARTS: [(bool, bool, usize); 3] = [(false, false, 1), (true, false, 2), (false, true, 2)];
+
+// Puts a file of which a part lies there.
+fn put_beside_part(
+    rt: &(impl Files<File = File> + AllocGlobal + Abort),
+    alloc: Global,
+    desk: &mut impl Desk,
+    is_fetched: bool,
+    is_locked: bool,
+) -> Result<(), Fail> {
+    fs::write(rt, "parts_test/a.part", "left")?;
+    let part = fs::open(rt, "parts_test/a.part")?;
+    if is_fetched {
+        let _ = desk.fetch(alloc, "parts_test/a.part", 4)?;
+    }
+    if is_locked {
+        part.lock()?;
+    }
+    check_same(rt, &put(desk, "parts_test/a", b"new"), &Ok(()), "the put");
+    Ok(())
+}
+
+#[test]
+fn file_desk_takes_over_a_part_that_nobody_writes(rt: HostRuntime) -> Result<(), Fail> {
+    for (is_fetched, is_locked, count) in PARTS.iter() {
+        empty_folder(&rt, "parts_test")?;
+        let mut desk = FileDesk::new(&rt);
+        put_beside_part(&rt, rt.alloc(), &mut desk, *is_fetched, *is_locked)?;
+        check_end(&rt, ("parts_test", "parts_test/a"), b"new", *count)?;
+    }
+    Ok(())
+}
+
+// Appends to what takes no bytes. The file remembers it, and so it is not put.
+fn put_full<D: Desk>(rt: &impl Abort, desk: &mut D) -> Result<(), AllocError> {
+    let mut file = desk.begin("/dev/full", Readers::Any)?;
+    check_same(rt, &file.has_failed(), &false, "the beginning");
+    file.append(&mut Slice { rest: b"new" });
+    check_same(rt, &file.has_failed(), &true, "the bytes");
+    let failed = Err(DeskError::Failed);
+    check_same(rt, &file.flush(), &failed, "the flush");
+    check_same(rt, &desk.commit(file), &failed, "the commit");
+    Ok(())
+}
+
+#[test]
+fn file_desk_remembers_what_failed(rt: HostRuntime) -> Result<(), Fail> {
+    put_full(&rt, &mut FileDesk::new(&rt))?;
     Ok(())
 }
 
@@ -519,7 +644,7 @@ fn put_groups(rt: &impl Abort, desk: &mut impl Desk, bytes: &[u8]) {
     let (front, after) = bytes.split_at(bytes.len() / 2);
     let name = "group_test/halves";
     let put = put_in_parts(desk, name, &[front, b""], &mut whole(after));
-    check_same(rt, &put, &Some(Ok(())), "several groups");
+    check_same(rt, &put, &Ok(()), "several groups");
 }
 
 #[test]
@@ -538,16 +663,17 @@ const KEPT: (&str, &str) = ("kept_test", "kept_test/a");
 // Puts a short file, and then pieces after which there is no memory.
 fn put_broken(rt: &impl Abort, desk: &mut impl Desk, bytes: &[u8]) {
     check_puts(rt, desk, &[(KEPT.1, b"old", Ok(()))]);
-    let put = desk.put_pieces(KEPT.1, &mut broken(bytes));
+    let put = put_in_parts(desk, KEPT.1, &[], &mut broken(bytes));
     check_same(rt, &put, &Err(DeskError::Memory), "the pieces");
 }
 
 // Begins a file that is let go, and begins one whose last pieces fail.
-fn begin_and_let_go(rt: &impl Abort, desk: &mut impl Desk, bytes: &[u8]) {
-    let gone = let_go(desk, KEPT.1, &mut whole(bytes));
-    check_same(rt, &gone, &Some(Ok(())), "let go");
+fn begin_and_let_go(rt: &impl Abort, desk: &mut impl Desk, bytes: &[u8]) -> Result<(), AllocError> {
+    let gone = let_go(desk, KEPT.1, &mut whole(bytes))?;
+    check_same(rt, &gone, &false, "let go");
     let put = put_in_parts(desk, KEPT.1, &[bytes], &mut broken(bytes));
-    check_same(rt, &put, &Some(Err(DeskError::Memory)), "the pieces");
+    check_same(rt, &put, &Err(DeskError::Memory), "the pieces");
+    Ok(())
 }
 
 // The file is kept each time.
@@ -558,7 +684,7 @@ fn check_kept(
 ) -> io::Result<()> {
     put_broken(rt, desk, bytes);
     check_file(rt, KEPT, b"old", 1)?;
-    begin_and_let_go(rt, desk, bytes);
+    begin_and_let_go(rt, desk, bytes)?;
     check_end(rt, KEPT, b"old", 1)
 }
 
@@ -578,21 +704,22 @@ static BEGUN: [(&[u8], Result<(), DeskError>, &[u8]); 3] = [
 ];
 
 // Puts the listed files.
-fn put_begun_in_memory(rt: &impl Abort, desk: &mut MemoryDesk) {
+fn put_begun_in_memory(rt: &impl Abort, desk: &mut MemoryDesk) -> Result<(), AllocError> {
     for (last, put, held) in BEGUN.iter() {
         let parts = [b"n".as_slice(), b"e".as_slice()];
         let done = put_in_parts(desk, "a", &parts, &mut whole(last));
-        check_same(rt, &done, &Some(*put), "the put");
-        let gone = let_go(desk, "a", &mut whole(b"gone"));
-        check_same(rt, &gone, &Some(Ok(())), "let go");
+        check_same(rt, &done, put, "the put");
+        let gone = let_go(desk, "a", &mut whole(b"gone"))?;
+        check_same(rt, &gone, &false, "let go");
         check_same(rt, &desk.held("a"), &Some(*held), "a");
     }
+    Ok(())
 }
 
 #[test]
 fn memory_desk_puts_files_that_it_began(rt: HostRuntime) -> Result<(), Fail> {
     let mut desk = MemoryDesk::new(vec![in rt.alloc(); 1]?);
-    put_begun_in_memory(&rt, &mut desk);
+    put_begun_in_memory(&rt, &mut desk)?;
     check_same(&rt, &desk.calls().len(), &3, "the calls");
     check_same(&rt, &desk.faults(), &1, "the faults");
     Ok(())

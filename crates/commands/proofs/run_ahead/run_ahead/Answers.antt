@@ -7,5 +7,5 @@ use Rattle.commands.proofs.run_ahead.run_ahead.Goals as goal
 
 pub run_beside-requires-clause-written : goal.run_beside-requires-clause-written
 run_beside-requires-clause-written g c κs within =
-    subst (λ (parts : List TranscriptView). IsOfParts (IsAhead g.B.BegunFile.contents c.args.ahead.entries c.args.ahead.file) parts) (sym c.in-Ok.ensures.received)
+    subst (λ (parts : List TranscriptView). IsOfParts (IsAhead g.B.BegunFile.has c.args.ahead.begun.file c.args.ahead.entries) parts) (sym c.in-Ok.ensures.received)
     (none-written _ c.requires.empty)

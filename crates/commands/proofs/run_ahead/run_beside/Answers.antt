@@ -13,5 +13,5 @@ returns-clause-recorded g c =
     let known : List TranscriptView = known_items c.slots_beside.new.self in
     let all : received appended.parts.ring ++ known ≡ sent told.ring
     = ap (λ (parts : List TranscriptView). parts ++ known) (sym slots.looked.1) ∙ slots.fifo ∙ slots.producer.1 in
-    runs-told (IsAhead g.B.BegunFile.contents appended.ahead.entries appended.ahead.file) (sent told.ring) (received appended.parts.ring) known told.texts all
-    c.join-appended.ensures.first.1.1 c.join-appended.ensures.second.1.0
+    runs-told (IsAhead g.B.BegunFile.has appended.ahead.begun.file appended.ahead.entries) (sent told.ring) (received appended.parts.ring) known told.texts all
+    c.join-appended.ensures.first.1.1.1 c.join-appended.ensures.second.1.0

@@ -12,8 +12,9 @@ parts-preserved-in-Ok g c =
     let same = before.same in
     record {
       name = c.append.ensures.name ∙ before.name;
+      remembers = λ failed. c.append.ensures.remembers (before.remembers failed);
       same = (ring.0 ∙ same.0, ring.1 ∙ same.1, ring.2 ∙ same.2, ring.3 ∙ same.3);
       written =
-          subst (λ (parts : List TranscriptView). IsOfParts (IsAhead g.B.BegunFile.contents c.append.new.self.entries c.append.new.self.file) parts) (sym c.in-Ok.ensures.ok.0)
+          subst (λ (parts : List TranscriptView). IsOfParts (IsAhead g.B.BegunFile.has c.append.new.self.begun.file c.append.new.self.entries) parts) (sym c.in-Ok.ensures.ok.0)
           (written-more _ _ _ c.in-Ok.part before.written c.append.ensures.records);
     }

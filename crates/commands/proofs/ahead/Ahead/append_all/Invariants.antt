@@ -1,4 +1,4 @@
-use Rattle.std.proofs.Common.{◌≡◌}
+use Rattle.std.proofs.Common.{◌≡◌, true}
 use Rattle.rtrb.specs.Ring.{received}
 use Rattle.rtrb.specs.Ends.{SameRing}
 use Rattle.commands.specs.Ahead.{IsAhead}
@@ -7,7 +7,8 @@ use Rattle.commands.proofs.ahead.Ahead.append_all.Given as goal
 
 abbrev pub invariant-parts : goal.invariant-parts
 invariant-parts g l = record {
-  name : l.ahead.name.now ≡ l.initial.ahead.name.now;
+  name : l.ahead.begun.name.now ≡ l.initial.ahead.begun.name.now;
+  remembers : g.B.BegunFile.failed l.initial.ahead.begun.file ≡ true → g.B.BegunFile.failed l.ahead.begun.file ≡ true;
   same : SameRing l.initial.parts.ring.end l.parts.ring.end;
-  written : IsOfParts (IsAhead g.B.BegunFile.contents l.ahead.entries l.ahead.file) (received l.parts.ring);
+  written : IsOfParts (IsAhead g.B.BegunFile.has l.ahead.begun.file l.ahead.entries) (received l.parts.ring);
 }
