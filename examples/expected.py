@@ -3,6 +3,9 @@
 no threads, only which copies the lanes let through. The report goes to standard output, the summary to standard error.
 
     examples/expected.py PLAN READINGS
+    examples/expected.py --inspect PLAN READINGS
+
+The second form prints what `inspect` says of the run in their place.
 """
 import csv
 import struct
@@ -153,6 +156,26 @@ def has_answered(plan, fates, group, r, meter):
     return False
 
 
+def opened_rounds(plan, fates, survivors):
+    """The survivors of each opened round: it is announced, and every survivor sent its answer, at whatever tick."""
+    sent = {tag for _, tag in fates}
+    return {
+        (group, r): alive
+        for (group, r), alive in survivors.items()
+        if len(alive) >= plan.groups[group][2] and all((group, r, "a", meter) in sent for meter in alive)
+    }
+
+
+def inspect(plan_path, readings_path):
+    """Prints what `inspect` says of the run."""
+    plan = Plan(plan_path)
+    fates, survivors = run(plan, readings_of(plan, readings_path))
+    opened = opened_rounds(plan, fates, survivors)
+    totals = sum(all(has_answered(plan, fates, *place, meter) for meter in alive) for place, alive in opened.items())
+    least = min((len(alive) for alive in opened.values()), default=0)
+    print(f"inspect: rows={len(survivors)} totals={totals} opened={len(opened) - totals} least={least}")
+
+
 def main(plan_path, readings_path):
     plan = Plan(plan_path)
     readings = readings_of(plan, readings_path)
@@ -177,4 +200,7 @@ def main(plan_path, readings_path):
 
 
 if __name__ == "__main__":
-    main(*sys.argv[1:])
+    if sys.argv[1] == "--inspect":
+        inspect(*sys.argv[2:])
+    else:
+        main(*sys.argv[1:])

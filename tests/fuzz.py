@@ -40,6 +40,7 @@ COMMANDS = [
     ("audit <transcript <report", {0, 1, 2, 3, 4, 7, 9}),
     ("convert <old >transcript", {0, 1, 2, 3, 4, 7}),
     ("public <plan >public", {0, 1, 2, 3, 4, 5}),
+    ("inspect <public <transcript <report", {0, 1, 2, 3, 4, 5, 7, 9}),
     ("bill <plan <readings 0 1 >bills", {0, 1, 2, 3, 4, 5, 6}),
     ("hide <plan <readings <transcript 0 96 0 0 0 >hidden", {0, 1, 2, 3, 4, 5, 6, 7, 11}),
     ("make 7 2 3 4 >plan >readings", {0, 1, 2, 4}),
@@ -160,6 +161,12 @@ def old_text(transcript):
     return b"\n".join([head.replace(b" 2", b" 1")] + [old_line(line) for line in rest.split(b"\n")])
 
 
+def public_text(plan):
+    """A plan file's public plan."""
+    rows = [row for row in plan.splitlines(keepends=True) if not row.startswith((b"own,", b"pair,", b"lane,"))]
+    return b"".join([b"public,1\n"] + rows[1:])
+
+
 def names_in(command, mark):
     return [word[1:] for word in command.split() if word[0] == mark]
 
@@ -221,6 +228,7 @@ def sample_files(program, room):
             sys.exit(f"fuzz: the example {example} ended with status {ended.returncode}")
         files = files_in(room)
         files["other"] = files["readings"]
+        files["public"] = public_text(files["plan"])
         files["old"] = old_text(files["transcript"])
         sets.append(files)
     return sets

@@ -37,6 +37,7 @@ COMMANDS = [
     ("audit <transcript <report", 0),
     ("audit <transcript <report_of_61", 9),
     ("audit <made_transcript <made_report", 0),
+    ("inspect <public <transcript <report", 0),
     ("convert <old >transcript", 0),
     ("make 1 1 2 1 >plan >readings", 0),
     ("load 1 4 8 2 1 >transcript", 0),

@@ -12,3 +12,4 @@ pub mod EndLemmas
 pub mod PostCounts
 pub mod TextLengths
 pub mod RunLengths
+pub mod OpenedLemmas

@@ -8,3 +8,5 @@ pub mod Replays
 pub mod Answers
 pub mod Ends
 pub mod Lengths
+pub mod Opened
+pub mod OpenedParts

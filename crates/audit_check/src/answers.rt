@@ -1,5 +1,6 @@
 //! What an audit answers: the counts of a confirmed report, or why the frames do not confirm it.
 
+use crate::OpenedRounds;
 use std::alloc::{AllocError, AllocFailed};
 use totals_report::ReportRow;
 
@@ -10,6 +11,13 @@ pub struct AuditCounts {
     pub rows: u32,
     /// The number of its totals.
     pub totals: u32,
+}
+
+/// What a report that the frames confirm has, and what its transcript opens.
+#[derive(Clone, Copy)]
+pub struct Inspected {
+    pub counts: AuditCounts,
+    pub opened: OpenedRounds,
 }
 
 /// Why the frames do not confirm a report.

@@ -3,14 +3,16 @@
 ghost use Rattle.std.specs.Prelude.{◌≡◌, ◌<◌, ◌^◌, length};
 ghost use Rattle.transcript_log.specs.Events.{lines_of};
 ghost use Rattle.audit_check.specs.Audits.{AuditEnds};
-ghost use Rattle.audit_check.specs.Ends.{LinesEnd, ReplayEnds, RowsEnd};
+ghost use Rattle.audit_check.specs.Ends.{LinesEnd, IsReplayed, ReplayEnds, RowsEnd};
+ghost use Rattle.audit_check.specs.Opened.{InspectEnds};
 ghost use Rattle.audit_check.specs.Presence.{IsPresenceOf};
 ghost use Rattle.audit_check.specs.Replays.{Begins};
 
 use crate::comparing::{count_totals, first_difference, row_at};
+use crate::opened::opened_rounds;
 use crate::presence::presence_of_frames;
 use crate::replay::Replay;
-use crate::{AuditCounts, AuditError};
+use crate::{AuditCounts, AuditError, Inspected};
 use group_book::Book;
 use std::alloc::Global;
 use totals_report::{Report, ReportRow, rows_of};
@@ -62,6 +64,20 @@ fn confirm(from_frames: &[ReportRow], reported: &[ReportRow]) -> Result<AuditCou
     }
 }
 
+// Whether the rows of a report are what the book of a transcript's lines gives.
+fn judge(
+    alloc: Global,
+    transcript: &Transcript,
+    report: &Report,
+    book: &Book,
+) -> Result<AuditCounts, AuditError>
+    requires { IsReplayed transcript.now book.now }
+    ensures { AuditEnds transcript.now report.now result }
+{
+    let rows = rows_of(alloc, book)?;
+    confirm(rows.rows(), report.rows())
+}
+
 /// Whether the rows of a report are what the frames of a transcript give, one for each group and round in order.
 pub fn audit(
     alloc: Global,
@@ -71,6 +87,19 @@ pub fn audit(
     ensures { AuditEnds transcript.now report.now result }
 {
     let book = replay(alloc, transcript)?;
-    let rows = rows_of(alloc, &book)?;
-    confirm(rows.rows(), report.rows())
+    judge(alloc, transcript, report, &book)
+}
+
+/// As `audit`; and it counts the opened rounds of a transcript that confirms its report.
+pub fn inspect(
+    alloc: Global,
+    transcript: &Transcript,
+    report: &Report,
+) -> Result<Inspected, AuditError>
+    ensures { InspectEnds transcript.now report.now result }
+{
+    let book = replay(alloc, transcript)?;
+    let counts = judge(alloc, transcript, report, &book)?;
+    let opened = opened_rounds(&book);
+    Ok(Inspected { counts, opened })
 }

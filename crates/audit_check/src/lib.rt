@@ -4,12 +4,14 @@
 mod answers;
 mod auditing;
 mod comparing;
+mod opened;
 mod presence;
 mod replay;
 mod telling;
 mod totals;
 
-pub use answers::{AuditCounts, AuditError};
-pub use auditing::audit;
+pub use answers::{AuditCounts, AuditError, Inspected};
+pub use auditing::{audit, inspect};
+pub use opened::OpenedRounds;
 
 pub mod laws;

@@ -13,6 +13,8 @@ mod file_tests;
 #[cfg(test)]
 mod fixtures;
 #[cfg(test)]
+mod inspect_tests;
+#[cfg(test)]
 mod load_tests;
 #[cfg(test)]
 mod refusal_tests;

@@ -331,7 +331,7 @@ fn failing_desk_calls(rt: HostRuntime) -> Result<(), Fail> {
 }
 
 // Words that are no command: too few or too many, names that are equal or empty, numbers outside their ranges.
-static BAD_WORDS: [&str; 58] = [
+static BAD_WORDS: [&str; 61] = [
     "run",
     "run plan.csv readings.csv report.csv",
     "ran plan.csv readings.csv report.csv t.txt",
@@ -388,6 +388,9 @@ static BAD_WORDS: [&str; 58] = [
     "public plan.csv",
     "public plan.csv plan.csv",
     "public plan.csv public.csv 4",
+    "inspect public.csv t.txt",
+    "inspect public.csv t.txt t.txt",
+    "inspect public.csv t.txt report.csv 4",
     "help run",
     "version 2",
 ];

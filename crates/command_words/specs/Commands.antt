@@ -7,9 +7,10 @@ use Rattle.command_words.specs.declared.words.Size.{Size as KeptSize}
 use Rattle.command_words.specs.declared.words.TwinFiles.{TwinFiles}
 use Rattle.command_words.specs.declared.words.BillFiles.{BillFiles}
 use Rattle.command_words.specs.declared.words.HideFiles.{HideFiles}
+use Rattle.command_words.specs.declared.words.InspectFiles.{InspectFiles}
 use Rattle.command_words.specs.declared.words.Command.{Command as Kept}
 use Rattle.command_words.specs.declared.words.Command.TheVariants as kept
-use Rattle.command_words.specs.Words.{TwinNames, Size, Command, Run, Audit, Twin, Make, Load, Convert, Public, Help, Version, names_of, Bill, Hide, BillNames, HideNames}
+use Rattle.command_words.specs.Words.{TwinNames, Size, Command, Run, Audit, Twin, Make, Load, Convert, Public, Help, Version, names_of, Bill, Hide, BillNames, HideNames, Inspect, InspectNames}
 
 -- the names of the files of `twin`
 abbrev pub twin_names_of : TwinFiles → TwinNames
@@ -23,6 +24,10 @@ bill_names_of files = record { plan = files.plan.now; readings = files.readings.
 -- the names of the files of `hide`
 abbrev pub hide_names_of : HideFiles → HideNames
 hide_names_of files = record { plan = files.plan.now; readings = files.readings.now; transcript = files.transcript.now; other = files.other.now }
+
+-- the names of the files of `inspect`
+abbrev pub inspect_names_of : InspectFiles → InspectNames
+inspect_names_of files = record { public = files.public.now; transcript = files.transcript.now; report = files.report.now }
 
 -- the size that is meant
 abbrev pub size_in : KeptSize → Size
@@ -41,6 +46,7 @@ asked (kept.Make words) = Make (size_in words.size) words.plan.now words.reading
 asked (kept.Load words) = Load (size_in words.size) words.workers (name_in words.transcript)
 asked (kept.Convert files) = Convert files.old.now files.transcript.now
 asked (kept.Public files) = Public files.plan.now files.public.now
+asked (kept.Inspect files) = Inspect (inspect_names_of files)
 asked (kept.Bill words) = Bill (bill_names_of words.files) words.period
 asked (kept.Hide words) = Hide (hide_names_of words.files) words.period words.place
 asked kept.Help = Help

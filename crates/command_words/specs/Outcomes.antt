@@ -5,7 +5,7 @@ use Rattle.std.specs.List.{flat_map}
 use Rattle.hex.specs.Hex.{encode_lower}
 use Rattle.plan_files.specs.declared.fault.FileError.{FileError}
 use Rattle.command_words.specs.declared.outcome.Outcome.{Outcome}
-use Rattle.command_words.specs.declared.outcome.Outcome.TheVariants.{Done, NoMemory, BadWords, CannotRead, TooLong, CannotWrite, CannotPrint, BadPlan, BadReadings, BadTranscript, BadReport, Impossible, OtherRow, OtherPlan, OtherLine, OtherPresence, OtherTotal, BadLane, NoPartner}
+use Rattle.command_words.specs.declared.outcome.Outcome.TheVariants.{Done, NoMemory, BadWords, CannotRead, TooLong, CannotWrite, CannotPrint, BadPlan, BadReadings, BadTranscript, BadReport, Impossible, NotInTime, OtherRow, OtherPlan, OtherLine, OtherPresence, OtherTotal, BadLane, NoPartner}
 use Rattle.command_words.specs.Causes.{cause_text, rack_cause_name, read_error_name}
 use Rattle.transcript_text.specs.Faults.{fault_line}
 use Rattle.transcript_text.specs.declared.version.Version.TheVariants.{Two}
@@ -27,6 +27,7 @@ status_of (BadReadings name fault) = 6
 status_of (BadTranscript name fault) = 7
 status_of (BadReport name line) = 7
 status_of (Impossible name line) = 7
+status_of (NotInTime name line) = 7
 status_of (OtherRow at from_frames reported) = 9
 status_of (OtherPlan name) = 7
 status_of (OtherLine name line expected) = 7
@@ -81,6 +82,7 @@ complaint_of (BadReadings name fault) = file_complaint name.now fault
 complaint_of (BadTranscript name fault) = line_complaint name.now (fault_line fault) (read_error_name fault)
 complaint_of (BadReport name line) = line_complaint name.now line (codes "Line")
 complaint_of (Impossible name line) = line_complaint name.now line (codes "impossible")
+complaint_of (NotInTime name line) = line_complaint name.now line (codes "not in time")
 complaint_of (OtherRow at from_frames reported) = row_complaint at from_frames reported
 complaint_of (OtherPlan name) = codes "meteragg: " ++ (shown_name name.now ++ codes ": other plan\n")
 complaint_of (OtherLine name line expected) = line_complaint name.now line (codes "expected " ++ entry_text Two expected)
@@ -114,6 +116,7 @@ HasName (BadReadings name fault) = ⊤
 HasName (BadTranscript name fault) = ⊤
 HasName (BadReport name line) = ⊤
 HasName (Impossible name line) = ⊤
+HasName (NotInTime name line) = ⊤
 HasName (OtherPlan name) = ⊤
 HasName other = ⊥
 
@@ -136,6 +139,7 @@ IsFault (BadReadings name fault) = ⊥
 IsFault (BadTranscript name fault) = ⊥
 IsFault (BadReport name line) = ⊥
 IsFault (Impossible name line) = ⊥
+IsFault (NotInTime name line) = ⊥
 IsFault (OtherRow at from_frames reported) = ⊥
 IsFault (OtherPlan name) = ⊥
 IsFault (OtherLine name line expected) = ⊥

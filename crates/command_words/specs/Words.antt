@@ -22,6 +22,12 @@ pub record TwinNames : Type 0 where
   pub transcript : List ℕ
   pub masks : List ℕ
 
+-- the names of the files of `inspect`
+pub record InspectNames : Type 0 where
+  pub public : List ℕ
+  pub transcript : List ℕ
+  pub report : List ℕ
+
 -- a size of made files: the seed, and how many groups, meters of each, and rounds
 pub record Size : Type 0 where
   pub seed : ℕ
@@ -51,6 +57,7 @@ pub data Command : Type 0 where
   Load : (size : Size) (workers : ℕ) (transcript : Option (List ℕ)) → Command
   Convert : (old transcript : List ℕ) → Command
   Public : (plan public : List ℕ) → Command
+  Inspect : (names : InspectNames) → Command
   Bill : (names : BillNames) (period : Period) → Command
   Hide : (names : HideNames) (period : Period) (place : Place) → Command
   Help : Command
@@ -176,6 +183,18 @@ abbrev pub public_of : List (List ℕ) → Option Command
 public_of (plan ∷ public ∷ []) = public_with plan public
 public_of _ = None
 
+-- `inspect` with these files, where they are names
+unfoldable pub inspect_with : (public transcript report : List ℕ) → Option Command
+inspect_with public transcript report =
+    if are_names (public ∷ transcript ∷ report ∷ [])
+    then Some (Inspect (record { public = public; transcript = transcript; report = report }))
+    else None
+
+-- `inspect PUBLIC TRANSCRIPT REPORT`
+abbrev pub inspect_of : List (List ℕ) → Option Command
+inspect_of (public ∷ transcript ∷ report ∷ []) = inspect_with public transcript report
+inspect_of _ = None
+
 -- a period of rounds, the first of which comes before its end
 abbrev pub period_by : (from until : Option ℕ) → Option Period
 period_by (Some from) (Some until) = if nat_lt from until then Some (record { from = from; until = until }) else None
@@ -250,6 +269,7 @@ command_by verb words =
     else if bytes_eq verb (codes "load") then load_of words
     else if bytes_eq verb (codes "convert") then convert_of words
     else if bytes_eq verb (codes "public") then public_of words
+    else if bytes_eq verb (codes "inspect") then inspect_of words
     else if bytes_eq verb (codes "bill") then bill_of words
     else if bytes_eq verb (codes "hide") then hide_of words
     else if asks_help verb then alone Help words

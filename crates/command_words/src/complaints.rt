@@ -264,6 +264,7 @@ fn name_complaint(alloc: Global, outcome: &Outcome<'_>) -> Result<Vec<u8>, Alloc
         }
         Outcome::BadReport(name, line) => line_complaint(alloc, name, *line, "Line"),
         Outcome::Impossible(name, line) => line_complaint(alloc, name, *line, "impossible"),
+        Outcome::NotInTime(name, line) => line_complaint(alloc, name, *line, "not in time"),
         Outcome::OtherPlan(name) => named(alloc, "meteragg: ", name, ": other plan\n"),
         _ => Ok(Vec::new(alloc)),
     }

@@ -10,6 +10,6 @@ pub use complaints::complaint;
 pub use outcome::Outcome;
 pub use usage::{USAGE, VERSION};
 pub use words::{
-    AuditFiles, BillFiles, BillWords, Command, ConvertFiles, HideFiles, HideWords, LoadWords,
-    MakeWords, Period, Place, PublicFiles, RunFiles, RunWords, Size, TwinFiles, parse,
+    AuditFiles, BillFiles, BillWords, Command, ConvertFiles, HideFiles, HideWords, InspectFiles,
+    LoadWords, MakeWords, Period, Place, PublicFiles, RunFiles, RunWords, Size, TwinFiles, parse,
 };

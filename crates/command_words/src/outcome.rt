@@ -40,6 +40,9 @@ pub enum Outcome<'a> {
         from_frames: Option<ReportRow>,
         reported: Option<ReportRow>,
     },
+    /// The line of this entry, counted from 1, is the first with which no run of the plan begins; or all entries begin one that goes
+    /// on, and this is the line behind them.
+    NotInTime(&'a str, u64),
     /// The transcript is one of another plan.
     OtherPlan(&'a str),
     /// This line of the transcript, counted from 1, is the first that isn't the one of the readings under the keys; the

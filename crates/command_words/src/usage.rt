@@ -21,6 +21,9 @@ Commands
       write a transcript of version 1 as a transcript of version 2
   public PLAN PUBLIC
       write the plan without its keys and lanes
+  inspect PUBLIC TRANSCRIPT REPORT
+      check that the transcript is one that a run of the public plan can leave, and
+      the report against it; count the opened rounds that have no total
   bill PLAN READINGS FROM UNTIL BILLS
       write in clear what each meter used in a period of rounds
   hide PLAN READINGS TRANSCRIPT FROM UNTIL G R I OTHER

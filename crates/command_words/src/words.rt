@@ -1,7 +1,7 @@
 //! The words of the command line.
 
 ghost use Rattle.std.specs.Prelude.{◌≡◌, ◌≤◌, ℕ, List, None, Some, IfSome, MatchOption, map, string_bytes};
-ghost use Rattle.command_words.specs.Words.{has_name, are_names, workers_of, run_with, run_of, size_of, audit_of, twin_with, twin_of, make_of, load_with, load_of, convert_of, public_of, alone, asks_help, asks_version, command_by, command_of, period_of, place_of, bill_with, bill_of, hide_with, hide_of};
+ghost use Rattle.command_words.specs.Words.{has_name, are_names, workers_of, run_with, run_of, size_of, audit_of, twin_with, twin_of, make_of, load_with, load_of, convert_of, public_of, inspect_with, inspect_of, alone, asks_help, asks_version, command_by, command_of, period_of, place_of, bill_with, bill_of, hide_with, hide_of};
 ghost use Rattle.command_words.specs.Commands.{size_in, name_in, asked, IsSize, IsWithin, hide_names_of};
 
 use field_texts::{read_number, read_number_within};
@@ -96,6 +96,14 @@ pub struct PublicFiles<'a> {
     pub public: &'a str,
 }
 
+/// The names of the files of `inspect`.
+#[derive(Clone, Copy)]
+pub struct InspectFiles<'a> {
+    pub public: &'a str,
+    pub transcript: &'a str,
+    pub report: &'a str,
+}
+
 /// A period of rounds: from `from` up to below `until`.
 #[derive(Clone, Copy)]
 pub struct Period {
@@ -164,6 +172,8 @@ pub enum Command<'a> {
     Convert(ConvertFiles<'a>),
     /// Writes a plan without its keys and lanes.
     Public(PublicFiles<'a>),
+    /// Checks a transcript against the public plan, and a report against the transcript.
+    Inspect(InspectFiles<'a>),
     /// Writes the bills of a period.
     Bill(BillWords<'a>),
     /// Looks for readings that hide one behind the bills and the transcript.
@@ -426,6 +436,35 @@ fn public_words(words: &[String]) -> Option<Command<'_>>
     }
 }
 
+// `inspect` with these files, where the words are names.
+#[tactic(auto, unfolding(crate::specs::Words::inspect_with))]
+fn inspect_with<'a>(public: &'a str, transcript: &'a str, report: &'a str) -> Option<Command<'a>>
+    ensures command { MatchOption result (inspect_with public.now transcript.now report.now ≡ None)
+        (λ command. inspect_with public.now transcript.now report.now ≡ Some (asked command)) }
+    ensures within { IfSome result (λ command. IsWithin command) }
+{
+    if are_names(&[public, transcript, report]) {
+        Some(Command::Inspect(InspectFiles {
+            public,
+            transcript,
+            report,
+        }))
+    } else {
+        None
+    }
+}
+
+// `inspect` by the words behind the verb.
+fn inspect_words(words: &[String]) -> Option<Command<'_>>
+    ensures command { MatchOption result (inspect_of (map string_bytes words.now) ≡ None) (λ command. inspect_of (map string_bytes words.now) ≡ Some (asked command)) }
+    ensures within { IfSome result (λ command. IsWithin command) }
+{
+    match words {
+        [public, transcript, report] => inspect_with(public, transcript, report),
+        _ => None,
+    }
+}
+
 // The period that two words spell.
 #[tactic(auto, unfolding(crate::specs::Words::period_of))]
 fn read_period(from: &str, until: &str) -> Option<Period>
@@ -590,6 +629,8 @@ fn command_by<'a>(verb: &str, words: &'a [String]) -> Option<Command<'a>>
         convert_words(words)
     } else if verb == "public" {
         public_words(words)
+    } else if verb == "inspect" {
+        inspect_words(words)
     } else if verb == "bill" {
         bill_words(words)
     } else if verb == "hide" {

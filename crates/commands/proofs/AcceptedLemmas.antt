@@ -1,6 +1,7 @@
 -- Accepted files are done.
-use Rattle.std.proofs.Common.{◌≡◌, ◌≢◌, ◌≤◌, ◌<◌, ◌^◌, ◌⊎◌, ℕ, false, List, [], ◌∷◌, length, refl, sym, ap, ◌∙◌, subst, inl, inr, arith, Result, Ok, Err}
+use Rattle.std.proofs.Common.{◌≡◌, ◌≢◌, ◌≤◌, ◌<◌, ◌^◌, ◌⊎◌, ℕ, false, List, [], ◌∷◌, length, drop, refl, sym, ap, ◌∙◌, subst, inl, inr, arith, Result, Ok, Err}
 use Rattle.std.specs.Prelude.{Option, Some, None, ◌*◌, ◌+◌, ◌-◌, slice_get}
+use Rattle.std.proofs.lemmas.List.{take-append-drop}
 use Rattle.transcript_log.specs.Frames.{IsPossible}
 use Rattle.transcript_text.specs.declared.version.Version.TheVariants.{Two}
 use Rattle.transcript_log.specs.Transcripts.{TranscriptView}
@@ -33,13 +34,13 @@ use Rattle.twin_worlds.specs.Statements.{FindsTwins, IsHonest}
 use Rattle.twin_worlds.proofs.HonestLemmas.{honest-have-twins}
 use Rattle.commands.specs.Twins.{TwinBytes, AreReadBy, TwinValues, AreTwinValues, Compared, RefusesFirst, RefusesSecond, TwinRefuses}
 use Rattle.command_words.specs.declared.outcome.Outcome.{Outcome}
-use Rattle.command_words.specs.declared.outcome.Outcome.TheVariants.{Done, NoMemory, BadWords, CannotRead, TooLong, CannotWrite, CannotPrint, BadPlan, BadReadings, BadTranscript, BadReport, Impossible, OtherRow, OtherPlan, OtherLine, OtherPresence, OtherTotal, BadLane, NoPartner}
-use Rattle.command_words.specs.Words.{RunNames, TwinNames, Size, Command, Run, Audit, Twin, Make, Load, Convert, Public, Help, Version, BillNames, HideNames, Bill, Hide}
+use Rattle.command_words.specs.declared.outcome.Outcome.TheVariants.{Done, NoMemory, BadWords, CannotRead, TooLong, CannotWrite, CannotPrint, BadPlan, BadReadings, BadTranscript, BadReport, Impossible, NotInTime, OtherRow, OtherPlan, OtherLine, OtherPresence, OtherTotal, BadLane, NoPartner}
+use Rattle.command_words.specs.Words.{RunNames, TwinNames, Size, Command, Run, Audit, Twin, Make, Load, Convert, Public, Help, Version, BillNames, HideNames, Bill, Hide, InspectNames, Inspect}
 use Rattle.commands.specs.Calls.{most_bytes, EndsAtFetch, IsRead, after_fetches, Unread, Putting, putting, PutsEnd, names_of, Unwritable}
 use Rattle.transcript_text.specs.Spelling.{transcript_text}
 use Rattle.commands.specs.Ends.{fetched_by, put_by, converted_line, RefusesLane, RefusesReadings, RunRefuses, RunEnds, audited_line, AuditCommandEnds, compared_by, moved_line, TwinCommandEnds, made_plan_text, made_readings_text, made_line, MakeEnds, put_where, LoadRefuses, LoadEnds, ConvertRefuses, ConvertEnds, public_line, PublicRefuses, PublicEnds, Ends}
 use Rattle.command_words.specs.Outcomes.{status_of, IsFault}
-use Rattle.commands.specs.Accepted.{HoldsFile, RunAccepts, AuditAccepts, TwinAccepts, LoadAccepts, ConvertAccepts, PublicAccepts, Accepts, AcceptedIsDone, BillAccepts, HideAccepts}
+use Rattle.commands.specs.Accepted.{HoldsFile, RunAccepts, AuditAccepts, TwinAccepts, LoadAccepts, ConvertAccepts, PublicAccepts, InspectAccepts, Accepts, AcceptedIsDone, BillAccepts, HideAccepts}
 use Rattle.command_words.specs.declared.words.Period.{Period}
 use Rattle.command_words.specs.declared.words.Place.{Place}
 use Rattle.group_plan.specs.Plans.{PlanView}
@@ -47,6 +48,8 @@ use Rattle.group_plan.specs.Tables.{ReadingsView}
 use Rattle.plan_files.specs.Spelling.{readings_text}
 use Rattle.commands.specs.Billing.{Metered, AreMetered, MeteredRefuses, bills_in, bills_text_in, HideBytes, AreHideBytes, TextRefuses, Finds, IsAlone}
 use Rattle.commands.specs.BillingEnds.{billed_by, bills_line, BillEnds, hidden_by, hidden_line, HideRefuses, HideEnds}
+use Rattle.run_course.specs.Beginnings.{IsSomeRun}
+use Rattle.commands.specs.Inspecting.{InspectBytes, AreInspectBytes, PublicTextRefuses, TextsRefuse, IsNotInTime, JudgeRefuses, InspectRefuses, inspected_by, line_of, InspectCommandEnds}
 use Rattle.commands.proofs.CommandEndings.{unwritable_puts}
 
 -- ---- what was read
@@ -93,6 +96,7 @@ puts_calm files line v w (BadReadings name fault) ends = absurd ends
 puts_calm files line v w (BadTranscript name fault) ends = absurd ends
 puts_calm files line v w (BadReport name number) ends = absurd ends
 puts_calm files line v w (Impossible name number) ends = absurd ends
+puts_calm files line v w (NotInTime name number) ends = absurd ends
 puts_calm files line v w (OtherRow at from_frames reported) ends = absurd ends
 puts_calm files line v w (OtherPlan name) ends = absurd ends
 puts_calm files line v w (OtherLine name number expected) ends = absurd ends
@@ -120,6 +124,7 @@ unread_calm names v w (BadReadings name fault) short ends = absurd ends
 unread_calm names v w (BadTranscript name fault) short ends = absurd ends
 unread_calm names v w (BadReport name line) short ends = absurd ends
 unread_calm names v w (Impossible name line) short ends = absurd ends
+unread_calm names v w (NotInTime name line) short ends = absurd ends
 unread_calm names v w (OtherRow at from_frames reported) short ends = absurd ends
 unread_calm names v w (OtherPlan name) short ends = absurd ends
 unread_calm names v w (OtherLine name line expected) short ends = absurd ends
@@ -171,6 +176,7 @@ nothing_refused cupboard names v p r (BadReadings name fault) good p_read r_read
 nothing_refused cupboard names v p r (BadTranscript name fault) good p_read r_read ends = absurd ends
 nothing_refused cupboard names v p r (BadReport name line) good p_read r_read ends = absurd ends
 nothing_refused cupboard names v p r (Impossible name line) good p_read r_read ends = absurd ends
+nothing_refused cupboard names v p r (NotInTime name line) good p_read r_read ends = absurd ends
 nothing_refused cupboard names v p r (OtherRow at from_frames reported) good p_read r_read ends = absurd ends
 nothing_refused cupboard names v p r (OtherPlan name) good p_read r_read ends = absurd ends
 nothing_refused cupboard names v p r (OtherLine name line expected) good p_read r_read ends = absurd ends
@@ -232,6 +238,7 @@ audit_not_refused transcript report v tb rb (BadReport name line) good t_read r_
 audit_not_refused transcript report v tb rb (Impossible name line) good t_read r_read (named, (t, rows, texts, (k, number, first))) =
     let same = audited_same transcript report v good tb rb t rows t_read r_read texts in
     absurd (all_possible t k (subst (λ t. IsPossible t.plan.groups (lines_in t)) same.0 good.possible) first)
+audit_not_refused transcript report v tb rb (NotInTime name line) good t_read r_read ends = absurd ends
 audit_not_refused transcript report v tb rb (OtherRow at one other) good t_read r_read (t, rows, texts, ends) =
     let same = audited_same transcript report v good tb rb t rows t_read r_read texts in
     absurd (no_difference t rows at one other (sym same.1 ∙ good.given ∙ ap rows_by_frames same.0) ends.first)
@@ -338,6 +345,7 @@ twin_not_refused names v good (BadReadings name fault) (inr ends) = absurd (seco
 twin_not_refused names v good (BadTranscript name fault) ends = absurd (none_compared names v good (twin.Transcript fault) ends.1 (λ is. cc))
 twin_not_refused names v good (BadReport name line) ends = absurd ends
 twin_not_refused names v good (Impossible name line) ends = absurd ends
+twin_not_refused names v good (NotInTime name line) ends = absurd ends
 twin_not_refused names v good (OtherRow at from_frames reported) ends = absurd ends
 twin_not_refused names v good (OtherPlan name) ends = absurd (none_compared names v good twin.Head ends.1 (λ is. cc))
 twin_not_refused names v good (OtherLine name line expected) (named, (found, ends)) = absurd (none_compared names v good (twin.NotThis line expected.line found expected.tick expected.fate) ends (λ is. cc))
@@ -376,6 +384,7 @@ load_not_refused cupboard size (BadReadings name fault) good ends = absurd ends
 load_not_refused cupboard size (BadTranscript name fault) good ends = absurd ends
 load_not_refused cupboard size (BadReport name line) good ends = absurd ends
 load_not_refused cupboard size (Impossible name line) good ends = absurd ends
+load_not_refused cupboard size (NotInTime name line) good ends = absurd ends
 load_not_refused cupboard size (OtherRow at one other) good ends = absurd ends
 load_not_refused cupboard size (OtherPlan name) good ends = absurd ends
 load_not_refused cupboard size (OtherLine name line expected) good ends = absurd ends
@@ -413,6 +422,7 @@ text_not_refused old v bytes (BadReadings name fault) good is ends = absurd ends
 text_not_refused old v bytes (BadTranscript name fault) good is ends = absurd (ok_or_err _ _ _ (converted_is old v good bytes is) ends.1)
 text_not_refused old v bytes (BadReport name line) good is ends = absurd ends
 text_not_refused old v bytes (Impossible name line) good is ends = absurd ends
+text_not_refused old v bytes (NotInTime name line) good is ends = absurd ends
 text_not_refused old v bytes (OtherRow at from_frames reported) good is ends = absurd ends
 text_not_refused old v bytes (OtherPlan name) good is ends = absurd ends
 text_not_refused old v bytes (OtherLine name line expected) good is ends = absurd ends
@@ -442,6 +452,7 @@ public_not_refused plan v bytes (BadReadings name fault) good is ends = absurd e
 public_not_refused plan v bytes (BadTranscript name fault) good is ends = absurd ends
 public_not_refused plan v bytes (BadReport name line) good is ends = absurd ends
 public_not_refused plan v bytes (Impossible name line) good is ends = absurd ends
+public_not_refused plan v bytes (NotInTime name line) good is ends = absurd ends
 public_not_refused plan v bytes (OtherRow at from_frames reported) good is ends = absurd ends
 public_not_refused plan v bytes (OtherPlan name) good is ends = absurd ends
 public_not_refused plan v bytes (OtherLine name line expected) good is ends = absurd ends
@@ -455,6 +466,67 @@ public_calm plan public v w outcome good (inl unread) = unread_calm (plan ∷ []
 public_calm plan public v w outcome good (inr (bytes, is, inl refused)) = public_not_refused plan v bytes outcome good is refused.0
 public_calm plan public v w outcome good (inr (bytes, is, inr (file, value, again, ends))) =
     puts_calm (putting public (public_text file.plan) ∷ []) (public_line (length file.plan.groups) file.plan.rounds) (after_fetches (plan ∷ []) v) w outcome ends
+
+-- ---- `inspect`
+
+three_are_short : (v w : View) (one two three a b c : List ℕ) → HoldsFile v one a → HoldsFile v two b → HoldsFile v three c
+    → (last : List ℕ) → EndsAtFetch (one ∷ two ∷ three ∷ []) false v w last → IsLonger (v.held last) most_bytes → ⊥
+three_are_short v w one two three a b c first second third last (inl here) longer = not_longer v one a last first here.0 longer
+three_are_short v w one two three a b c first second third last (inr (inl here)) longer = not_longer v two b last second here.0 longer
+three_are_short v w one two three a b c first second third last (inr (inr (inl here))) longer = not_longer v three c last third here.0 longer
+three_are_short v w one two three a b c first second third last (inr (inr (inr none))) longer = absurd none
+
+-- the bytes that were read are the accepted ones
+same_inspected : (names : InspectNames) (v : View) (good : InspectAccepts names v) (bytes : InspectBytes) → AreInspectBytes names v bytes → good.bytes ≡ bytes
+same_inspected names v good bytes read =
+    let public = read_is v names.public good.bytes.public bytes.public good.public read.public in
+    let transcript = read_is v names.transcript good.bytes.transcript bytes.transcript good.transcript read.transcript in
+    let report = read_is v names.report good.bytes.report bytes.report good.report read.report in
+    ap (λ p. record { public = p; transcript = good.bytes.transcript; report = good.bytes.report }) public
+    ∙ ap (λ t. record { public = bytes.public; transcript = t; report = good.bytes.report }) transcript
+    ∙ ap (λ r. record { public = bytes.public; transcript = bytes.transcript; report = r }) report
+
+-- a run begins with all of its entries, and is whole
+pub no_line_late : (t : TranscriptView) (line : ℕ) → IsSomeRun t.plan t.entries → IsNotInTime t line → ⊥
+no_line_late t line run (inl (k, number, first)) = first.here (drop (k + 1) t.entries, subst (IsSomeRun t.plan) (sym (take-append-drop (k + 1) t.entries)) run)
+no_line_late t line run (inr (number, goes_on)) = goes_on.unfinished run
+
+module _ (names : InspectNames) (v : View) (good : InspectAccepts names v) where
+  public_not_refused_now : (outcome : Outcome) → PublicTextRefuses names.public good.bytes.public outcome → IsCalm outcome
+  public_not_refused_now NoMemory ends = inr (inr refl)
+  public_not_refused_now (BadPlan name fault) ends = absurd (ok_or_err _ _ _ good.plan_read ends.1)
+  public_not_refused_now _ ends = absurd ends
+
+  texts_not_refused : (plan : PlanView) (outcome : Outcome) → plan ≡ good.lines.plan → TextsRefuse names plan good.bytes.transcript good.bytes.report outcome → IsCalm outcome
+  texts_not_refused plan NoMemory same ends = inr (inr refl)
+  texts_not_refused plan (BadTranscript name fault) same ends = absurd (ok_or_err _ _ _ good.transcript_read ends.1)
+  texts_not_refused plan (BadReport name line) same (named, (t, is, bad)) = absurd (ok_or_err _ _ _ good.report_read bad)
+  texts_not_refused plan (OtherPlan name) same (named, (t, rows, texts, other)) =
+      absurd (other (ap (λ (t : TranscriptView). t.plan) (ok_same _ _ _ texts.transcript good.transcript_read) ∙ sym same))
+  texts_not_refused plan _ same ends = absurd ends
+
+  judged_well : (t : TranscriptView) (rows : List ReportRow) (outcome : Outcome) → good.lines ≡ t → good.rows ≡ rows → JudgeRefuses names.transcript t rows outcome → IsCalm outcome
+  judged_well t rows NoMemory same rows_same ends = inr (inr refl)
+  judged_well t rows (Impossible name line) same rows_same (named, (k, number, first)) =
+      absurd (all_possible t k (subst (λ (t : TranscriptView). IsPossible t.plan.groups (lines_in t)) same good.possible) first)
+  judged_well t rows (NotInTime name line) same rows_same (named, possible, late) = absurd (no_line_late t line (subst (λ (t : TranscriptView). IsSomeRun t.plan t.entries) same good.run) late)
+  judged_well t rows (OtherRow at one other) same rows_same (run, ends) =
+      absurd (no_difference t rows at one other (sym rows_same ∙ good.given ∙ ap rows_by_frames same) ends.first)
+  judged_well t rows _ same rows_same ends = absurd ends
+
+  inspect_not_refused : (outcome : Outcome) → InspectRefuses names good.bytes outcome → IsCalm outcome
+  inspect_not_refused outcome (inl refused) = public_not_refused_now outcome refused
+  inspect_not_refused outcome (inr (inl (plan, is, refused))) = texts_not_refused plan outcome (ok_same _ _ _ is good.plan_read) refused
+  inspect_not_refused outcome (inr (inr (t, rows, plan, texts, refused))) =
+      judged_well t rows outcome (ok_same _ _ _ good.transcript_read texts.transcript) (ok_same _ _ _ good.report_read texts.report) refused
+
+inspect_calm : (names : InspectNames) (v w : View) (outcome : Outcome) → InspectAccepts names v → InspectCommandEnds names v w outcome → IsCalm outcome
+inspect_calm names v w outcome good (inl unread) =
+    unread_calm (inspected_by names) v w outcome
+    (three_are_short v w names.public names.transcript names.report good.bytes.public good.bytes.transcript good.bytes.report good.public good.transcript good.report) unread
+inspect_calm names v w outcome good (inr (bytes, read, inl refused)) =
+    inspect_not_refused names v good outcome (subst (λ bytes. InspectRefuses names bytes outcome) (sym (same_inspected names v good bytes read)) refused.0)
+inspect_calm names v w outcome good (inr (bytes, read, inr (found, of, ends))) = puts_calm [] (line_of found) (after_fetches (inspected_by names) v) w outcome ends
 
 -- ---- `bill` and `hide`
 
@@ -482,13 +554,6 @@ bill_calm names period v w outcome good (inr (p, r, p_read, r_read, inl refused)
     metered_not_refused names.plan names.readings p r good.values outcome (subst (λ b. AreMetered p b good.values) readings (subst (λ b. AreMetered b good.readings_bytes good.values) plan good.of_bytes)) refused.0
 bill_calm names period v w outcome good (inr (p, r, p_read, r_read, inr (values, are, ends))) =
     puts_calm (putting names.bills (bills_text_in values period) ∷ []) (bills_line (length (bills_in values period))) (after_fetches (billed_by names) v) w outcome ends
-
-three_are_short : (v w : View) (one two three a b c : List ℕ) → HoldsFile v one a → HoldsFile v two b → HoldsFile v three c
-    → (last : List ℕ) → EndsAtFetch (one ∷ two ∷ three ∷ []) false v w last → IsLonger (v.held last) most_bytes → ⊥
-three_are_short v w one two three a b c first second third last (inl here) longer = not_longer v one a last first here.0 longer
-three_are_short v w one two three a b c first second third last (inr (inl here)) longer = not_longer v two b last second here.0 longer
-three_are_short v w one two three a b c first second third last (inr (inr (inl here))) longer = not_longer v three c last third here.0 longer
-three_are_short v w one two three a b c first second third last (inr (inr (inr none))) longer = absurd none
 
 -- the bytes that were read are the accepted ones
 same_three : (names : HideNames) (period : Period) (place : Place) (v : View) (good : HideAccepts names period place v) (bytes : HideBytes) → AreHideBytes names v bytes → good.bytes ≡ bytes
@@ -546,6 +611,7 @@ command_calm cupboard (Make size plan readings) v w outcome good ends = make_cal
 command_calm cupboard (Load size workers transcript) v w outcome good ends = load_calm cupboard size transcript v w outcome good ends
 command_calm cupboard (Convert old transcript) v w outcome good ends = convert_calm old transcript v w outcome good ends
 command_calm cupboard (Public plan public) v w outcome good ends = public_calm plan public v w outcome good ends
+command_calm cupboard (Inspect names) v w outcome good ends = inspect_calm names v w outcome good ends
 command_calm cupboard (Bill names period) v w outcome good ends = bill_calm names period v w outcome good ends
 command_calm cupboard (Hide names period place) v w outcome good ends = hide_calm names period place v w outcome good ends
 command_calm cupboard Help v w outcome good ends = puts_calm [] USAGE.now v w outcome ends

@@ -6,7 +6,8 @@ use Rattle.desk_outside.specs.Desk.{View, IsLonger, Fetched, after_step}
 use Rattle.link_lanes.specs.Fits.{hung_by}
 use Rattle.link_lanes.specs.Lanes.{Meaning}
 use Rattle.link_lanes.specs.declared.cupboard.RackError.{RackError}
-use Rattle.transcript_text.specs.declared.version.Version.TheVariants.{One}
+use Rattle.transcript_text.specs.declared.version.Version.TheVariants.{One, Two}
+use Rattle.transcript_text.specs.Heads.{read_of}
 use Rattle.transcript_log.specs.Transcripts.{TranscriptView}
 use Rattle.transcript_text.specs.ReadBack.{HasText}
 use Rattle.transcript_text.specs.Spelling.{text_of, transcript_text}
@@ -14,7 +15,7 @@ use Rattle.commands.specs.declared.texts.Refusal.{Refusal}
 use Rattle.commands.specs.declared.texts.Refusal.TheVariants as refusal
 use Rattle.commands.specs.RunTexts.{TextsEnd}
 use Rattle.command_words.specs.declared.outcome.Outcome.{Outcome}
-use Rattle.command_words.specs.declared.outcome.Outcome.TheVariants.{Done, NoMemory, BadWords, CannotRead, TooLong, CannotWrite, CannotPrint, BadPlan, BadReadings, BadTranscript, BadReport, Impossible, OtherRow, OtherPlan, OtherLine, OtherPresence, OtherTotal, BadLane, NoPartner}
+use Rattle.command_words.specs.declared.outcome.Outcome.TheVariants.{Done, NoMemory, BadWords, CannotRead, TooLong, CannotWrite, CannotPrint, BadPlan, BadReadings, BadTranscript, BadReport, Impossible, NotInTime, OtherRow, OtherPlan, OtherLine, OtherPresence, OtherTotal, BadLane, NoPartner}
 use Rattle.twin_worlds.specs.declared.rows.MovedRow.{MovedRow}
 use Rattle.twin_worlds.specs.MasksText.{masks_text}
 use Rattle.commands.specs.Twins.{TwinBytes, AreReadBy, Compared, TwinRefuses}
@@ -27,7 +28,7 @@ use Rattle.plan_files.specs.PlanFiles.{plan_of}
 use Rattle.plan_files.specs.Readings.{readings_of}
 use Rattle.load_maker.specs.Made.{made_plan, made_file, made_readings}
 use Rattle.load_maker.specs.MadeFiles.{AreRead}
-use Rattle.commands.specs.Audits.{Audited, AuditRefuses}
+use Rattle.commands.specs.Audits.{Audited, ReportRefuses, AuditRefuses}
 use Rattle.commands.specs.Runs.{HasValues, Texts, Makes}
 use Rattle.commands.proofs.RunLemmas.{is_only}
 
@@ -69,6 +70,7 @@ then_unread names more v u w (BadReadings name fault) after ends = absurd ends
 then_unread names more v u w (BadTranscript name fault) after ends = absurd ends
 then_unread names more v u w (BadReport name line) after ends = absurd ends
 then_unread names more v u w (Impossible name line) after ends = absurd ends
+then_unread names more v u w (NotInTime name line) after ends = absurd ends
 then_unread names more v u w (OtherRow at from_frames reported) after ends = absurd ends
 then_unread names more v u w (OtherPlan name) after ends = absurd ends
 then_unread names more v u w (OtherLine name line expected) after ends = absurd ends
@@ -105,6 +107,7 @@ unwritable_puts files line v w (BadReadings name fault) ends = absurd ends
 unwritable_puts files line v w (BadTranscript name fault) ends = absurd ends
 unwritable_puts files line v w (BadReport name number) ends = absurd ends
 unwritable_puts files line v w (Impossible name number) ends = absurd ends
+unwritable_puts files line v w (NotInTime name number) ends = absurd ends
 unwritable_puts files line v w (OtherRow at from_frames reported) ends = absurd ends
 unwritable_puts files line v w (OtherPlan name) ends = absurd ends
 unwritable_puts files line v w (OtherLine name number expected) ends = absurd ends
@@ -210,6 +213,12 @@ audit_refused transcript report v w outcome tb rb given other t_read r_read afte
     subst (λ bytes. AuditRefuses transcript report tb bytes outcome) other_is (subst (λ bytes. AuditRefuses transcript report bytes other outcome) given_is refused)
     in
     inr (tb, rb, t_read, r_read, inl (here, after))
+
+-- the report's text is refused, where the transcript's is read
+pub report_refused : (transcript report tb rb : List ℕ) (t : TranscriptView) (outcome : Outcome) → read_of Two tb ≡ Ok t → ReportRefuses report rb outcome → AuditRefuses transcript report tb rb outcome
+report_refused transcript report tb rb t (BadReport name line) is refused = (refused.0, (t, is, refused.1))
+report_refused transcript report tb rb t NoMemory is refused = tt
+report_refused transcript report tb rb t _ is refused = absurd refused
 
 -- a report is confirmed
 pub audit_ends : (transcript report : List ℕ) (v u w : View) (counts : AuditCounts) (outcome : Outcome) (tb rb given other line : List ℕ)

@@ -4,8 +4,8 @@ use Rattle.std.specs.Prelude.{Option, None, Some}
 use Rattle.desk_outside.specs.Desk.{View}
 use Rattle.link_lanes.specs.Lanes.{Meaning}
 use Rattle.command_words.specs.declared.outcome.Outcome.{Outcome}
-use Rattle.command_words.specs.declared.outcome.Outcome.TheVariants.{Done, NoMemory, BadWords, CannotRead, TooLong, CannotWrite, CannotPrint, BadPlan, BadReadings, BadTranscript, BadReport, Impossible, OtherRow, OtherPlan, OtherLine, OtherPresence, OtherTotal, BadLane, NoPartner}
-use Rattle.command_words.specs.Words.{Command, Run, Audit, Twin, Make, Load, Convert, Public, Help, Version, Bill, Hide}
+use Rattle.command_words.specs.declared.outcome.Outcome.TheVariants.{Done, NoMemory, BadWords, CannotRead, TooLong, CannotWrite, CannotPrint, BadPlan, BadReadings, BadTranscript, BadReport, Impossible, NotInTime, OtherRow, OtherPlan, OtherLine, OtherPresence, OtherTotal, BadLane, NoPartner}
+use Rattle.command_words.specs.Words.{Command, Run, Audit, Twin, Make, Load, Convert, Public, Inspect, Help, Version, Bill, Hide}
 use Rattle.command_words.specs.Outcomes.{HasComplaint}
 use Rattle.commands.specs.Ends.{Ends}
 
@@ -23,6 +23,7 @@ either (BadReadings name fault) other = tt
 either (BadTranscript name fault) other = tt
 either (BadReport name line) other = tt
 either (Impossible name line) other = tt
+either (NotInTime name line) other = tt
 either (OtherRow at from_frames reported) other = tt
 either (OtherPlan name) other = tt
 either (OtherLine name line expected) other = other name line expected refl
@@ -54,6 +55,11 @@ of_line cupboard (Convert old transcript) v w name line expected (inr (bytes, re
 of_line cupboard (Public plan public) v w name line expected (inl unread) = absurd unread
 of_line cupboard (Public plan public) v w name line expected (inr (bytes, read, inl refused)) = absurd refused.0
 of_line cupboard (Public plan public) v w name line expected (inr (bytes, read, inr (file, value, again, ends))) = absurd ends
+of_line cupboard (Inspect names) v w name line expected (inl unread) = absurd unread
+of_line cupboard (Inspect names) v w name line expected (inr (bytes, read, inl (inl public, after))) = absurd public
+of_line cupboard (Inspect names) v w name line expected (inr (bytes, read, inl (inr (inl (plan, is, refused)), after))) = absurd refused
+of_line cupboard (Inspect names) v w name line expected (inr (bytes, read, inl (inr (inr (t, rows, plan, texts, refused)), after))) = absurd refused
+of_line cupboard (Inspect names) v w name line expected (inr (bytes, read, inr (found, of, ends))) = absurd ends
 of_line cupboard (Bill names period) v w name line expected (inl unread) = absurd unread
 of_line cupboard (Bill names period) v w name line expected (inr (p, r, p_read, r_read, inl refused)) = absurd refused.0
 of_line cupboard (Bill names period) v w name line expected (inr (p, r, p_read, r_read, inr (values, are, ends))) = absurd ends

@@ -4,6 +4,8 @@ pub mod AcceptedLemmas
 mod BillingLemmas
 mod CommandEndings
 mod CupboardLemmas
+pub mod InspectedRuns
+mod InspectLemmas
 mod MadePlanLemmas
 mod PublicLemmas
 pub mod RunLemmas

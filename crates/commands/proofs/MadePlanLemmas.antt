@@ -13,9 +13,9 @@ use Rattle.load_maker.specs.MadeFiles.{AreRead}
 use Rattle.load_maker.proofs.MadeLane.{made_lane_fits}
 use Rattle.load_maker.proofs.MadeReads.{made_files}
 use Rattle.command_words.specs.declared.outcome.Outcome.{Outcome}
-use Rattle.command_words.specs.declared.outcome.Outcome.TheVariants.{Done, NoMemory, BadWords, CannotRead, TooLong, CannotWrite, CannotPrint, BadPlan, BadReadings, BadTranscript, BadReport, Impossible, OtherRow, OtherPlan, OtherLine, OtherPresence, OtherTotal, BadLane, NoPartner}
+use Rattle.command_words.specs.declared.outcome.Outcome.TheVariants.{Done, NoMemory, BadWords, CannotRead, TooLong, CannotWrite, CannotPrint, BadPlan, BadReadings, BadTranscript, BadReport, Impossible, NotInTime, OtherRow, OtherPlan, OtherLine, OtherPresence, OtherTotal, BadLane, NoPartner}
 use Rattle.command_words.specs.Outcomes.{status_of}
-use Rattle.command_words.specs.Words.{RunNames, Size, Command, Run, Audit, Twin, Make, Load, Convert, Public, Bill, Hide, Help, Version}
+use Rattle.command_words.specs.Words.{RunNames, Size, Command, Run, Audit, Twin, Make, Load, Convert, Public, Inspect, Bill, Hide, Help, Version}
 use Rattle.commands.specs.Accepted.{HoldsFile, RunAccepts, Accepts, AcceptedIsDone}
 use Rattle.commands.specs.Calls.{IsRead}
 use Rattle.commands.specs.Cupboard.{full_cupboard, IsMade, RunsMadePlan, MadePlansGetLanes, RunsMadeFiles, MadeFilesAreDone}
@@ -67,6 +67,7 @@ made_accepted (Twin names) v is = absurd is
 made_accepted (Make size plan readings) v is = absurd is
 made_accepted (Convert old transcript) v is = absurd is
 made_accepted (Public plan public) v is = absurd is
+made_accepted (Inspect names) v is = absurd is
 made_accepted (Bill names period) v is = absurd is
 made_accepted (Hide names period place) v is = absurd is
 made_accepted Help v is = absurd is
@@ -91,6 +92,7 @@ by_lane (BadReadings name fault) is = absurd (omega (arith, is))
 by_lane (BadTranscript name fault) is = absurd (omega (arith, is))
 by_lane (BadReport name line) is = absurd (omega (arith, is))
 by_lane (Impossible name line) is = absurd (omega (arith, is))
+by_lane (NotInTime name line) is = absurd (omega (arith, is))
 by_lane (OtherRow at one other) is = absurd (omega (arith, is))
 by_lane (OtherPlan name) is = absurd (omega (arith, is))
 by_lane (OtherLine name line expected) is = absurd (omega (arith, is))
@@ -127,6 +129,7 @@ no_lane (Twin names) v w fault is ends = absurd is
 no_lane (Make size plan readings) v w fault is ends = absurd is
 no_lane (Convert old transcript) v w fault is ends = absurd is
 no_lane (Public plan public) v w fault is ends = absurd is
+no_lane (Inspect names) v w fault is ends = absurd is
 no_lane (Bill names period) v w fault is ends = absurd is
 no_lane (Hide names period place) v w fault is ends = absurd is
 no_lane Help v w fault is ends = absurd is

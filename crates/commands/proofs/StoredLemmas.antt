@@ -39,7 +39,14 @@ honest cupboard p r texts made = record {
   rows = made.run.rows;
 }
 
--- so no audit of its texts finds a fault
+-- so an audit finds no fault in it
+pub audited_well : (cupboard : List Meaning) (p r : List ℕ) (texts : Texts) (made : Makes cupboard p r texts) (result : Result AuditCounts AuditError)
+    → AuditEnds (transcript_in made.values made.entries) (report_rows (plan_in made.values) (row_in made.values made.entries)) result → FindsNone result
+audited_well cupboard p r texts made result ends =
+    honest_are_accepted (transcript_in made.values made.entries) (readings_in made.values) (streams made.values.file.keys) (row_in made.values made.entries) result
+    (honest cupboard p r texts made) ends
+
+-- nor in its texts
 no_fault : (cupboard : List Meaning) (p r : List ℕ) (texts : Texts) (made : Makes cupboard p r texts) (result : Result AuditCounts AuditError)
     → Audited texts.transcript texts.report result → FindsNone result
 no_fault cupboard p r texts made result (t, rows, read, ends) =
@@ -48,8 +55,7 @@ no_fault cupboard p r texts made result (t, rows, read, ends) =
     let same_rows : rows ≡ mine = same_ok (rows_of_text texts.report) rows mine read.report made.told.rows_back in
     let by_t : AuditEnds (transcript_in made.values made.entries) rows result = subst (λ t. AuditEnds t rows result) same_t ends in
     let by_rows : AuditEnds (transcript_in made.values made.entries) mine result = subst (λ rows. AuditEnds (transcript_in made.values made.entries) rows result) same_rows by_t in
-    honest_are_accepted (transcript_in made.values made.entries) (readings_in made.values) (streams made.values.file.keys) (row_in made.values made.entries) result
-    (honest cupboard p r texts made) by_rows
+    audited_well cupboard p r texts made result by_rows
 
 pub runs_are_confirmed : RunsAreConfirmed
 runs_are_confirmed cupboard p r texts made = record {

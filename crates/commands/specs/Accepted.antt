@@ -17,8 +17,9 @@ use Rattle.mask_stream.specs.KeyStreams.{streams}
 use Rattle.transcript_log.specs.Events.{events_of}
 use Rattle.ideal_masks.specs.Offsets.{Agree}
 use Rattle.twin_worlds.specs.Twins.{IsRecord}
-use Rattle.plan_files.specs.PlanFiles.{PlanFileView, plan_of}
-use Rattle.command_words.specs.Words.{RunNames, TwinNames, Size, Command, Run, Audit, Twin, Make, Load, Convert, Public, Help, Version, BillNames, HideNames, Bill, Hide}
+use Rattle.plan_files.specs.PlanFiles.{PlanFileView, plan_of, public_of}
+use Rattle.run_course.specs.Beginnings.{IsSomeRun}
+use Rattle.command_words.specs.Words.{RunNames, TwinNames, Size, Command, Run, Audit, Twin, Make, Load, Convert, Public, Help, Version, BillNames, HideNames, Bill, Hide, InspectNames, Inspect}
 use Rattle.command_words.specs.declared.words.Period.{Period}
 use Rattle.command_words.specs.declared.words.Place.{Place}
 use Rattle.billing_read.specs.declared.partners.Partner.{Partner}
@@ -27,6 +28,7 @@ use Rattle.transcript_log.specs.Transcript.{shape_of_readings}
 use Rattle.commands.specs.Billing.{Metered, AreMetered, HideBytes, IsTextIn}
 use Rattle.commands.specs.Calls.{most_bytes}
 use Rattle.commands.specs.Ends.{made_file_of}
+use Rattle.commands.specs.Inspecting.{InspectBytes}
 use Rattle.commands.specs.Twins.{TwinBytes, TwinValues, AreTwinValues}
 use Rattle.commands.specs.Runs.{Values, AreValues}
 
@@ -91,6 +93,22 @@ pub record PublicAccepts (plan : List ℕ) (v : View) : Type 0 where
   pub says : PlanFileView
   pub value : plan_of bytes ≡ Ok says
 
+-- the three files of `inspect` have values, the transcript is a run of the public plan whose lines are possible, and the rows of the report are those that
+-- the frames give
+pub record InspectAccepts (names : InspectNames) (v : View) : Type 0 where
+  pub bytes : InspectBytes
+  pub public : HoldsFile v names.public bytes.public
+  pub transcript : HoldsFile v names.transcript bytes.transcript
+  pub report : HoldsFile v names.report bytes.report
+  pub lines : TranscriptView
+  pub rows : List ReportRow
+  pub plan_read : public_of bytes.public ≡ Ok lines.plan
+  pub transcript_read : read_of Two bytes.transcript ≡ Ok lines
+  pub report_read : rows_of_text bytes.report ≡ Ok rows
+  pub run : IsSomeRun lines.plan lines.entries
+  pub possible : IsPossible lines.plan.groups (lines_in lines)
+  pub given : rows ≡ rows_by_frames lines
+
 -- both files of `bill` have values
 pub record BillAccepts (names : BillNames) (v : View) : Type 0 where
   pub plan_bytes : List ℕ
@@ -122,6 +140,7 @@ Accepts cupboard (Make size plan readings) v = Unit {0}
 Accepts cupboard (Load size workers transcript) v = LoadAccepts cupboard size
 Accepts cupboard (Convert old transcript) v = ConvertAccepts old v
 Accepts cupboard (Public plan public) v = PublicAccepts plan v
+Accepts cupboard (Inspect names) v = InspectAccepts names v
 Accepts cupboard (Bill names period) v = BillAccepts names v
 Accepts cupboard (Hide names period place) v = HideAccepts names period place v
 Accepts cupboard Help v = Unit {0}

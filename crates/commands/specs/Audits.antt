@@ -31,6 +31,12 @@ abbrev pub Audited : (transcript_bytes report_bytes : List ℕ) → Result Audit
 Audited transcript_bytes report_bytes result =
     (t : TranscriptView) × (rows : List ReportRow) × AreAuditTexts transcript_bytes report_bytes t rows × AuditEnds t rows result
 
+-- the report's text is refused; want of memory is free
+abbrev pub ReportRefuses : (report bytes : List ℕ) → Outcome → Type 0
+ReportRefuses report bytes (BadReport name line) = (name.now ≡ report) × (rows_of_text bytes ≡ Err line)
+ReportRefuses report bytes NoMemory = ⊤
+ReportRefuses report bytes _ = ⊥
+
 -- a text is refused, the transcript's before the report's, or else what they say is, by its cause; want of memory is free
 abbrev pub AuditRefuses : (transcript report transcript_bytes report_bytes : List ℕ) → Outcome → Type 0
 AuditRefuses transcript report tb rb (BadTranscript name fault) = (name.now ≡ transcript) × (read_of Two tb ≡ Err fault)

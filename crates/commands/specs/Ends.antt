@@ -15,7 +15,7 @@ use Rattle.transcript_text.specs.Heads.{read_of}
 use Rattle.command_words.specs.declared.usage.TheConstants.{USAGE, VERSION}
 use Rattle.command_words.specs.declared.outcome.Outcome.{Outcome}
 use Rattle.command_words.specs.declared.outcome.Outcome.TheVariants.{NoMemory, BadWords, BadPlan, BadReadings, BadTranscript, BadLane}
-use Rattle.command_words.specs.Words.{RunNames, TwinNames, Size, Command, Run, Audit, Twin, Make, Load, Convert, Public, Help, Version, Bill, Hide}
+use Rattle.command_words.specs.Words.{RunNames, TwinNames, Size, Command, Run, Audit, Twin, Make, Load, Convert, Public, Help, Version, Bill, Hide, Inspect}
 use Rattle.commands.specs.Calls.{IsRead, after_fetches, Unread, Putting, putting, PutsEnd, Unwritable}
 use Rattle.plan_files.specs.PlanFiles.{public_of}
 use Rattle.plan_files.specs.Spelling.{plan_text, public_text, readings_text}
@@ -28,6 +28,7 @@ use Rattle.twin_worlds.specs.MasksText.{masks_text}
 use Rattle.commands.specs.Twins.{TwinBytes, AreReadBy, Compared, TwinRefuses}
 use Rattle.commands.specs.Runs.{Texts, Makes, IsOnly, HasValues}
 use Rattle.commands.specs.BillingEnds.{BillEnds, HideEnds}
+use Rattle.commands.specs.Inspecting.{InspectCommandEnds}
 
 -- ---- `run PLAN READINGS REPORT TRANSCRIPT [WORKERS]`
 
@@ -238,6 +239,7 @@ Ends cupboard (Some (Make size plan readings)) v w outcome = MakeEnds size plan 
 Ends cupboard (Some (Load size workers transcript)) v w outcome = LoadEnds cupboard size transcript v w outcome
 Ends cupboard (Some (Convert old transcript)) v w outcome = ConvertEnds old transcript v w outcome
 Ends cupboard (Some (Public plan public)) v w outcome = PublicEnds plan public v w outcome
+Ends cupboard (Some (Inspect names)) v w outcome = InspectCommandEnds names v w outcome
 Ends cupboard (Some (Bill names period)) v w outcome = BillEnds names period v w outcome
 Ends cupboard (Some (Hide names period place)) v w outcome = HideEnds names period place v w outcome
 Ends cupboard (Some Help) v w outcome = PutsEnd [] USAGE.now v w outcome

@@ -10,6 +10,8 @@ pub mod TwinTexts
 pub mod Billing
 pub mod BillingEnds
 pub mod BillingParts
+pub mod Inspecting
+pub mod InspectParts
 pub mod Ends
 pub mod Accepted
 pub mod Promise

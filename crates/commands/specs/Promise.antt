@@ -3,7 +3,7 @@ use Rattle.std.specs.Prelude.{◌≡◌, ◌⊎◌, ℕ, false, true, List, Opti
 use Rattle.desk_outside.specs.Desk.{View, Complained, IsPrefixOf, after_step, Rose}
 use Rattle.link_lanes.specs.Lanes.{Meaning}
 use Rattle.command_words.specs.declared.outcome.Outcome.{Outcome}
-use Rattle.command_words.specs.declared.outcome.Outcome.TheVariants.{Done, NoMemory, BadWords, CannotRead, TooLong, CannotWrite, CannotPrint, BadPlan, BadReadings, BadTranscript, BadReport, Impossible, OtherRow, OtherPlan, OtherLine, OtherPresence, OtherTotal, BadLane, NoPartner}
+use Rattle.command_words.specs.declared.outcome.Outcome.TheVariants.{Done, NoMemory, BadWords, CannotRead, TooLong, CannotWrite, CannotPrint, BadPlan, BadReadings, BadTranscript, BadReport, Impossible, NotInTime, OtherRow, OtherPlan, OtherLine, OtherPresence, OtherTotal, BadLane, NoPartner}
 use Rattle.command_words.specs.Words.{Command}
 use Rattle.commands.specs.Ends.{Ends}
 use Rattle.command_words.specs.Outcomes.{status_of, complaint_of, IsFault}
@@ -28,6 +28,7 @@ Tells (BadReadings name fault) v w = Complains (complaint_of (BadReadings name f
 Tells (BadTranscript name fault) v w = Complains (complaint_of (BadTranscript name fault)) v w
 Tells (BadReport name line) v w = Complains (complaint_of (BadReport name line)) v w
 Tells (Impossible name line) v w = Complains (complaint_of (Impossible name line)) v w
+Tells (NotInTime name line) v w = Complains (complaint_of (NotInTime name line)) v w
 Tells (OtherRow at from_frames reported) v w = Complains (complaint_of (OtherRow at from_frames reported)) v w
 Tells (OtherPlan name) v w = Complains (complaint_of (OtherPlan name)) v w
 Tells (OtherLine name line expected) v w = Complains (complaint_of (OtherLine name line expected)) v w

@@ -5,12 +5,12 @@ ghost use Rattle.desk_outside.specs.Desk.{Rose};
 ghost use Rattle.transcript_text.specs.declared.version.Version.TheVariants.{Two};
 ghost use Rattle.transcript_text.specs.Spelling.{transcript_text};
 ghost use Rattle.transcript_text.specs.Heads.{read_of};
-ghost use Rattle.transcript_log.specs.Transcripts.{TranscriptView, IsTranscript};
+ghost use Rattle.transcript_log.specs.Transcripts.{IsTranscript};
 ghost use Rattle.totals_report.specs.Texts.{rows_text};
 ghost use Rattle.totals_report.specs.Reading.{rows_of_text};
 ghost use Rattle.commands.specs.Ends.{audited_line, AuditCommandEnds};
 ghost use Rattle.command_words.specs.Outcomes.{IsFault};
-ghost use Rattle.commands.specs.Audits.{AreAuditTexts, AuditRefuses, TextsAudited};
+ghost use Rattle.commands.specs.Audits.{AreAuditTexts, ReportRefuses, AuditRefuses, TextsAudited};
 
 use crate::desk_calls::{fetch_two, say};
 use audit_check::{AuditCounts, AuditError, audit as audit_lines};
@@ -36,11 +36,11 @@ fn transcript_of<'a>(alloc: Global, name: &'a str, bytes: &[u8]) -> Result<Trans
     }
 }
 
-// The report of this name's bytes, or how the command ends where the transcript's bytes are read.
-fn report_of<'a>(alloc: Global, name: &'a str, bytes: &[u8]) -> Result<Report, Outcome<'a>>
+/// The report of this name's bytes, or how the command ends.
+pub fn report_of<'a>(alloc: Global, name: &'a str, bytes: &[u8]) -> Result<Report, Outcome<'a>>
     ensures text { IfOk result (λ rows. bytes.now ≡ rows_text rows) }
     ensures value { IfOk result (λ rows. rows_of_text bytes.now ≡ Ok rows) }
-    ensures refused { (transcript tb : List ℕ) (t : TranscriptView) → read_of Two tb ≡ Ok t → IfErr result (λ outcome. AuditRefuses transcript name.now tb bytes.now outcome) }
+    ensures refused { IfErr result (ReportRefuses name.now bytes.now) }
     ensures no_fault { IfErr result (λ outcome. ¬ IsFault outcome) }
 {
     match read_report(alloc, bytes) {

@@ -8,6 +8,7 @@ mod convert;
 mod cupboard;
 mod desk_calls;
 mod hide;
+mod inspect;
 mod load;
 mod make;
 mod metered;

@@ -7,6 +7,7 @@ ghost use Rattle.commands.specs.Ends.{Ends};
 ghost use Rattle.commands.specs.Accepted.{AcceptedIsDone};
 ghost use Rattle.commands.specs.Audits.{RunsAreConfirmed, RunsAreShort};
 ghost use Rattle.commands.specs.Twins.{RunsAreRecorded};
+ghost use Rattle.commands.specs.Inspecting.{RunsAreInspected};
 ghost use Rattle.command_words.specs.Outcomes.{HasComplaint, status_of, IsFault};
 ghost use Rattle.commands.specs.Promise.{Tells, EndsAndTells};
 
@@ -15,6 +16,7 @@ use crate::bill::bill;
 use crate::convert::convert;
 use crate::desk_calls::say;
 use crate::hide::hide;
+use crate::inspect::inspect;
 use crate::load::load;
 use crate::make::make;
 use crate::public::public;
@@ -50,6 +52,7 @@ fn perform<'a, R: Threads + Wait + Sync, D: Desk, G: Gate>(
         Some(Command::Load(words)) => load(rt, alloc, words, desk, cupboard, gate),
         Some(Command::Convert(files)) => convert(rt, alloc, files, desk),
         Some(Command::Public(files)) => public(rt, alloc, files, desk),
+        Some(Command::Inspect(files)) => inspect(alloc, files, desk),
         Some(Command::Bill(words)) => bill(rt, alloc, words, desk),
         Some(Command::Hide(words)) => hide(rt, alloc, words, desk),
         Some(Command::Help) => say(USAGE.as_bytes(), desk),
@@ -86,6 +89,7 @@ fn status(outcome: &Outcome<'_>) -> u8
         Outcome::BadTranscript(_, _)
         | Outcome::BadReport(_, _)
         | Outcome::Impossible(_, _)
+        | Outcome::NotInTime(_, _)
         | Outcome::OtherPlan(_)
         | Outcome::OtherLine { .. } => 7,
         Outcome::OtherPresence { .. } | Outcome::OtherTotal { .. } => 8,
@@ -98,7 +102,7 @@ fn status(outcome: &Outcome<'_>) -> u8
 /// Does what the words ask for on the desk, with the lanes of the cupboard, complains where that fails, and answers the
 /// status: 0 done, 1 no memory, 2 bad words, 3 a file that cannot be read or is longer than 2^28 bytes, 4 a file or an
 /// output that cannot be written, 5 a bad plan, 6 bad readings, 7 a text that is no transcript or no report, or a
-/// transcript that is impossible or isn't that of these files, 8 readings that don't agree, 9 a report that is not what the
+/// transcript that is impossible, not in time or isn't that of these files, 8 readings that don't agree, 9 a report that is not what the
 /// frames give, 10 a lane row that gets no lane, 11 a reading without a partner.
 pub fn meteragg<R: Threads + Wait + Sync, D: Desk, G: Gate>(
     rt: &R,
@@ -114,6 +118,8 @@ pub fn meteragg<R: Threads + Wait + Sync, D: Desk, G: Gate>(
     ensures confirmed { RunsAreConfirmed }
     ensures recorded { RunsAreRecorded }
     ensures short { RunsAreShort }
+    // Nor does an inspection find a fault in it, under the public plan of its plan file.
+    ensures inspected { RunsAreInspected }
     ensures words { (result ≡ 2) ↔ (command_of (map string_bytes words.now) ≡ None) }
 {
     let outcome = perform(rt, alloc, words, desk, cupboard, gate);

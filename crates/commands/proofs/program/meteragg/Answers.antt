@@ -1,5 +1,6 @@
 use Rattle.commands.proofs.AcceptedLemmas.{accepted_is_done}
 use Rattle.commands.proofs.ComplaintLemmas.{has_complaint}
+use Rattle.commands.proofs.InspectedRuns.{runs_are_inspected}
 use Rattle.commands.proofs.StoredLemmas.{runs_are_confirmed, runs_are_recorded, runs_are_short}
 use Rattle.commands.proofs.program.meteragg.Goals as goal
 
@@ -15,3 +16,6 @@ returns-clause-recorded g c = runs_are_recorded
 
 pub returns-clause-short : goal.returns-clause-short
 returns-clause-short g c = runs_are_short
+
+pub returns-clause-inspected : goal.returns-clause-inspected
+returns-clause-inspected g c = runs_are_inspected
