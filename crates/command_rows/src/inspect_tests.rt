@@ -45,7 +45,7 @@ fn desk_of(
 static FILES: [(
     &str,
     (&str, &str),
-    [(&str, &str); 2],
+    ((&str, &str), (&str, &str)),
     (&str, &str),
     u8,
     &str,
@@ -53,7 +53,7 @@ static FILES: [(
     (
         "unchanged",
         SAME,
-        [SAME, SAME],
+        (SAME, SAME),
         SAME,
         0,
         "inspect: rows=1 totals=1 opened=0 least=3",
@@ -61,7 +61,7 @@ static FILES: [(
     (
         "a public plan with a key",
         ("north,3,2\n", "north,3,2\nown,0,0,00\n"),
-        [SAME, SAME],
+        (SAME, SAME),
         SAME,
         5,
         "public.csv row 5: Row",
@@ -69,7 +69,7 @@ static FILES: [(
     (
         "a bad public plan before a bad transcript",
         ("rounds,1", "rounds,0"),
-        [("end,20\n", ""), SAME],
+        (("end,20\n", ""), SAME),
         SAME,
         5,
         "public.csv row 0: Plan Rounds",
@@ -77,7 +77,7 @@ static FILES: [(
     (
         "a bad transcript before a bad report",
         SAME,
-        [("end,20\n", ""), SAME],
+        (("end,20\n", ""), SAME),
         ("total,60\n", "total,60"),
         7,
         "t.txt line 26: NoEnd",
@@ -85,7 +85,7 @@ static FILES: [(
     (
         "a bad report before another plan",
         ("windows,1,2", "windows,1,3"),
-        [SAME, SAME],
+        (SAME, SAME),
         ("total,60\n", "total,60"),
         7,
         "report.csv line 2: Line",
@@ -93,7 +93,7 @@ static FILES: [(
     (
         "other windows",
         SAME,
-        [("windows,1,2", "windows,1,3"), SAME],
+        (("windows,1,2", "windows,1,3"), SAME),
         SAME,
         7,
         "t.txt: other plan",
@@ -101,7 +101,7 @@ static FILES: [(
     (
         "a lower floor",
         ("north,3,2", "north,3,3"),
-        [SAME, SAME],
+        (SAME, SAME),
         SAME,
         7,
         "t.txt: other plan",
@@ -109,7 +109,7 @@ static FILES: [(
     (
         "a group cut from both files",
         ("north,3,2\n", "north,3,2\ngroup,south,2,2\n"),
-        [SAME, SAME],
+        (SAME, SAME),
         SAME,
         7,
         "t.txt: other plan",
@@ -117,7 +117,7 @@ static FILES: [(
     (
         "another plan before an impossible line",
         ("windows,1,2", "windows,1,3"),
-        [("1,t,0,0,r,0,fresh", "1,t,0,0,r,0,again"), SAME],
+        (("1,t,0,0,r,0,fresh", "1,t,0,0,r,0,again"), SAME),
         SAME,
         7,
         "t.txt: other plan",
@@ -125,7 +125,7 @@ static FILES: [(
     (
         "again for fresh",
         SAME,
-        [("1,t,0,0,r,0,fresh", "1,t,0,0,r,0,again"), SAME],
+        (("1,t,0,0,r,0,fresh", "1,t,0,0,r,0,again"), SAME),
         SAME,
         7,
         "t.txt line 9: impossible",
@@ -133,10 +133,10 @@ static FILES: [(
     (
         "an impossible line behind one that is not in time",
         SAME,
-        [
+        (
             ("0,s,0,0,r,1,1,", "0,s,0,0,r,1,-,"),
             ("3,e,0,0,total,60", "3,e,0,0,total,61"),
-        ],
+        ),
         SAME,
         7,
         "t.txt line 25: impossible",
@@ -144,7 +144,7 @@ static FILES: [(
     (
         "a lost frame that is taken",
         SAME,
-        [("0,s,0,0,r,1,1,", "0,s,0,0,r,1,-,"), SAME],
+        (("0,s,0,0,r,1,1,", "0,s,0,0,r,1,-,"), SAME),
         SAME,
         7,
         "t.txt line 10: not in time",
@@ -152,7 +152,7 @@ static FILES: [(
     (
         "not in time before another row",
         SAME,
-        [("0,s,0,0,r,1,1,", "0,s,0,0,r,1,-,"), SAME],
+        (("0,s,0,0,r,1,1,", "0,s,0,0,r,1,-,"), SAME),
         ("total,60", "total,61"),
         7,
         "t.txt line 10: not in time",
@@ -160,13 +160,13 @@ static FILES: [(
     (
         "a take of a frame that was not repeated",
         SAME,
-        [
+        (
             (
                 "1,t,0,0,r,2,fresh\n",
                 "1,t,0,0,r,2,fresh\n1,t,0,0,r,2,again\n",
             ),
             ("end,20", "end,21"),
-        ],
+        ),
         SAME,
         7,
         "t.txt line 12: not in time",
@@ -174,7 +174,7 @@ static FILES: [(
     (
         "a take before its tick",
         SAME,
-        [("2,s,0,0,a,0,1,", "2,s,0,0,a,0,2,"), SAME],
+        (("2,s,0,0,a,0,1,", "2,s,0,0,a,0,2,"), SAME),
         SAME,
         7,
         "t.txt line 22: not in time",
@@ -182,10 +182,10 @@ static FILES: [(
     (
         "a wider window",
         ("windows,1,2", "windows,1,3"),
-        [
+        (
             ("windows,1,2", "windows,1,3"),
             ("3,e,0,0,total,60", "4,e,0,0,total,60"),
-        ],
+        ),
         SAME,
         0,
         "inspect: rows=1 totals=1 opened=0 least=3",
@@ -193,10 +193,10 @@ static FILES: [(
     (
         "a take a tick late",
         ("windows,1,2", "windows,1,3"),
-        [
+        (
             ("windows,1,2", "windows,1,3"),
             ("3,t,0,0,a,2,fresh\n3,e,", "4,t,0,0,a,2,fresh\n4,e,"),
-        ],
+        ),
         SAME,
         7,
         "t.txt line 24: not in time",
@@ -204,7 +204,7 @@ static FILES: [(
     (
         "an end a tick late",
         SAME,
-        [("3,e,0,0,total,60", "4,e,0,0,total,60"), SAME],
+        (("3,e,0,0,total,60", "4,e,0,0,total,60"), SAME),
         SAME,
         7,
         "t.txt line 25: not in time",
@@ -212,13 +212,13 @@ static FILES: [(
     (
         "a Send without effect",
         SAME,
-        [
+        (
             (
                 "2,t,0,0,m,0,fresh\n",
                 "1,s,0,0,a,0,-,void\n2,t,0,0,m,0,fresh\n",
             ),
             ("end,20", "end,21"),
-        ],
+        ),
         SAME,
         7,
         "t.txt line 16: not in time",
@@ -226,7 +226,7 @@ static FILES: [(
     (
         "cut after the last send",
         SAME,
-        [(AFTER_SENDS, "end,16"), SAME],
+        ((AFTER_SENDS, "end,16"), SAME),
         ("total,60", "open,"),
         7,
         "t.txt line 22: not in time",
@@ -234,7 +234,7 @@ static FILES: [(
     (
         "cut before the end of the round",
         SAME,
-        [("3,e,0,0,total,60\nend,20", "end,19"), SAME],
+        (("3,e,0,0,total,60\nend,20", "end,19"), SAME),
         ("total,60", "open,"),
         7,
         "t.txt line 25: not in time",
@@ -242,7 +242,7 @@ static FILES: [(
     (
         "another total",
         SAME,
-        [SAME, SAME],
+        (SAME, SAME),
         ("total,60", "total,61"),
         9,
         "row 1: from frames north,0,3,-,total,60, reported north,0,3,-,total,61",
@@ -250,13 +250,13 @@ static FILES: [(
     (
         "a total that is kept back",
         SAME,
-        [
+        (
             ("2,s,0,0,a,2,1,", "2,s,0,0,a,2,-,"),
             (
                 "3,t,0,0,a,2,fresh\n3,e,0,0,total,60\nend,20",
                 "3,e,0,0,none,2\nend,19",
             ),
-        ],
+        ),
         ("total,60", "none,"),
         0,
         "inspect: rows=1 totals=0 opened=1 least=3",
@@ -264,7 +264,7 @@ static FILES: [(
     (
         "an answer that was never sent",
         SAME,
-        [
+        (
             (
                 "2,s,0,0,a,2,1,4d02030200000000000000000000000000000000000000000000000000000000000000000000000000000000903df1a0ade0b876\n",
                 "",
@@ -273,7 +273,7 @@ static FILES: [(
                 "3,t,0,0,a,2,fresh\n3,e,0,0,total,60\nend,20",
                 "3,e,0,0,none,2\nend,18",
             ),
-        ],
+        ),
         ("total,60", "none,"),
         7,
         "t.txt line 21: not in time",
@@ -306,7 +306,7 @@ fn inspected_files(rt: HostRuntime) -> Result<(), Fail> {
     let alloc = rt.alloc();
     for case in FILES.iter() {
         let (name, public, transcript, report, status, text) = *case;
-        let [first, second] = transcript;
+        let (first, second) = transcript;
         let public = replaced(alloc, PUBLIC, public.0, public.1)?;
         let transcript = replaced(alloc, TRANSCRIPT, first.0, first.1)?;
         let transcript = replaced(alloc, &transcript, second.0, second.1)?;
