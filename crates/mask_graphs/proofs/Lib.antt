@@ -1,0 +1,10 @@
+pub mod ListFacts
+pub mod TreeLemmas
+pub mod SearchLemmas
+pub mod PartLemmas
+pub mod ClearLemmas
+pub mod MoveLemmas
+pub mod ToldLemmas
+pub mod KeptLemmas
+pub mod FoundLemmas
+pub mod ChainSteps

@@ -1,0 +1,4 @@
+//! Rounds as graphs of masks.
+#![tactic(auto)]
+
+pub mod laws;
