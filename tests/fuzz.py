@@ -37,6 +37,7 @@ COMMANDS = [
     ("run <plan <readings >report >transcript", {0, 1, 2, 3, 4, 5, 6, 10}),
     ("run <plan <readings >report >transcript 3", {0, 1, 2, 3, 4, 5, 6, 10}),
     ("twin <plan <readings <other <transcript >masks", {0, 1, 2, 3, 4, 5, 6, 7, 8}),
+    ("pooled 0.1+0.2 <plan <readings <other <transcript >masks", {0, 1, 2, 3, 4, 5, 6, 7, 8}),
     ("audit <transcript <report", {0, 1, 2, 3, 4, 7, 9}),
     ("convert <old >transcript", {0, 1, 2, 3, 4, 7}),
     ("public <plan >public", {0, 1, 2, 3, 4, 5}),
@@ -56,7 +57,7 @@ FIELDS = (
     "1099511627776 18446744073709551615 18446744073709551616 99999999999999999999999999 - + * 0+1 1+0 1+1 0+0 16 17 1+2+3 "
     "1+2+3+4 a north ABCDEFGHIJKLMNOP ABCDEFGHIJKLMNOPQ plan group own pair lane member begin end s t c e r m fresh again "
     "late void announced thin already total none open notclosed clear rules seeded every burst *.*.*.*=1 0.0.r.0=- "
-    "1:5:10:2 1:1 2:1+3 0:0"
+    "1:5:10:2 1:1 2:1+3 0:0 0.0 0.1+0.0 0.0+0.3 0.255+255.0 00.1 0.256"
 ).split() + ["", " ", "\t", '"', '""', '"1"', "\r", "\0", "\ufeff", "é", "x" * 300, "9" * 300]
 
 

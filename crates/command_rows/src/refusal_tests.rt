@@ -331,7 +331,7 @@ fn failing_desk_calls(rt: HostRuntime) -> Result<(), Fail> {
 }
 
 // Words that are no command: too few or too many, names that are equal or empty, numbers outside their ranges.
-static BAD_WORDS: [&str; 61] = [
+static BAD_WORDS: [&str; 65] = [
     "run",
     "run plan.csv readings.csv report.csv",
     "ran plan.csv readings.csv report.csv t.txt",
@@ -354,6 +354,10 @@ static BAD_WORDS: [&str; 61] = [
     "twin plan.csv readings.csv readings.csv t.txt masks.txt",
     "twin plan.csv readings.csv other.csv t.txt t.txt",
     "twin plan.csv readings.csv other.csv t.txt ",
+    "pooled plan.csv readings.csv other.csv t.txt masks.txt",
+    "pooled - plan.csv readings.csv other.csv t.txt masks.txt 4",
+    "pooled - plan.csv readings.csv other.csv t.txt t.txt",
+    "pooled 0.1 plan.csv readings.csv other.csv t.txt ",
     "make 18446744073709551616 1 2 1 p.csv r.csv",
     "make 1 0 2 1 p.csv r.csv",
     "make 1 257 2 1 p.csv r.csv",
@@ -411,6 +415,49 @@ fn check_bad_words(
 fn bad_words(rt: HostRuntime) -> Result<(), Fail> {
     for words in BAD_WORDS.iter() {
         check_bad_words(&rt, rt.alloc(), words)?;
+    }
+    Ok(())
+}
+
+// Words that name no known meters.
+static BAD_KNOWN: [&str; 27] = [
+    "",
+    "0",
+    "0.",
+    ".",
+    ".1",
+    "0.1.2",
+    "0.1.",
+    "0-1",
+    "00.1",
+    "0.01",
+    "+0.1",
+    "0.1+",
+    "0.1++0.2",
+    "256.0",
+    "0.256",
+    "4294967296.0",
+    "0.1+0.1",
+    "0.1+0.0",
+    "1.0+0.1",
+    "0.1+2.0+1.9",
+    "0.1,0.2",
+    "0.1+-",
+    "-+0.1",
+    "--",
+    "0.x",
+    "x.0",
+    "0.1;",
+];
+
+#[test]
+fn bad_known_meters(rt: HostRuntime) -> Result<(), Fail> {
+    let alloc = rt.alloc();
+    for known in BAD_KNOWN.iter() {
+        let words = format!(in alloc;
+            "pooled {known} plan.csv readings.csv other.csv t.txt masks.txt"
+        )?;
+        check_bad_words(&rt, alloc, &words)?;
     }
     Ok(())
 }

@@ -1,4 +1,4 @@
-//! The command `twin`: the words that move from one table of readings to another, and what it refuses.
+//! The commands `twin` and `pooled`: the words that move from one table of readings to another, and what they refuse.
 
 use crate::fixtures::{
     HEAD, NORTH, READINGS, RUN, TRANSCRIPT, check, check_calls, check_complained, check_number,
@@ -14,6 +14,9 @@ use std::test::Fail;
 use std::thread::Threads;
 
 const TWIN: &str = "twin plan.csv readings.csv other.csv t.txt masks.txt";
+
+// A lane that never brings meter 2 its announcement.
+const DEAF: &str = "lane,rules,0.0.m.2=-,0,35\n";
 
 // Each row: its name, the lane rows of the run, the other table, the status, and what is complained, or the lines of the
 // masks file and the number of them that is said.
@@ -83,12 +86,13 @@ fn check_moved(
     alloc: Global,
     desk: &MemoryDesk,
     name: &str,
+    verb: &str,
     text: &str,
     moved: u32,
     before: usize,
 ) -> Result<(), Fail> {
     let masks = format!(in alloc; "meteragg masks 1\n{text}end,{moved}\n")?;
-    let said = format!(in alloc; "twin: moved={moved}\n")?;
+    let said = format!(in alloc; "{verb}: moved={moved}\n")?;
     check_complained(rt, desk, "", name);
     check_text(rt, held(desk, "masks.txt"), &masks, name);
     let more = desk.said().len().wrapping_sub(before);
@@ -118,20 +122,252 @@ fn check_unmoved(rt: &impl Abort, desk: &MemoryDesk, name: &str, before: usize) 
     check_number(rt, desk.said().len(), before, name);
 }
 
+// Compares at the desk, and looks for the moved words, or for what is complained.
+fn check_case(
+    rt: &(impl Threads + Wait + Abort + Sync),
+    alloc: Global,
+    verb: &str,
+    words: &str,
+    desk: &mut MemoryDesk,
+    case: (&str, u8, &str, u32),
+) -> Result<(), Fail> {
+    let (name, status, text, moved) = case;
+    let before = desk.said().len();
+    if status == 0 {
+        check_status(rt, alloc, words, desk, &Free, 0, name)?;
+        return check_moved(rt, alloc, desk, name, verb, text, moved, before);
+    }
+    check_refused(rt, alloc, words, desk, status, text, name)?;
+    check_unmoved(rt, desk, name, before);
+    Ok(())
+}
+
 #[test]
 fn twins(rt: HostRuntime) -> Result<(), Fail> {
     let alloc = rt.alloc();
     for case in TWINS.iter() {
         let (name, lanes, other, status, text, moved) = *case;
         let mut desk = desk_after_run(&rt, alloc, lanes, other, name)?;
-        let before = desk.said().len();
-        if status == 0 {
-            check_status(&rt, alloc, TWIN, &mut desk, &Free, 0, name)?;
-            check_moved(&rt, alloc, &desk, name, text, moved, before)?;
-        } else {
-            check_refused(&rt, alloc, TWIN, &mut desk, status, text, name)?;
-            check_unmoved(&rt, &desk, name, before);
-        }
+        let case = (name, status, text, moved);
+        check_case(&rt, alloc, "twin", TWIN, &mut desk, case)?;
+    }
+    Ok(())
+}
+
+// Each row: its name, the known meters, the lane rows of the run, the other table, the status, and what is complained, or the
+// lines of the masks file and the number of them that is said.
+static POOLS: [(&str, &str, &str, &str, u8, &str, u32); 22] = [
+    (
+        "against nobody, as twin",
+        "-",
+        "",
+        "north,0,15,15,30\n",
+        0,
+        "pair,0,0,0,1,903df1a0ade0b876,903df1a0ade0b871\n",
+        1,
+    ),
+    (
+        "the two others change places",
+        "0.2",
+        "",
+        "north,0,20,10,30\n",
+        0,
+        "pair,0,0,0,1,903df1a0ade0b876,903df1a0ade0b86c\n",
+        1,
+    ),
+    (
+        "the chain goes round a known meter",
+        "0.1",
+        "",
+        "north,0,15,20,25\n",
+        0,
+        "pair,0,0,0,2,903df1a0ade0b876,903df1a0ade0b871\n",
+        1,
+    ),
+    (
+        "all are known",
+        "0.0+0.1+0.2",
+        "",
+        "north,0,10,20,30\n",
+        0,
+        "",
+        0,
+    ),
+    (
+        "a known reading differs",
+        "0.0",
+        "",
+        "north,0,15,15,30\n",
+        8,
+        "known 0 0 0",
+        0,
+    ),
+    (
+        "presence before known readings",
+        "0.0",
+        "",
+        "north,0,15,15,\n",
+        8,
+        "presence 0 0 2",
+        0,
+    ),
+    (
+        "the first known reading of two",
+        "0.1+0.2",
+        "",
+        "north,0,10,21,29\n",
+        8,
+        "known 0 0 1",
+        0,
+    ),
+    (
+        "known readings before totals",
+        "0.2",
+        "",
+        "north,0,11,20,31\n",
+        8,
+        "known 0 0 2",
+        0,
+    ),
+    (
+        "a total of the others",
+        "0.2",
+        "",
+        "north,0,10,21,30\n",
+        8,
+        "total 0 0 30 31",
+        0,
+    ),
+    (
+        "two meters know the last one's reading",
+        "0.0+0.1",
+        "",
+        "north,0,10,20,31\n",
+        8,
+        "total 0 0 30 31",
+        0,
+    ),
+    (
+        "no total: twin moves words",
+        "-",
+        DEAF,
+        "north,0,1,2,3\n",
+        0,
+        "own,0,0,2,903df1a0ade0b876,903df1a0ade0b8ac\npair,0,0,0,1,903df1a0ade0b876,903df1a0ade0b87f\npair,0,0,1,2,903df1a0ade0b876,903df1a0ade0b891\n",
+        3,
+    ),
+    (
+        "no total, and the meter that kept silent learns the sum of the others",
+        "0.2",
+        DEAF,
+        "north,0,1,2,30\n",
+        8,
+        "total 0 0 30 3",
+        0,
+    ),
+    (
+        "and nothing else of them",
+        "0.2",
+        DEAF,
+        "north,0,15,15,30\n",
+        0,
+        "pair,0,0,0,1,903df1a0ade0b876,903df1a0ade0b871\n",
+        1,
+    ),
+    (
+        "two meters and a silent one",
+        "0.0+0.1",
+        DEAF,
+        "north,0,10,20,5\n",
+        0,
+        "own,0,0,2,903df1a0ade0b876,903df1a0ade0b88f\n",
+        1,
+    ),
+    (
+        "a meter past the last",
+        "0.3",
+        "",
+        "north,0,10,20,30\n",
+        5,
+        "plan.csv row 0: Key Range",
+        0,
+    ),
+    (
+        "a group past the last",
+        "0.0+1.0",
+        "",
+        "north,0,10,20,30\n",
+        5,
+        "plan.csv row 0: Key Range",
+        0,
+    ),
+    (
+        "the greatest place",
+        "0.2+255.255",
+        "",
+        "north,0,10,20,30\n",
+        5,
+        "plan.csv row 0: Key Range",
+        0,
+    ),
+    (
+        "a place before a bad table",
+        "0.3",
+        "",
+        "north,0,10,20\n",
+        5,
+        "plan.csv row 0: Key Range",
+        0,
+    ),
+    (
+        "a bad table before totals",
+        "0.2",
+        "",
+        "north,0,10,20\n",
+        6,
+        "other.csv row 1: Fields",
+        0,
+    ),
+    (
+        "a known meter without a reading",
+        "0.2",
+        "lane,rules,0.0.r.2=-,0,35\n",
+        "north,0,15,15,30\n",
+        0,
+        "pair,0,0,0,1,903df1a0ade0b876,903df1a0ade0b871\n",
+        1,
+    ),
+    (
+        "and its reading, which came nowhere",
+        "0.2",
+        "lane,rules,0.0.r.2=-,0,35\n",
+        "north,0,15,15,29\n",
+        8,
+        "known 0 0 2",
+        0,
+    ),
+    (
+        "a silent meter among the others",
+        "0.0",
+        DEAF,
+        "north,0,10,1,2\n",
+        0,
+        "own,0,0,2,903df1a0ade0b876,903df1a0ade0b8a5\npair,0,0,1,2,903df1a0ade0b876,903df1a0ade0b889\n",
+        2,
+    ),
+];
+
+#[test]
+fn pools(rt: HostRuntime) -> Result<(), Fail> {
+    let alloc = rt.alloc();
+    for case in POOLS.iter() {
+        let (name, known, lanes, other, status, text, moved) = *case;
+        let mut desk = desk_after_run(&rt, alloc, lanes, other, name)?;
+        let words = format!(in alloc;
+            "pooled {known} plan.csv readings.csv other.csv t.txt masks.txt"
+        )?;
+        let case = (name, status, text, moved);
+        check_case(&rt, alloc, "pooled", &words, &mut desk, case)?;
     }
     Ok(())
 }

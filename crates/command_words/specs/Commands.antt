@@ -10,7 +10,8 @@ use Rattle.command_words.specs.declared.words.HideFiles.{HideFiles}
 use Rattle.command_words.specs.declared.words.InspectFiles.{InspectFiles}
 use Rattle.command_words.specs.declared.words.Command.{Command as Kept}
 use Rattle.command_words.specs.declared.words.Command.TheVariants as kept
-use Rattle.command_words.specs.Words.{TwinNames, Size, Command, Run, Audit, Twin, Make, Load, Convert, Public, Help, Version, names_of, Bill, Hide, BillNames, HideNames, Inspect, InspectNames}
+use Rattle.command_words.specs.Known.{IsKnown, known_in}
+use Rattle.command_words.specs.Words.{TwinNames, Size, Command, Run, Audit, Twin, Pooled, Make, Load, Convert, Public, Help, Version, names_of, Bill, Hide, BillNames, HideNames, Inspect, InspectNames}
 
 -- the names of the files of `twin`
 abbrev pub twin_names_of : TwinFiles → TwinNames
@@ -42,6 +43,7 @@ abbrev pub asked : Kept → Command
 asked (kept.Run words) = Run (names_of words.files) words.workers
 asked (kept.Audit files) = Audit files.transcript.now files.report.now
 asked (kept.Twin files) = Twin (twin_names_of files)
+asked (kept.Pooled words) = Pooled (known_in words.known.now) (twin_names_of words.files)
 asked (kept.Make words) = Make (size_in words.size) words.plan.now words.readings.now
 asked (kept.Load words) = Load (size_in words.size) words.workers (name_in words.transcript)
 asked (kept.Convert files) = Convert files.old.now files.transcript.now
@@ -56,9 +58,10 @@ asked kept.Version = Version
 abbrev pub IsSize : KeptSize → Type 0
 IsSize size = is_within size.groups size.meters size.rounds ≡ true
 
--- the command's numbers are within their limits
+-- the command's numbers are within their limits, and KNOWN names meters
 abbrev pub IsWithin : Kept → Type 0
 IsWithin (kept.Run words) = (1 ≤ words.workers) × (words.workers ≤ 16)
+IsWithin (kept.Pooled words) = IsKnown words.known.now
 IsWithin (kept.Make words) = IsSize words.size
 IsWithin (kept.Load words) = IsSize words.size × (1 ≤ words.workers) × (words.workers ≤ 16)
 IsWithin _ = Unit {0}

@@ -1,3 +1,5 @@
+pub mod Known
+pub mod KnownParts
 pub mod Words
 pub mod Commands
 pub mod Causes

@@ -5,7 +5,7 @@ use Rattle.std.specs.List.{flat_map}
 use Rattle.hex.specs.Hex.{encode_lower}
 use Rattle.plan_files.specs.declared.fault.FileError.{FileError}
 use Rattle.command_words.specs.declared.outcome.Outcome.{Outcome}
-use Rattle.command_words.specs.declared.outcome.Outcome.TheVariants.{Done, NoMemory, BadWords, CannotRead, TooLong, CannotWrite, CannotPrint, BadPlan, BadReadings, BadTranscript, BadReport, Impossible, NotInTime, OtherRow, OtherPlan, OtherLine, OtherPresence, OtherTotal, BadLane, NoPartner}
+use Rattle.command_words.specs.declared.outcome.Outcome.TheVariants.{Done, NoMemory, BadWords, CannotRead, TooLong, CannotWrite, CannotPrint, BadPlan, BadReadings, BadTranscript, BadReport, Impossible, NotInTime, OtherRow, OtherPlan, OtherLine, OtherPresence, OtherKnown, OtherTotal, BadLane, NoPartner}
 use Rattle.command_words.specs.Causes.{cause_text, rack_cause_name, read_error_name}
 use Rattle.transcript_text.specs.Faults.{fault_line}
 use Rattle.transcript_text.specs.declared.version.Version.TheVariants.{Two}
@@ -32,6 +32,7 @@ status_of (OtherRow at from_frames reported) = 9
 status_of (OtherPlan name) = 7
 status_of (OtherLine name line expected) = 7
 status_of (OtherPresence group round meter) = 8
+status_of (OtherKnown group round meter) = 8
 status_of (OtherTotal group round first second) = 8
 status_of (BadLane fault) = 10
 status_of (NoPartner group round meter) = 11
@@ -88,6 +89,8 @@ complaint_of (OtherPlan name) = codes "meteragg: " ++ (shown_name name.now ++ co
 complaint_of (OtherLine name line expected) = line_complaint name.now line (codes "expected " ++ entry_text Two expected)
 complaint_of (OtherPresence group round meter) =
     codes "meteragg: presence " ++ (decimal group ++ (codes " " ++ (decimal round ++ (codes " " ++ (decimal meter ++ codes "\n")))))
+complaint_of (OtherKnown group round meter) =
+    codes "meteragg: known " ++ (decimal group ++ (codes " " ++ (decimal round ++ (codes " " ++ (decimal meter ++ codes "\n")))))
 complaint_of (OtherTotal group round first second) =
     codes "meteragg: total " ++ (decimal group ++ (codes " " ++ (decimal round ++ (codes " " ++ (decimal first ++ (codes " " ++ (decimal second ++ codes "\n")))))))
 complaint_of (BadLane fault) = codes "meteragg: lane row " ++ (decimal fault.row ++ (codes ": " ++ (rack_cause_name fault.cause ++ codes "\n")))
@@ -101,6 +104,7 @@ IsText NoMemory = ⊤
 IsText BadWords = ⊤
 IsText CannotPrint = ⊤
 IsText (OtherPresence group round meter) = ⊤
+IsText (OtherKnown group round meter) = ⊤
 IsText (OtherTotal group round first second) = ⊤
 IsText (BadLane fault) = ⊤
 IsText (NoPartner group round meter) = ⊤
@@ -144,6 +148,7 @@ IsFault (OtherRow at from_frames reported) = ⊥
 IsFault (OtherPlan name) = ⊥
 IsFault (OtherLine name line expected) = ⊥
 IsFault (OtherPresence group round meter) = ⊥
+IsFault (OtherKnown group round meter) = ⊥
 IsFault (OtherTotal group round first second) = ⊥
 IsFault (BadLane fault) = ⊥
 IsFault (NoPartner group round meter) = ⊥

@@ -3,8 +3,10 @@ use Rattle.std.specs.Prelude.{ℕ, Bool, true, false, ◌&&◌, ◌||◌, not, L
 use Rattle.std.specs.Str.{bytes_eq}
 use Rattle.field_texts.specs.Numbers.{number_of, within}
 use Rattle.load_maker.specs.Sizes.{is_within}
+use Rattle.command_words.specs.declared.known.KnownMeter.{KnownMeter}
 use Rattle.command_words.specs.declared.words.Period.{Period}
 use Rattle.command_words.specs.declared.words.Place.{Place}
+use Rattle.command_words.specs.Known.{known_of}
 use Rattle.command_words.specs.declared.words.RunFiles.{RunFiles}
 
 -- the names of the files of `run`
@@ -14,7 +16,7 @@ pub record RunNames : Type 0 where
   pub report : List ℕ
   pub transcript : List ℕ
 
--- the names of the files of `twin`
+-- the names of the files of `twin`, and of those of `pooled`
 pub record TwinNames : Type 0 where
   pub plan : List ℕ
   pub readings : List ℕ
@@ -53,6 +55,7 @@ pub data Command : Type 0 where
   Run : (names : RunNames) (workers : ℕ) → Command
   Audit : (transcript report : List ℕ) → Command
   Twin : (names : TwinNames) → Command
+  Pooled : (known : List KnownMeter) (names : TwinNames) → Command
   Make : (size : Size) (plan readings : List ℕ) → Command
   Load : (size : Size) (workers : ℕ) (transcript : Option (List ℕ)) → Command
   Convert : (old transcript : List ℕ) → Command
@@ -139,6 +142,22 @@ twin_with plan readings other transcript masks =
 abbrev pub twin_of : List (List ℕ) → Option Command
 twin_of (plan ∷ readings ∷ other ∷ transcript ∷ masks ∷ []) = twin_with plan readings other transcript masks
 twin_of _ = None
+
+-- a command that takes meters, where they are named
+abbrev pub with_known : Option (List KnownMeter) → (List KnownMeter → Option Command) → Option Command
+with_known None command = None
+with_known (Some known) command = command known
+
+-- `pooled` with these files, where they are names, and meters
+unfoldable pub pooled_with : TwinNames → List KnownMeter → Option Command
+pooled_with names known =
+    if are_names (names.plan ∷ names.readings ∷ names.other ∷ names.transcript ∷ names.masks ∷ []) then Some (Pooled known names) else None
+
+-- `pooled KNOWN PLAN READINGS OTHER TRANSCRIPT MASKS`
+abbrev pub pooled_of : List (List ℕ) → Option Command
+pooled_of (known ∷ plan ∷ readings ∷ other ∷ transcript ∷ masks ∷ []) =
+    with_known (known_of known) (pooled_with (record { plan = plan; readings = readings; other = other; transcript = transcript; masks = masks }))
+pooled_of _ = None
 
 -- a command that takes a size, where there is one
 abbrev pub with_size : Option Size → (Size → Option Command) → Option Command
@@ -265,6 +284,7 @@ command_by verb words =
     if bytes_eq verb (codes "run") then run_of words
     else if bytes_eq verb (codes "audit") then audit_of words
     else if bytes_eq verb (codes "twin") then twin_of words
+    else if bytes_eq verb (codes "pooled") then pooled_of words
     else if bytes_eq verb (codes "make") then make_of words
     else if bytes_eq verb (codes "load") then load_of words
     else if bytes_eq verb (codes "convert") then convert_of words

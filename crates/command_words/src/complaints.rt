@@ -284,6 +284,11 @@ fn text_complaint(alloc: Global, outcome: &Outcome<'_>) -> Result<String, AllocE
             round,
             meter,
         } => format!(in alloc; "meteragg: presence {group} {round} {meter}\n"),
+        Outcome::OtherKnown {
+            group,
+            round,
+            meter,
+        } => format!(in alloc; "meteragg: known {group} {round} {meter}\n"),
         Outcome::OtherTotal {
             group,
             round,
@@ -326,6 +331,7 @@ pub fn complaint(alloc: Global, outcome: &Outcome<'_>) -> Result<Vec<u8>, AllocE
         | Outcome::BadWords
         | Outcome::CannotPrint
         | Outcome::OtherPresence { .. }
+        | Outcome::OtherKnown { .. }
         | Outcome::OtherTotal { .. }
         | Outcome::BadLane(_)
         | Outcome::NoPartner { .. } => Ok(text_complaint(alloc, outcome)?.into_bytes()),

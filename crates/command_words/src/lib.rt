@@ -2,14 +2,17 @@
 #![tactic(auto)]
 
 mod complaints;
+mod known;
 mod outcome;
 mod usage;
 mod words;
 
 pub use complaints::complaint;
+pub use known::{KnownMeter, known_sets};
 pub use outcome::Outcome;
 pub use usage::{USAGE, VERSION};
 pub use words::{
     AuditFiles, BillFiles, BillWords, Command, ConvertFiles, HideFiles, HideWords, InspectFiles,
-    LoadWords, MakeWords, Period, Place, PublicFiles, RunFiles, RunWords, Size, TwinFiles, parse,
+    LoadWords, MakeWords, Period, Place, PooledWords, PublicFiles, RunFiles, RunWords, Size,
+    TwinFiles, parse,
 };

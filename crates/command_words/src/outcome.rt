@@ -58,7 +58,15 @@ pub enum Outcome<'a> {
         round: u32,
         meter: u8,
     },
-    /// The two tables have these sums, in watt-hours, over the survivors of this opened round.
+    /// The two tables have other readings of this meter in this round, who is one of those that share what they know; all are
+    /// counted from 0.
+    OtherKnown {
+        group: u16,
+        round: u32,
+        meter: u8,
+    },
+    /// The two tables have these sums, in watt-hours, over the survivors of this opened round; or, against meters that share
+    /// what they know, over the other survivors of this round that is open to them.
     OtherTotal {
         group: u16,
         round: u32,

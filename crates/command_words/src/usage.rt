@@ -13,6 +13,9 @@ Commands
       write the mask words that would differ. For those who hold the keys:
       whoever has MASKS and OTHER has the readings. Keep MASKS, and show a
       regulator what is printed
+  pooled KNOWN PLAN READINGS OTHER TRANSCRIPT MASKS
+      the same against the meters KNOWN, who share their keys and readings: OTHER
+      has the same readings of these, and the same totals of the others
   make SEED GROUPS METERS ROUNDS PLAN READINGS
       make a plan and readings from a seed, and write them
   load SEED GROUPS METERS ROUNDS WORKERS [TRANSCRIPT]
@@ -36,6 +39,8 @@ Commands
 
 Words
   WORKERS  1 to 16 threads that collect; run has 4 where it is left out
+  KNOWN    - for nobody, or meters joined by +, as 0.1+0.4+2.0: each a group and a
+           meter with a point between them, below 256, ascending, each once
   SEED     0 to 18446744073709551615
   GROUPS   1 to 256
   METERS   2 to 256, in each group
@@ -55,7 +60,8 @@ Statuses
    5  the plan has a fault
    6  the readings have a fault
    7  the transcript or the report has a fault, or is not that of these files
-   8  the two tables of readings differ in a place or in an opened total
+   8  the two tables of readings differ in a place, in a reading of KNOWN, or in
+      an opened total
    9  the report says something else than the transcript
   10  a lane of the plan does not exist or does not take its argument
   11  no other reading of the period can hide this one

@@ -1,9 +1,11 @@
 //! The words of the command line.
 
 ghost use Rattle.std.specs.Prelude.{◌≡◌, ◌≤◌, ℕ, List, None, Some, IfSome, MatchOption, map, string_bytes};
-ghost use Rattle.command_words.specs.Words.{has_name, are_names, workers_of, run_with, run_of, size_of, audit_of, twin_with, twin_of, make_of, load_with, load_of, convert_of, public_of, inspect_with, inspect_of, alone, asks_help, asks_version, command_by, command_of, period_of, place_of, bill_with, bill_of, hide_with, hide_of};
-ghost use Rattle.command_words.specs.Commands.{size_in, name_in, asked, IsSize, IsWithin, hide_names_of};
+ghost use Rattle.command_words.specs.Words.{has_name, are_names, workers_of, run_with, run_of, size_of, audit_of, twin_with, twin_of, pooled_with, pooled_of, make_of, load_with, load_of, convert_of, public_of, inspect_with, inspect_of, alone, asks_help, asks_version, command_by, command_of, period_of, place_of, bill_with, bill_of, hide_with, hide_of};
+ghost use Rattle.command_words.specs.Commands.{size_in, name_in, asked, IsSize, IsWithin, twin_names_of, hide_names_of};
+ghost use Rattle.command_words.specs.Known.{IsKnown, known_in};
 
+use crate::known::names_meters;
 use field_texts::{read_number, read_number_within};
 use load_maker::is_within;
 
@@ -17,7 +19,7 @@ const MOST_WORKERS: u64 = 16;
 const MOST_ROUNDS: u64 = 4096;
 
 /// The most groups that a plan can have, and the most meters of a group.
-const MOST_OF_EACH: u64 = 256;
+pub(crate) const MOST_OF_EACH: u64 = 256;
 
 /// The names of the files of `run`.
 #[derive(Clone, Copy)]
@@ -51,6 +53,14 @@ pub struct TwinFiles<'a> {
     pub other: &'a str,
     pub transcript: &'a str,
     pub masks: &'a str,
+}
+
+/// `pooled KNOWN PLAN READINGS OTHER TRANSCRIPT MASKS`.
+#[derive(Clone, Copy)]
+pub struct PooledWords<'a> {
+    /// It names meters, as `known_sets` reads them.
+    pub known: &'a str,
+    pub files: TwinFiles<'a>,
 }
 
 /// A size of made files.
@@ -164,6 +174,8 @@ pub enum Command<'a> {
     Audit(AuditFiles<'a>),
     /// Shows the mask words under which other readings give the same transcript.
     Twin(TwinFiles<'a>),
+    /// Shows the same against meters that share what they know.
+    Pooled(PooledWords<'a>),
     /// Makes the two files of a size.
     Make(MakeWords<'a>),
     /// Runs the files of a size in memory.
@@ -310,6 +322,50 @@ fn twin_words(words: &[String]) -> Option<Command<'_>>
     match words {
         [plan, readings, other, transcript, masks] => {
             twin_with(plan, readings, other, transcript, masks)
+        }
+        _ => None,
+    }
+}
+
+// `pooled` with these files, where the words are names, and meters.
+#[tactic(auto, unfolding(crate::specs::Words::pooled_with))]
+fn pooled_with<'a>(known: &'a str, files: TwinFiles<'a>) -> Option<Command<'a>>
+    requires { IsKnown known.now }
+    ensures command { MatchOption result (pooled_with (twin_names_of files.entry) (known_in known.now) ≡ None)
+        (λ command. pooled_with (twin_names_of files.entry) (known_in known.now) ≡ Some (asked command)) }
+    ensures within { IfSome result (λ command. IsWithin command) }
+{
+    if are_names(&[
+        files.plan,
+        files.readings,
+        files.other,
+        files.transcript,
+        files.masks,
+    ]) {
+        Some(Command::Pooled(PooledWords { known, files }))
+    } else {
+        None
+    }
+}
+
+// `pooled` by the words behind the verb.
+fn pooled_words(words: &[String]) -> Option<Command<'_>>
+    ensures command { MatchOption result (pooled_of (map string_bytes words.now) ≡ None) (λ command. pooled_of (map string_bytes words.now) ≡ Some (asked command)) }
+    ensures within { IfSome result (λ command. IsWithin command) }
+{
+    match words {
+        [known, plan, readings, other, transcript, masks] => {
+            if !names_meters(known) {
+                return None;
+            }
+            let files = TwinFiles {
+                plan,
+                readings,
+                other,
+                transcript,
+                masks,
+            };
+            pooled_with(known, files)
         }
         _ => None,
     }
@@ -621,6 +677,8 @@ fn command_by<'a>(verb: &str, words: &'a [String]) -> Option<Command<'a>>
         audit_words(words)
     } else if verb == "twin" {
         twin_words(words)
+    } else if verb == "pooled" {
+        pooled_words(words)
     } else if verb == "make" {
         make_words(words)
     } else if verb == "load" {

@@ -1,6 +1,7 @@
 -- Accepted files are done.
 use Rattle.std.proofs.Common.{◌≡◌, ◌≢◌, ◌≤◌, ◌<◌, ◌^◌, ◌⊎◌, ℕ, false, List, [], ◌∷◌, length, drop, refl, sym, ap, ◌∙◌, subst, inl, inr, arith, Result, Ok, Err}
-use Rattle.std.specs.Prelude.{Option, Some, None, ◌*◌, ◌+◌, ◌-◌, slice_get}
+use Rattle.std.specs.Prelude.{Option, Some, None, ◌*◌, ◌+◌, ◌-◌, slice_get, codes}
+use Rattle.std.proofs.lemmas.Bool.{false≢true}
 use Rattle.std.proofs.lemmas.List.{take-append-drop}
 use Rattle.transcript_log.specs.Frames.{IsPossible}
 use Rattle.transcript_text.specs.declared.version.Version.TheVariants.{Two}
@@ -29,18 +30,23 @@ use Rattle.ideal_masks.specs.declared.Differ.TheVariants.{Presence, Total}
 use Rattle.twin_worlds.specs.declared.answers.TwinError.{TwinError}
 use Rattle.twin_worlds.specs.declared.answers.TwinError.TheVariants as twin
 use Rattle.twin_worlds.specs.MasksText.{masks_text}
-use Rattle.twin_worlds.specs.Twins.{TwinEnds}
-use Rattle.twin_worlds.specs.Statements.{FindsTwins, IsHonest}
-use Rattle.twin_worlds.proofs.HonestLemmas.{honest-have-twins}
+use Rattle.twin_worlds.specs.declared.answers.PoolTwinError.{PoolTwinError}
+use Rattle.twin_worlds.specs.declared.answers.PoolTwinError.TheVariants as pool_twin
+use Rattle.twin_worlds.specs.Twins.{TwinEnds, PooledTwinEnds}
+use Rattle.twin_worlds.specs.Statements.{FindsTwins, IsHonest, FindsPooledTwins, IsHonestFor}
+use Rattle.twin_worlds.proofs.HonestLemmas.{honest-have-twins, honest-have-pooled}
 use Rattle.commands.specs.Twins.{TwinBytes, AreReadBy, TwinValues, AreTwinValues, Compared, RefusesFirst, RefusesSecond, TwinRefuses}
+use Rattle.commands.specs.Pooled.{PooledCompared, RefusesPlanFor, PooledRefuses}
 use Rattle.command_words.specs.declared.outcome.Outcome.{Outcome}
-use Rattle.command_words.specs.declared.outcome.Outcome.TheVariants.{Done, NoMemory, BadWords, CannotRead, TooLong, CannotWrite, CannotPrint, BadPlan, BadReadings, BadTranscript, BadReport, Impossible, NotInTime, OtherRow, OtherPlan, OtherLine, OtherPresence, OtherTotal, BadLane, NoPartner}
-use Rattle.command_words.specs.Words.{RunNames, TwinNames, Size, Command, Run, Audit, Twin, Make, Load, Convert, Public, Help, Version, BillNames, HideNames, Bill, Hide, InspectNames, Inspect}
+use Rattle.command_words.specs.declared.outcome.Outcome.TheVariants.{Done, NoMemory, BadWords, CannotRead, TooLong, CannotWrite, CannotPrint, BadPlan, BadReadings, BadTranscript, BadReport, Impossible, NotInTime, OtherRow, OtherPlan, OtherLine, OtherPresence, OtherKnown, OtherTotal, BadLane, NoPartner}
+use Rattle.command_words.specs.declared.known.KnownMeter.{KnownMeter}
+use Rattle.command_words.specs.Known.{is_known, are_in_plan}
+use Rattle.command_words.specs.Words.{RunNames, TwinNames, Size, Command, Run, Audit, Twin, Pooled, Make, Load, Convert, Public, Help, Version, BillNames, HideNames, Bill, Hide, InspectNames, Inspect}
 use Rattle.commands.specs.Calls.{most_bytes, EndsAtFetch, IsRead, after_fetches, Unread, Putting, putting, PutsEnd, names_of, Unwritable}
 use Rattle.transcript_text.specs.Spelling.{transcript_text}
-use Rattle.commands.specs.Ends.{fetched_by, put_by, converted_line, RefusesLane, RefusesReadings, RunRefuses, RunEnds, audited_line, AuditCommandEnds, compared_by, moved_line, TwinCommandEnds, made_plan_text, made_readings_text, made_line, MakeEnds, put_where, LoadRefuses, LoadEnds, ConvertRefuses, ConvertEnds, public_line, PublicRefuses, PublicEnds, Ends}
+use Rattle.commands.specs.Ends.{fetched_by, put_by, converted_line, RefusesLane, RefusesReadings, RunRefuses, RunEnds, audited_line, AuditCommandEnds, compared_by, moved_line, TwinCommandEnds, counted_line, PooledCommandEnds, made_plan_text, made_readings_text, made_line, MakeEnds, put_where, LoadRefuses, LoadEnds, ConvertRefuses, ConvertEnds, public_line, PublicRefuses, PublicEnds, Ends}
 use Rattle.command_words.specs.Outcomes.{status_of, IsFault}
-use Rattle.commands.specs.Accepted.{HoldsFile, RunAccepts, AuditAccepts, TwinAccepts, LoadAccepts, ConvertAccepts, PublicAccepts, InspectAccepts, Accepts, AcceptedIsDone, BillAccepts, HideAccepts}
+use Rattle.commands.specs.Accepted.{HoldsFile, RunAccepts, AuditAccepts, TwinAccepts, PooledAccepts, LoadAccepts, ConvertAccepts, PublicAccepts, InspectAccepts, Accepts, AcceptedIsDone, BillAccepts, HideAccepts}
 use Rattle.command_words.specs.declared.words.Period.{Period}
 use Rattle.command_words.specs.declared.words.Place.{Place}
 use Rattle.group_plan.specs.Plans.{PlanView}
@@ -101,6 +107,7 @@ puts_calm files line v w (OtherRow at from_frames reported) ends = absurd ends
 puts_calm files line v w (OtherPlan name) ends = absurd ends
 puts_calm files line v w (OtherLine name number expected) ends = absurd ends
 puts_calm files line v w (OtherPresence group round meter) ends = absurd ends
+puts_calm files line v w (OtherKnown group round meter) ends = absurd ends
 puts_calm files line v w (OtherTotal group round first second) ends = absurd ends
 puts_calm files line v w (BadLane fault) ends = absurd ends
 puts_calm files line v w (NoPartner group round meter) ends = absurd ends
@@ -129,6 +136,7 @@ unread_calm names v w (OtherRow at from_frames reported) short ends = absurd end
 unread_calm names v w (OtherPlan name) short ends = absurd ends
 unread_calm names v w (OtherLine name line expected) short ends = absurd ends
 unread_calm names v w (OtherPresence group round meter) short ends = absurd ends
+unread_calm names v w (OtherKnown group round meter) short ends = absurd ends
 unread_calm names v w (OtherTotal group round first second) short ends = absurd ends
 unread_calm names v w (BadLane fault) short ends = absurd ends
 unread_calm names v w (NoPartner group round meter) short ends = absurd ends
@@ -181,6 +189,7 @@ nothing_refused cupboard names v p r (OtherRow at from_frames reported) good p_r
 nothing_refused cupboard names v p r (OtherPlan name) good p_read r_read ends = absurd ends
 nothing_refused cupboard names v p r (OtherLine name line expected) good p_read r_read ends = absurd ends
 nothing_refused cupboard names v p r (OtherPresence group round meter) good p_read r_read ends = absurd ends
+nothing_refused cupboard names v p r (OtherKnown group round meter) good p_read r_read ends = absurd ends
 nothing_refused cupboard names v p r (OtherTotal group round first second) good p_read r_read ends = absurd ends
 nothing_refused cupboard names v p r (BadLane fault) good p_read r_read ends = absurd (lanes_are_right cupboard names v good p fault p_read ends)
 nothing_refused cupboard names v p r (NoPartner group round meter) good p_read r_read ends = absurd ends
@@ -245,6 +254,7 @@ audit_not_refused transcript report v tb rb (OtherRow at one other) good t_read 
 audit_not_refused transcript report v tb rb (OtherPlan name) good t_read r_read ends = absurd ends
 audit_not_refused transcript report v tb rb (OtherLine name line expected) good t_read r_read ends = absurd ends
 audit_not_refused transcript report v tb rb (OtherPresence group round meter) good t_read r_read ends = absurd ends
+audit_not_refused transcript report v tb rb (OtherKnown group round meter) good t_read r_read ends = absurd ends
 audit_not_refused transcript report v tb rb (OtherTotal group round first second) good t_read r_read ends = absurd ends
 audit_not_refused transcript report v tb rb (BadLane fault) good t_read r_read ends = absurd ends
 audit_not_refused transcript report v tb rb (NoPartner group round meter) good t_read r_read ends = absurd ends
@@ -266,45 +276,62 @@ four_are_short v w one two three four a b c d first second third fourth last (in
 four_are_short v w one two three four a b c d first second third fourth last (inr (inr (inr (inl here)))) longer = not_longer v four d last fourth here.0 longer
 four_are_short v w one two three four a b c d first second third fourth last (inr (inr (inr (inr none)))) longer = absurd none
 
--- the bytes that were read are the accepted ones
-same_four : (names : TwinNames) (v : View) (good : TwinAccepts names v) (bytes : TwinBytes) → AreReadBy names v bytes → good.bytes ≡ bytes
-same_four names v good bytes read =
-    let plan : good.bytes.plan ≡ bytes.plan = read_is v names.plan good.bytes.plan bytes.plan good.plan read.plan in
-    let readings : good.bytes.readings ≡ bytes.readings = read_is v names.readings good.bytes.readings bytes.readings good.readings read.readings in
-    let other : good.bytes.other ≡ bytes.other = read_is v names.other good.bytes.other bytes.other good.other read.other in
-    let transcript : good.bytes.transcript ≡ bytes.transcript = read_is v names.transcript good.bytes.transcript bytes.transcript good.transcript read.transcript in
-    ap (λ p. record { plan = p; readings = good.bytes.readings; other = good.bytes.other; transcript = good.bytes.transcript }) plan
-    ∙ ap (λ r. record { plan = bytes.plan; readings = r; other = good.bytes.other; transcript = good.bytes.transcript }) readings
-    ∙ ap (λ o. record { plan = bytes.plan; readings = bytes.readings; other = o; transcript = good.bytes.transcript }) other
+-- the four files are held with these bytes
+record FourHeld (names : TwinNames) (v : View) (bytes : TwinBytes) : Type 0 where
+  plan : HoldsFile v names.plan bytes.plan
+  readings : HoldsFile v names.readings bytes.readings
+  other : HoldsFile v names.other bytes.other
+  transcript : HoldsFile v names.transcript bytes.transcript
+
+-- the bytes that were read are the ones that are held
+same_four : (names : TwinNames) (v : View) (held bytes : TwinBytes) → FourHeld names v held → AreReadBy names v bytes → held ≡ bytes
+same_four names v held bytes are read =
+    let plan : held.plan ≡ bytes.plan = read_is v names.plan held.plan bytes.plan are.plan read.plan in
+    let readings : held.readings ≡ bytes.readings = read_is v names.readings held.readings bytes.readings are.readings read.readings in
+    let other : held.other ≡ bytes.other = read_is v names.other held.other bytes.other are.other read.other in
+    let transcript : held.transcript ≡ bytes.transcript = read_is v names.transcript held.transcript bytes.transcript are.transcript read.transcript in
+    ap (λ p. record { plan = p; readings = held.readings; other = held.other; transcript = held.transcript }) plan
+    ∙ ap (λ r. record { plan = bytes.plan; readings = r; other = held.other; transcript = held.transcript }) readings
+    ∙ ap (λ o. record { plan = bytes.plan; readings = bytes.readings; other = o; transcript = held.transcript }) other
     ∙ ap (λ t. record { plan = bytes.plan; readings = bytes.readings; other = bytes.other; transcript = t }) transcript
 
--- so no fault of the first three files is theirs
-plan_not_refused : (names : TwinNames) (v : View) (good : TwinAccepts names v) (fault : FileError) → plan_of good.bytes.plan ≡ Err fault → ⊥
-plan_not_refused names v good fault bad = ok_or_err _ _ _ good.of_bytes.plan bad
+four_calm : (names : TwinNames) (v w : View) (outcome : Outcome) (bytes : TwinBytes) → FourHeld names v bytes → Unread (compared_by names) v w outcome → IsCalm outcome
+four_calm names v w outcome bytes held unread =
+    unread_calm (compared_by names) v w outcome
+    (four_are_short v w names.plan names.readings names.other names.transcript bytes.plan bytes.readings bytes.other bytes.transcript
+    held.plan held.readings held.other held.transcript)
+    unread
 
-first_not_refused : (names : TwinNames) (v : View) (good : TwinAccepts names v) (fault : FileError) → RefusesFirst good.bytes fault → ⊥
-first_not_refused names v good fault (file, plan, bad) =
-    let same : good.values.file ≡ file = ok_same _ _ _ good.of_bytes.plan plan in
-    ok_or_err _ _ _ (ap (λ f. readings_of f.plan good.bytes.readings) (sym same) ∙ good.of_bytes.first) bad
+-- no fault of the first three files is that of files with values
+plan_not_refused : (bytes : TwinBytes) (good : TwinValues) → AreTwinValues bytes good → (fault : FileError) → plan_of bytes.plan ≡ Err fault → ⊥
+plan_not_refused bytes good well fault bad = ok_or_err _ _ _ well.plan bad
 
-second_not_refused : (names : TwinNames) (v : View) (good : TwinAccepts names v) (fault : FileError) → RefusesSecond good.bytes fault → ⊥
-second_not_refused names v good fault (file, first, plan, is, bad) =
-    let same : good.values.file ≡ file = ok_same _ _ _ good.of_bytes.plan plan in
-    ok_or_err _ _ _ (ap (λ f. readings_of f.plan good.bytes.other) (sym same) ∙ good.of_bytes.second) bad
+first_not_refused : (bytes : TwinBytes) (good : TwinValues) → AreTwinValues bytes good → (fault : FileError) → RefusesFirst bytes fault → ⊥
+first_not_refused bytes good well fault (file, plan, bad) =
+    let same : good.file ≡ file = ok_same _ _ _ well.plan plan in
+    ok_or_err _ _ _ (ap (λ f. readings_of f.plan bytes.readings) (sym same) ∙ well.first) bad
 
--- the values of accepted bytes are the accepted ones
-same_values : (names : TwinNames) (v : View) (good : TwinAccepts names v) (values : TwinValues) → AreTwinValues good.bytes values → good.values ≡ values
-same_values names v good values are =
-    let file : good.values.file ≡ values.file = ok_same _ _ _ good.of_bytes.plan are.plan in
-    let first : good.values.first ≡ values.first =
-    ok_same _ _ _ (ap (λ f. readings_of f.plan good.bytes.readings) (sym file) ∙ good.of_bytes.first) are.first
+second_not_refused : (bytes : TwinBytes) (good : TwinValues) → AreTwinValues bytes good → (fault : FileError) → RefusesSecond bytes fault → ⊥
+second_not_refused bytes good well fault (file, first, plan, is, bad) =
+    let same : good.file ≡ file = ok_same _ _ _ well.plan plan in
+    ok_or_err _ _ _ (ap (λ f. readings_of f.plan bytes.other) (sym same) ∙ well.second) bad
+
+-- bytes have one value
+same_values : (bytes : TwinBytes) (good values : TwinValues) → AreTwinValues bytes good → AreTwinValues bytes values → good ≡ values
+same_values bytes good values well are =
+    let file : good.file ≡ values.file = ok_same _ _ _ well.plan are.plan in
+    let first : good.first ≡ values.first =
+    ok_same _ _ _ (ap (λ f. readings_of f.plan bytes.readings) (sym file) ∙ well.first) are.first
     in
-    let second : good.values.second ≡ values.second =
-    ok_same _ _ _ (ap (λ f. readings_of f.plan good.bytes.other) (sym file) ∙ good.of_bytes.second) are.second
+    let second : good.second ≡ values.second =
+    ok_same _ _ _ (ap (λ f. readings_of f.plan bytes.other) (sym file) ∙ well.second) are.second
     in
-    ap (λ f. record { file = f; first = good.values.first; second = good.values.second }) file
-    ∙ ap (λ x. record { file = values.file; first = x; second = good.values.second }) first
+    ap (λ f. record { file = f; first = good.first; second = good.second }) file
+    ∙ ap (λ x. record { file = values.file; first = x; second = good.second }) first
     ∙ ap (λ y. record { file = values.file; first = values.first; second = y }) second
+
+twin_held : (names : TwinNames) (v : View) (good : TwinAccepts names v) → FourHeld names v good.bytes
+twin_held names v good = record { plan = good.plan; readings = good.readings; other = good.other; transcript = good.transcript }
 
 -- an accepted transcript is that of the first table, and the second one agrees
 is_honest : (names : TwinNames) (v : View) (good : TwinAccepts names v)
@@ -327,7 +354,7 @@ no_cause twin.Memory known found = known refl
 none_compared : (names : TwinNames) (v : View) (good : TwinAccepts names v) (error : TwinError) → Compared good.bytes (Err error) → error ≢ twin.Memory → ⊥
 none_compared names v good error (values, are, ends) known =
     let here : TwinEnds (streams good.values.file.keys) good.values.first good.values.second good.bytes.transcript (Err error) =
-    subst (λ values. TwinEnds (streams values.file.keys) values.first values.second good.bytes.transcript (Err error)) (sym (same_values names v good values are)) ends
+    subst (λ values. TwinEnds (streams values.file.keys) values.first values.second good.bytes.transcript (Err error)) (sym (same_values good.bytes good.values values good.of_bytes are)) ends
     in
     no_cause error known (honest-have-twins (streams good.values.file.keys) good.values.first good.values.second good.bytes.transcript good.lines (Err error) (is_honest names v good) here)
 
@@ -339,9 +366,9 @@ twin_not_refused names v good (CannotRead name) ends = absurd ends
 twin_not_refused names v good (TooLong name) ends = absurd ends
 twin_not_refused names v good (CannotWrite name) ends = absurd ends
 twin_not_refused names v good CannotPrint ends = absurd ends
-twin_not_refused names v good (BadPlan name fault) ends = absurd (plan_not_refused names v good fault ends.1)
-twin_not_refused names v good (BadReadings name fault) (inl ends) = absurd (first_not_refused names v good fault ends.1)
-twin_not_refused names v good (BadReadings name fault) (inr ends) = absurd (second_not_refused names v good fault ends.1)
+twin_not_refused names v good (BadPlan name fault) ends = absurd (plan_not_refused good.bytes good.values good.of_bytes fault ends.1)
+twin_not_refused names v good (BadReadings name fault) (inl ends) = absurd (first_not_refused good.bytes good.values good.of_bytes fault ends.1)
+twin_not_refused names v good (BadReadings name fault) (inr ends) = absurd (second_not_refused good.bytes good.values good.of_bytes fault ends.1)
 twin_not_refused names v good (BadTranscript name fault) ends = absurd (none_compared names v good (twin.Transcript fault) ends.1 (λ is. cc))
 twin_not_refused names v good (BadReport name line) ends = absurd ends
 twin_not_refused names v good (Impossible name line) ends = absurd ends
@@ -350,20 +377,93 @@ twin_not_refused names v good (OtherRow at from_frames reported) ends = absurd e
 twin_not_refused names v good (OtherPlan name) ends = absurd (none_compared names v good twin.Head ends.1 (λ is. cc))
 twin_not_refused names v good (OtherLine name line expected) (named, (found, ends)) = absurd (none_compared names v good (twin.NotThis line expected.line found expected.tick expected.fate) ends (λ is. cc))
 twin_not_refused names v good (OtherPresence group round meter) ends = absurd (none_compared names v good (twin.Differ (Presence group round meter)) ends (λ is. cc))
+twin_not_refused names v good (OtherKnown group round meter) ends = absurd ends
 twin_not_refused names v good (OtherTotal group round first second) ends = absurd (none_compared names v good (twin.Differ (Total group round first second)) ends (λ is. cc))
 twin_not_refused names v good (BadLane fault) ends = absurd ends
 twin_not_refused names v good (NoPartner group round meter) ends = absurd ends
 
 twin_calm : (names : TwinNames) (v w : View) (outcome : Outcome) → TwinAccepts names v → TwinCommandEnds names v w outcome → IsCalm outcome
-twin_calm names v w outcome good (inl unread) =
-    unread_calm (compared_by names) v w outcome
-    (four_are_short v w names.plan names.readings names.other names.transcript good.bytes.plan good.bytes.readings good.bytes.other good.bytes.transcript
-    good.plan good.readings good.other good.transcript)
-    unread
+twin_calm names v w outcome good (inl unread) = four_calm names v w outcome good.bytes (twin_held names v good) unread
 twin_calm names v w outcome good (inr (bytes, read, inl refused)) =
-    twin_not_refused names v good outcome (subst (λ bytes. TwinRefuses names bytes outcome) (sym (same_four names v good bytes read)) refused.0)
+    twin_not_refused names v good outcome
+    (subst (λ bytes. TwinRefuses names bytes outcome) (sym (same_four names v good.bytes bytes (twin_held names v good) read)) refused.0)
 twin_calm names v w outcome good (inr (bytes, read, inr (rows, compared, ends))) =
     puts_calm (putting names.masks (masks_text rows) ∷ []) (moved_line (length rows)) (after_fetches (compared_by names) v) w outcome ends
+
+-- ---- `pooled`
+
+pooled_held : (known : List KnownMeter) (names : TwinNames) (v : View) (good : PooledAccepts known names v) → FourHeld names v good.bytes
+pooled_held known names v good = record { plan = good.plan; readings = good.readings; other = good.other; transcript = good.transcript }
+
+-- the plan has each known meter
+not_outside : (known : List KnownMeter) (names : TwinNames) (v : View) (good : PooledAccepts known names v) (fault : FileError) → RefusesPlanFor known good.bytes fault → ⊥
+not_outside known names v good fault (inl bad) = plan_not_refused good.bytes good.values good.of_bytes fault bad
+not_outside known names v good fault (inr (file, plan, outside, fault_is)) =
+    let same : good.values.file ≡ file = ok_same _ _ _ good.of_bytes.plan plan in
+    false≢true (sym outside ∙ ap (λ f. are_in_plan f.plan known) (sym same) ∙ good.within)
+
+-- an accepted transcript is that of the first table, and the second one agrees for the known meters
+is_honest_for : (known : List KnownMeter) (names : TwinNames) (v : View) (good : PooledAccepts known names v)
+    → IsHonestFor (is_known known) (streams good.values.file.keys) good.values.first good.values.second good.bytes.transcript good.lines
+is_honest_for known names v good =
+    let short = good.transcript.short in
+    let few : length good.bytes.transcript < 2 ^ 64 = omega arith in
+    let text = good.recorded.text_of in
+    record { sound = text.sound; text_is = text.text_is; few = few; plan_is = good.recorded.plan_is; lines_are = good.recorded.lines_are; agree = good.agree }
+
+-- where twins are found for a pool, no cause but want of memory is answered
+no_cause_for : (error : PoolTwinError) → error ≢ pool_twin.Other twin.Memory → FindsPooledTwins (Err error) → ⊥
+no_cause_for (pool_twin.Known g r i) free found = found
+no_cause_for (pool_twin.Other (twin.Transcript refusal)) free found = found
+no_cause_for (pool_twin.Other twin.Head) free found = found
+no_cause_for (pool_twin.Other (twin.NotThis line expected other tick fate)) free found = found
+no_cause_for (pool_twin.Other (twin.Differ cause)) free found = found
+no_cause_for (pool_twin.Other twin.Memory) free found = free refl
+
+-- of which `pooled_twin` answers no cause
+none_pooled : (known : List KnownMeter) (names : TwinNames) (v : View) (good : PooledAccepts known names v) (error : PoolTwinError) → PooledCompared known good.bytes (Err error)
+    → error ≢ pool_twin.Other twin.Memory → ⊥
+none_pooled known names v good error (values, are, within, ends) free =
+    let here : PooledTwinEnds (is_known known) (streams good.values.file.keys) good.values.first good.values.second good.bytes.transcript (Err error) =
+    subst (λ values. PooledTwinEnds (is_known known) (streams values.file.keys) values.first values.second good.bytes.transcript (Err error))
+    (sym (same_values good.bytes good.values values good.of_bytes are)) ends
+    in
+    no_cause_for error free
+    (honest-have-pooled (is_known known) (streams good.values.file.keys) good.values.first good.values.second good.bytes.transcript good.lines (Err error)
+    (is_honest_for known names v good) here)
+
+pooled_not_refused : (known : List KnownMeter) (names : TwinNames) (v : View) (good : PooledAccepts known names v) (outcome : Outcome) → PooledRefuses known names good.bytes outcome → IsCalm outcome
+pooled_not_refused known names v good Done ends = absurd ends
+pooled_not_refused known names v good NoMemory ends = inr (inr refl)
+pooled_not_refused known names v good BadWords ends = absurd ends
+pooled_not_refused known names v good (CannotRead name) ends = absurd ends
+pooled_not_refused known names v good (TooLong name) ends = absurd ends
+pooled_not_refused known names v good (CannotWrite name) ends = absurd ends
+pooled_not_refused known names v good CannotPrint ends = absurd ends
+pooled_not_refused known names v good (BadPlan name fault) ends = absurd (not_outside known names v good fault ends.1)
+pooled_not_refused known names v good (BadReadings name fault) (inl (named, (file, plan, within, bad))) = absurd (first_not_refused good.bytes good.values good.of_bytes fault (file, plan, bad))
+pooled_not_refused known names v good (BadReadings name fault) (inr (named, (file, first, plan, within, is, bad))) =
+    absurd (second_not_refused good.bytes good.values good.of_bytes fault (file, first, plan, is, bad))
+pooled_not_refused known names v good (BadTranscript name fault) ends = absurd (none_pooled known names v good (pool_twin.Other (twin.Transcript fault)) ends.1 (λ is. cc))
+pooled_not_refused known names v good (BadReport name line) ends = absurd ends
+pooled_not_refused known names v good (Impossible name line) ends = absurd ends
+pooled_not_refused known names v good (NotInTime name line) ends = absurd ends
+pooled_not_refused known names v good (OtherRow at from_frames reported) ends = absurd ends
+pooled_not_refused known names v good (OtherPlan name) ends = absurd (none_pooled known names v good (pool_twin.Other twin.Head) ends.1 (λ is. cc))
+pooled_not_refused known names v good (OtherLine name line expected) (named, (found, ends)) = absurd (none_pooled known names v good (pool_twin.Other (twin.NotThis line expected.line found expected.tick expected.fate)) ends (λ is. cc))
+pooled_not_refused known names v good (OtherPresence group round meter) ends = absurd (none_pooled known names v good (pool_twin.Other (twin.Differ (Presence group round meter))) ends (λ is. cc))
+pooled_not_refused known names v good (OtherKnown group round meter) ends = absurd (none_pooled known names v good (pool_twin.Known group round meter) ends (λ is. cc))
+pooled_not_refused known names v good (OtherTotal group round first second) ends = absurd (none_pooled known names v good (pool_twin.Other (twin.Differ (Total group round first second))) ends (λ is. cc))
+pooled_not_refused known names v good (BadLane fault) ends = absurd ends
+pooled_not_refused known names v good (NoPartner group round meter) ends = absurd ends
+
+pooled_calm : (known : List KnownMeter) (names : TwinNames) (v w : View) (outcome : Outcome) → PooledAccepts known names v → PooledCommandEnds known names v w outcome → IsCalm outcome
+pooled_calm known names v w outcome good (inl unread) = four_calm names v w outcome good.bytes (pooled_held known names v good) unread
+pooled_calm known names v w outcome good (inr (bytes, read, inl refused)) =
+    pooled_not_refused known names v good outcome
+    (subst (λ bytes. PooledRefuses known names bytes outcome) (sym (same_four names v good.bytes bytes (pooled_held known names v good) read)) refused.0)
+pooled_calm known names v w outcome good (inr (bytes, read, inr (rows, compared, ends))) =
+    puts_calm (putting names.masks (masks_text rows) ∷ []) (counted_line (codes "pooled") (length rows)) (after_fetches (compared_by names) v) w outcome ends
 
 -- ---- `make` and `load`
 
@@ -389,6 +489,7 @@ load_not_refused cupboard size (OtherRow at one other) good ends = absurd ends
 load_not_refused cupboard size (OtherPlan name) good ends = absurd ends
 load_not_refused cupboard size (OtherLine name line expected) good ends = absurd ends
 load_not_refused cupboard size (OtherPresence group round meter) good ends = absurd ends
+load_not_refused cupboard size (OtherKnown group round meter) good ends = absurd ends
 load_not_refused cupboard size (OtherTotal group round first second) good ends = absurd ends
 load_not_refused cupboard size (BadLane fault) good ends = absurd (ok_or_err _ _ _ good.lanes ends)
 load_not_refused cupboard size (NoPartner group round meter) good ends = absurd ends
@@ -427,6 +528,7 @@ text_not_refused old v bytes (OtherRow at from_frames reported) good is ends = a
 text_not_refused old v bytes (OtherPlan name) good is ends = absurd ends
 text_not_refused old v bytes (OtherLine name line expected) good is ends = absurd ends
 text_not_refused old v bytes (OtherPresence group round meter) good is ends = absurd ends
+text_not_refused old v bytes (OtherKnown group round meter) good is ends = absurd ends
 text_not_refused old v bytes (OtherTotal group round first second) good is ends = absurd ends
 text_not_refused old v bytes (BadLane fault) good is ends = absurd ends
 text_not_refused old v bytes (NoPartner group round meter) good is ends = absurd ends
@@ -457,6 +559,7 @@ public_not_refused plan v bytes (OtherRow at from_frames reported) good is ends 
 public_not_refused plan v bytes (OtherPlan name) good is ends = absurd ends
 public_not_refused plan v bytes (OtherLine name line expected) good is ends = absurd ends
 public_not_refused plan v bytes (OtherPresence group round meter) good is ends = absurd ends
+public_not_refused plan v bytes (OtherKnown group round meter) good is ends = absurd ends
 public_not_refused plan v bytes (OtherTotal group round first second) good is ends = absurd ends
 public_not_refused plan v bytes (BadLane fault) good is ends = absurd ends
 public_not_refused plan v bytes (NoPartner group round meter) good is ends = absurd ends
@@ -607,6 +710,7 @@ command_calm : (cupboard : List Meaning) (command : Command) (v w : View) (outco
 command_calm cupboard (Run names workers) v w outcome good ends = run_calm cupboard names v w outcome good ends
 command_calm cupboard (Audit transcript report) v w outcome good ends = audit_calm transcript report v w outcome good ends
 command_calm cupboard (Twin names) v w outcome good ends = twin_calm names v w outcome good ends
+command_calm cupboard (Pooled known names) v w outcome good ends = pooled_calm known names v w outcome good ends
 command_calm cupboard (Make size plan readings) v w outcome good ends = make_calm size plan readings v w outcome ends
 command_calm cupboard (Load size workers transcript) v w outcome good ends = load_calm cupboard size transcript v w outcome good ends
 command_calm cupboard (Convert old transcript) v w outcome good ends = convert_calm old transcript v w outcome good ends

@@ -3,11 +3,11 @@ use Rattle.std.proofs.Common.{◌≡◌, ◌+◌, ◌-◌, ◌^◌, ◌<◌, ◌
 use Rattle.std.proofs.lemmas.List.{length-take-le}
 use Rattle.group_plan.specs.Plans.{PlanView}
 use Rattle.transcript_log.specs.declared.Entry.{Entry}
-use Rattle.transcript_log.specs.Transcripts.{TranscriptView, no_entries}
+use Rattle.transcript_log.specs.Transcripts.{TranscriptView}
 use Rattle.transcript_text.specs.Writing.{lines_text, begun_text}
 use Rattle.transcript_text.specs.Spelling.{transcript_text}
 use Rattle.transcript_text.proofs.BegunText.{begun_more}
-use Rattle.tick_run.specs.Recorded.{IsRecorded, Records, up_to}
+use Rattle.tick_run.specs.Recorded.{IsRecorded, Records}
 use Rattle.commands.specs.Ahead.{text_ahead, IsAhead}
 
 -- the text ahead, once a part is written behind it

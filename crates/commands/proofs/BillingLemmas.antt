@@ -1,5 +1,5 @@
 -- How `bill` and `hide` end, from how their parts do.
-use Rattle.std.proofs.Common.{◌≡◌, ℕ, List, [], ◌∷◌, length, ◌∙◌, sym, ap, subst, inl, inr, Result, Ok, Err}
+use Rattle.std.proofs.Common.{◌≡◌, ℕ, List, [], ◌∷◌, length, ◌∙◌, ap, subst, inl, inr, Result, Ok, Err}
 use Rattle.std.specs.Prelude.{IfOk, IfErr}
 use Rattle.desk_outside.specs.Desk.{View}
 use Rattle.group_plan.specs.Plans.{PlanView}
@@ -13,7 +13,7 @@ use Rattle.command_words.specs.Words.{BillNames, HideNames}
 use Rattle.commands.specs.declared.bill.BillsText.{BillsText}
 use Rattle.commands.specs.declared.hide.Hidden.{Hidden}
 use Rattle.commands.specs.Calls.{IsRead, after_fetches, putting, PutsEnd}
-use Rattle.commands.specs.Billing.{Metered, AreMetered, MeteredRefuses, bills_in, bills_text_in, HideBytes, AreHideBytes, IsTextIn, TextRefuses, IsAlone, IsHidden, OfHidden}
+use Rattle.commands.specs.Billing.{Metered, AreMetered, MeteredRefuses, bills_in, bills_text_in, HideBytes, AreHideBytes, IsTextIn, IsAlone, IsHidden, OfHidden}
 use Rattle.commands.specs.BillingEnds.{billed_by, bills_line, BillEnds, hidden_by, hidden_line, HideRefuses, HideEnds}
 use Rattle.commands.specs.BillingParts.{AreBillsOf, HidesPlace, FindsHidden, HidesIn}
 use Rattle.commands.proofs.CommandEndings.{read_after}

@@ -15,13 +15,15 @@ use Rattle.commands.specs.declared.texts.Refusal.{Refusal}
 use Rattle.commands.specs.declared.texts.Refusal.TheVariants as refusal
 use Rattle.commands.specs.RunTexts.{TextsEnd}
 use Rattle.command_words.specs.declared.outcome.Outcome.{Outcome}
-use Rattle.command_words.specs.declared.outcome.Outcome.TheVariants.{Done, NoMemory, BadWords, CannotRead, TooLong, CannotWrite, CannotPrint, BadPlan, BadReadings, BadTranscript, BadReport, Impossible, NotInTime, OtherRow, OtherPlan, OtherLine, OtherPresence, OtherTotal, BadLane, NoPartner}
+use Rattle.command_words.specs.declared.outcome.Outcome.TheVariants.{Done, NoMemory, BadWords, CannotRead, TooLong, CannotWrite, CannotPrint, BadPlan, BadReadings, BadTranscript, BadReport, Impossible, NotInTime, OtherRow, OtherPlan, OtherLine, OtherPresence, OtherKnown, OtherTotal, BadLane, NoPartner}
 use Rattle.twin_worlds.specs.declared.rows.MovedRow.{MovedRow}
 use Rattle.twin_worlds.specs.MasksText.{masks_text}
-use Rattle.commands.specs.Twins.{TwinBytes, AreReadBy, Compared, TwinRefuses}
+use Rattle.commands.specs.Twins.{TwinBytes, AreReadBy}
+use Rattle.commands.specs.Pooled.{PooledCompared, PooledRefuses}
+use Rattle.command_words.specs.declared.known.KnownMeter.{KnownMeter}
 use Rattle.command_words.specs.Words.{RunNames, TwinNames, Size}
 use Rattle.commands.specs.Calls.{most_bytes, HasFetched, EndsAtFetch, Unread, IsRead, after_fetches, Putting, putting, HasPut, names_of, Unwritable, PutsEnd}
-use Rattle.commands.specs.Ends.{fetched_by, put_by, RunEnds, RefusesLane, RefusesReadings, audited_line, AuditCommandEnds, compared_by, moved_line, TwinCommandEnds, made_file_of, made_plan_text, made_readings_text, IsMade, put_where, LoadEnds, converted_line, ConvertEnds}
+use Rattle.commands.specs.Ends.{fetched_by, put_by, RunEnds, RefusesLane, RefusesReadings, audited_line, AuditCommandEnds, compared_by, counted_line, PooledEndsAs, made_file_of, made_plan_text, made_readings_text, IsMade, put_where, LoadEnds, converted_line, ConvertEnds}
 use Rattle.audit_check.specs.declared.answers.AuditCounts.{AuditCounts}
 use Rattle.plan_files.specs.declared.fault.FileError.{FileError}
 use Rattle.plan_files.specs.PlanFiles.{plan_of}
@@ -75,6 +77,7 @@ then_unread names more v u w (OtherRow at from_frames reported) after ends = abs
 then_unread names more v u w (OtherPlan name) after ends = absurd ends
 then_unread names more v u w (OtherLine name line expected) after ends = absurd ends
 then_unread names more v u w (OtherPresence group round meter) after ends = absurd ends
+then_unread names more v u w (OtherKnown group round meter) after ends = absurd ends
 then_unread names more v u w (OtherTotal group round first second) after ends = absurd ends
 then_unread names more v u w (BadLane fault) after ends = absurd ends
 then_unread names more v u w (NoPartner group round meter) after ends = absurd ends
@@ -112,6 +115,7 @@ unwritable_puts files line v w (OtherRow at from_frames reported) ends = absurd 
 unwritable_puts files line v w (OtherPlan name) ends = absurd ends
 unwritable_puts files line v w (OtherLine name number expected) ends = absurd ends
 unwritable_puts files line v w (OtherPresence group round meter) ends = absurd ends
+unwritable_puts files line v w (OtherKnown group round meter) ends = absurd ends
 unwritable_puts files line v w (OtherTotal group round first second) ends = absurd ends
 unwritable_puts files line v w (BadLane fault) ends = absurd ends
 unwritable_puts files line v w (NoPartner group round meter) ends = absurd ends
@@ -232,12 +236,6 @@ audit_ends transcript report v u w counts outcome tb rb given other line t_read 
     inr (tb, rb, t_read, r_read, inr (counts, here, subst (λ u. PutsEnd [] (audited_line counts.rows counts.totals) u w outcome) after by_line))
 
 -- the made files are read as what they were made of, so no run refuses them
-pub made_plan_is_read : (cupboard : List Meaning) (size : Size) (is_writable : Bool) (p r : List ℕ) (why : Refusal) (fault : FileError) → p ≡ made_plan_text size
-    → AreRead size.seed size.groups size.meters size.rounds → why ≡ refusal.Plan fault → TextsEnd cupboard p r is_writable (Err why) → ⊥
-made_plan_is_read cupboard size is_writable p r why fault p_is made why_is ends =
-    let bad : plan_of p ≡ Err fault = subst (λ x. TextsEnd cupboard p r is_writable (Err x)) why_is ends in
-    let well : plan_of p ≡ Ok (made_file_of size) = ap plan_of p_is ∙ made.plan in
-    cc
 
 plan_of_made : (size : Size) → (made_file_of size).plan ≡ made_plan size.groups size.meters size.rounds
 unfolding made_file
@@ -312,7 +310,7 @@ some_made size p r plan readings read = (size, record { plan = plan; readings = 
 pub load_named : (cupboard : List Meaning) (size : Size) (given name : Option (List ℕ)) (v w : View) (outcome : Outcome) → given ≡ name → LoadEnds cupboard size name v w outcome → LoadEnds cupboard size given v w outcome
 load_named cupboard size given name v w outcome same = subst (λ name. LoadEnds cupboard size name v w outcome) (sym same)
 
--- ---- `twin`
+-- ---- `twin` and `pooled`
 
 -- the bytes of four files that were read one after the other
 four_read : (names : TwinNames) (v u : View) (p r o t : List ℕ) → IsRead (v.held names.plan) p → IsRead (v.held names.readings) r
@@ -339,37 +337,37 @@ same_texts P p r o t gp gr go gt p_is r_is o_is t_is holds =
     (subst (λ x. P (record { plan = x; readings = gr; other = go; transcript = gt })) p_is holds)))
 
 -- what the four files say is refused
-pub twin_refused : (names : TwinNames) (v u w : View) (outcome : Outcome) (p r o t gp gr go gt : List ℕ) → IsRead (v.held names.plan) p
+pub twin_refused : (verb : List ℕ) (known : List KnownMeter) (names : TwinNames) (v u w : View) (outcome : Outcome) (p r o t gp gr go gt : List ℕ) → IsRead (v.held names.plan) p
     → IsRead (v.held names.readings) r → u ≡ after_fetches (names.plan ∷ names.readings ∷ []) v → IsRead (u.held names.other) o → IsRead (u.held names.transcript) t
     → w ≡ after_fetches (names.other ∷ names.transcript ∷ []) u → gp ≡ p → gr ≡ r → go ≡ o → gt ≡ t
-    → TwinRefuses names (record { plan = gp; readings = gr; other = go; transcript = gt }) outcome → TwinCommandEnds names v w outcome
-twin_refused names v u w outcome p r o t gp gr go gt p_read r_read first o_read t_read second p_is r_is o_is t_is refused =
+    → PooledRefuses known names (record { plan = gp; readings = gr; other = go; transcript = gt }) outcome → PooledEndsAs verb known names v w outcome
+twin_refused verb known names v u w outcome p r o t gp gr go gt p_read r_read first o_read t_read second p_is r_is o_is t_is refused =
     inr (
       record { plan = p; readings = r; other = o; transcript = t },
       four_read names v u p r o t p_read r_read first o_read t_read,
-      inl (same_texts (λ bytes. TwinRefuses names bytes outcome) p r o t gp gr go gt p_is r_is o_is t_is refused, four_after names v u w first second),
+      inl (same_texts (λ bytes. PooledRefuses known names bytes outcome) p r o t gp gr go gt p_is r_is o_is t_is refused, four_after names v u w first second),
     )
 
 -- the file of the moved words is put
-pub twin_ends : (names : TwinNames) (v u x w : View) (outcome : Outcome) (rows : List MovedRow) (count : ℕ) (p r o t gp gr go gt text line : List ℕ)
+pub twin_ends : (verb : List ℕ) (known : List KnownMeter) (names : TwinNames) (v u x w : View) (outcome : Outcome) (rows : List MovedRow) (count : ℕ) (p r o t gp gr go gt text line : List ℕ)
     → IsRead (v.held names.plan) p → IsRead (v.held names.readings) r → u ≡ after_fetches (names.plan ∷ names.readings ∷ []) v
     → IsRead (u.held names.other) o → IsRead (u.held names.transcript) t → x ≡ after_fetches (names.other ∷ names.transcript ∷ []) u
-    → gp ≡ p → gr ≡ r → go ≡ o → gt ≡ t → Compared (record { plan = gp; readings = gr; other = go; transcript = gt }) (Ok rows)
-    → text ≡ masks_text rows → line ≡ moved_line count → count ≡ length rows
-    → PutsEnd (putting names.masks text ∷ []) line x w outcome → TwinCommandEnds names v w outcome
-twin_ends names v u x w outcome rows count p r o t gp gr go gt text line p_read r_read first o_read t_read second p_is r_is o_is t_is compared text_is line_is count_is ends =
+    → gp ≡ p → gr ≡ r → go ≡ o → gt ≡ t → PooledCompared known (record { plan = gp; readings = gr; other = go; transcript = gt }) (Ok rows)
+    → text ≡ masks_text rows → line ≡ counted_line verb count → count ≡ length rows
+    → PutsEnd (putting names.masks text ∷ []) line x w outcome → PooledEndsAs verb known names v w outcome
+twin_ends verb known names v u x w outcome rows count p r o t gp gr go gt text line p_read r_read first o_read t_read second p_is r_is o_is t_is compared text_is line_is count_is ends =
     let by_text : PutsEnd (putting names.masks (masks_text rows) ∷ []) line x w outcome =
     subst (λ text. PutsEnd (putting names.masks text ∷ []) line x w outcome) text_is ends
     in
-    let by_line : PutsEnd (putting names.masks (masks_text rows) ∷ []) (moved_line (length rows)) x w outcome =
-    subst (λ line. PutsEnd (putting names.masks (masks_text rows) ∷ []) line x w outcome) (line_is ∙ ap moved_line count_is) by_text
+    let by_line : PutsEnd (putting names.masks (masks_text rows) ∷ []) (counted_line verb (length rows)) x w outcome =
+    subst (λ line. PutsEnd (putting names.masks (masks_text rows) ∷ []) line x w outcome) (line_is ∙ ap (counted_line verb) count_is) by_text
     in
     inr (
       record { plan = p; readings = r; other = o; transcript = t },
       four_read names v u p r o t p_read r_read first o_read t_read,
       inr (
         rows,
-        same_texts (λ bytes. Compared bytes (Ok rows)) p r o t gp gr go gt p_is r_is o_is t_is compared,
-        subst (λ x. PutsEnd (putting names.masks (masks_text rows) ∷ []) (moved_line (length rows)) x w outcome) (four_after names v u x first second) by_line,
+        same_texts (λ bytes. PooledCompared known bytes (Ok rows)) p r o t gp gr go gt p_is r_is o_is t_is compared,
+        subst (λ x. PutsEnd (putting names.masks (masks_text rows) ∷ []) (counted_line verb (length rows)) x w outcome) (four_after names v u x first second) by_line,
       ),
     )

@@ -4,8 +4,8 @@ use Rattle.std.specs.Prelude.{Option, None, Some}
 use Rattle.desk_outside.specs.Desk.{View}
 use Rattle.link_lanes.specs.Lanes.{Meaning}
 use Rattle.command_words.specs.declared.outcome.Outcome.{Outcome}
-use Rattle.command_words.specs.declared.outcome.Outcome.TheVariants.{Done, NoMemory, BadWords, CannotRead, TooLong, CannotWrite, CannotPrint, BadPlan, BadReadings, BadTranscript, BadReport, Impossible, NotInTime, OtherRow, OtherPlan, OtherLine, OtherPresence, OtherTotal, BadLane, NoPartner}
-use Rattle.command_words.specs.Words.{Command, Run, Audit, Twin, Make, Load, Convert, Public, Inspect, Help, Version, Bill, Hide}
+use Rattle.command_words.specs.declared.outcome.Outcome.TheVariants.{Done, NoMemory, BadWords, CannotRead, TooLong, CannotWrite, CannotPrint, BadPlan, BadReadings, BadTranscript, BadReport, Impossible, NotInTime, OtherRow, OtherPlan, OtherLine, OtherPresence, OtherKnown, OtherTotal, BadLane, NoPartner}
+use Rattle.command_words.specs.Words.{Command, Run, Audit, Twin, Pooled, Make, Load, Convert, Public, Inspect, Help, Version, Bill, Hide}
 use Rattle.command_words.specs.Outcomes.{HasComplaint}
 use Rattle.commands.specs.Ends.{Ends}
 
@@ -28,6 +28,7 @@ either (OtherRow at from_frames reported) other = tt
 either (OtherPlan name) other = tt
 either (OtherLine name line expected) other = other name line expected refl
 either (OtherPresence group round meter) other = tt
+either (OtherKnown group round meter) other = tt
 either (OtherTotal group round first second) other = tt
 either (BadLane fault) other = tt
 either (NoPartner group round meter) other = tt
@@ -44,6 +45,9 @@ of_line cupboard (Audit transcript report) v w name line expected (inr (tb, rb, 
 of_line cupboard (Twin names) v w name line expected (inl unread) = absurd unread
 of_line cupboard (Twin names) v w name line expected (inr (bytes, read, inl ((named, (found, (values, are, (t, text_is, plan_is, (k, number, first))))), after))) = first.writable
 of_line cupboard (Twin names) v w name line expected (inr (bytes, read, inr (rows, compared, ends))) = absurd ends
+of_line cupboard (Pooled known names) v w name line expected (inl unread) = absurd unread
+of_line cupboard (Pooled known names) v w name line expected (inr (bytes, read, inl ((named, (found, (values, are, within, (t, text_is, plan_is, (k, number, first))))), after))) = first.writable
+of_line cupboard (Pooled known names) v w name line expected (inr (bytes, read, inr (rows, compared, ends))) = absurd ends
 of_line cupboard (Make size plan readings) v w name line expected ends = absurd ends
 of_line cupboard (Load size workers transcript) v w name line expected (inl refused) = absurd refused.0
 of_line cupboard (Load size workers None) v w name line expected (inr (inl ends)) = absurd ends

@@ -1,5 +1,5 @@
 -- How `inspect` ends, from how its parts do.
-use Rattle.std.proofs.Common.{◌≡◌, ◌≢◌, ℕ, List, [], ◌∷◌, length, ◌∙◌, sym, ap, subst, inl, inr, Result, Ok, Err}
+use Rattle.std.proofs.Common.{◌≡◌, ◌≢◌, ℕ, List, [], ◌∷◌, ◌∙◌, sym, ap, subst, inl, inr, Result, Ok, Err}
 use Rattle.std.specs.Prelude.{IfOk, IfErr}
 use Rattle.desk_outside.specs.Desk.{View}
 use Rattle.group_plan.specs.Plans.{PlanView}
@@ -21,7 +21,7 @@ use Rattle.command_words.specs.Words.{InspectNames}
 use Rattle.commands.specs.Audits.{AreAuditTexts, ReportRefuses}
 use Rattle.commands.specs.Calls.{IsRead, after_fetches, PutsEnd}
 use Rattle.commands.specs.Inspecting.{InspectBytes, AreInspectBytes, OfPlan, TextsRefuse, TimesRefuse, JudgeRefuses, InspectRefuses, IsInspected, inspected_by, line_of, InspectCommandEnds}
-use Rattle.commands.specs.InspectParts.{TextsRead, Judged}
+use Rattle.commands.specs.InspectParts.{Judged}
 use Rattle.commands.proofs.CommandEndings.{read_after}
 
 -- ---- parts

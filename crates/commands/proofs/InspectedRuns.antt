@@ -1,5 +1,5 @@
 -- What a run stored is a run of its plan, and no inspection finds a fault in it.
-use Rattle.std.proofs.Common.{◌≡◌, ◌≤◌, ◌+◌, ℕ, Bool, false, List, [], ◌∷◌, ◌++◌, length, map, is_some, refl, sym, ap, ◌∙◌, subst, inl, inr, arith, length-append, Result, Ok, Err, All}
+use Rattle.std.proofs.Common.{◌≡◌, ◌≤◌, ◌+◌, ℕ, false, List, [], ◌∷◌, length, map, is_some, refl, sym, ap, ◌∙◌, arith, length-append, Err, All}
 use Rattle.std.specs.Prelude.{cond, Some, None}
 use Rattle.std.specs.List.{count_by}
 use Rattle.std.proofs.lemmas.List.{length-map}
@@ -13,7 +13,7 @@ use Rattle.plan_files.proofs.SpelledPlan.{spelled_public}
 use Rattle.transcript_log.specs.declared.Entry.{Entry}
 use Rattle.transcript_log.specs.declared.Line.{Line}
 use Rattle.transcript_log.specs.declared.Line.TheVariants.{Send as SendLine, Take as TakeLine, Close as CloseLine, End as EndLine}
-use Rattle.transcript_log.specs.Events.{event_of, events_of, lines_of}
+use Rattle.transcript_log.specs.Events.{event_of, lines_of}
 use Rattle.transcript_log.specs.Transcript.{Contents, contents_of_tables}
 use Rattle.transcript_log.specs.Transcripts.{IsEntry, IsFate}
 use Rattle.run_rows.specs.Summary.{Summary, is_sending}
@@ -25,7 +25,7 @@ use Rattle.run_course.specs.Beginnings.{is_void_send, IsSomeRun}
 use Rattle.audit_check.specs.declared.answers.AuditError.TheVariants as audit
 use Rattle.command_words.specs.declared.outcome.Outcome.{Outcome}
 use Rattle.command_words.specs.declared.outcome.Outcome.TheVariants.{NoMemory, Impossible, NotInTime, OtherRow}
-use Rattle.commands.specs.Inspecting.{IsNotInTime, JudgeRefuses, IsInspectedRun, RunsAreInspected}
+use Rattle.commands.specs.Inspecting.{JudgeRefuses, RunsAreInspected}
 use Rattle.commands.specs.Runs.{plan_in, readings_in, shape_in, clock_in, row_in, transcript_in, Texts, Makes}
 use Rattle.commands.proofs.AcceptedLemmas.{no_line_late}
 use Rattle.commands.proofs.RunLemmas.{can_run}

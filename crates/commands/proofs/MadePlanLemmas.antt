@@ -1,5 +1,5 @@
 -- The full cupboard has the lane of each made plan.
-use Rattle.std.proofs.Common.{◌≡◌, ◌∙◌, ◌≤◌, ◌<◌, ◌^◌, ℕ, List, [], ◌∷◌, Option, Some, None, Result, Ok, Err, refl, sym, ap, subst, inl, inr, arith}
+use Rattle.std.proofs.Common.{◌≡◌, ◌∙◌, ℕ, List, [], ◌∷◌, Option, Some, None, Result, Ok, Err, refl, sym, ap, subst, inl, inr, arith}
 use Rattle.desk_outside.specs.Desk.{View}
 use Rattle.link_lanes.specs.Counts.{slot}
 use Rattle.link_lanes.specs.Fits.{hung_by}
@@ -13,13 +13,12 @@ use Rattle.load_maker.specs.MadeFiles.{AreRead}
 use Rattle.load_maker.proofs.MadeLane.{made_lane_fits}
 use Rattle.load_maker.proofs.MadeReads.{made_files}
 use Rattle.command_words.specs.declared.outcome.Outcome.{Outcome}
-use Rattle.command_words.specs.declared.outcome.Outcome.TheVariants.{Done, NoMemory, BadWords, CannotRead, TooLong, CannotWrite, CannotPrint, BadPlan, BadReadings, BadTranscript, BadReport, Impossible, NotInTime, OtherRow, OtherPlan, OtherLine, OtherPresence, OtherTotal, BadLane, NoPartner}
+use Rattle.command_words.specs.declared.outcome.Outcome.TheVariants.{Done, NoMemory, BadWords, CannotRead, TooLong, CannotWrite, CannotPrint, BadPlan, BadReadings, BadTranscript, BadReport, Impossible, NotInTime, OtherRow, OtherPlan, OtherLine, OtherPresence, OtherKnown, OtherTotal, BadLane, NoPartner}
 use Rattle.command_words.specs.Outcomes.{status_of}
-use Rattle.command_words.specs.Words.{RunNames, Size, Command, Run, Audit, Twin, Make, Load, Convert, Public, Inspect, Bill, Hide, Help, Version}
+use Rattle.command_words.specs.Words.{RunNames, Size, Command, Run, Audit, Twin, Pooled, Make, Load, Convert, Public, Inspect, Bill, Hide, Help, Version}
 use Rattle.commands.specs.Accepted.{HoldsFile, RunAccepts, Accepts, AcceptedIsDone}
-use Rattle.commands.specs.Calls.{IsRead}
 use Rattle.commands.specs.Cupboard.{full_cupboard, IsMade, RunsMadePlan, MadePlansGetLanes, RunsMadeFiles, MadeFilesAreDone}
-use Rattle.commands.specs.Ends.{made_file_of, made_plan_text, made_readings_text, RefusesLane, RunEnds, LoadEnds, Ends}
+use Rattle.commands.specs.Ends.{made_file_of, made_plan_text, made_readings_text, RefusesLane, Ends}
 use Rattle.commands.specs.Promise.{EndsAndTells}
 use Rattle.commands.proofs.AcceptedLemmas.{read_is}
 
@@ -64,6 +63,7 @@ made_accepted (Load size workers transcript) v is = let hung = made_hung size is
 made_accepted (Run names workers) v (size, is, plan, readings) = run_accepted size is names v plan readings
 made_accepted (Audit transcript report) v is = absurd is
 made_accepted (Twin names) v is = absurd is
+made_accepted (Pooled known names) v is = absurd is
 made_accepted (Make size plan readings) v is = absurd is
 made_accepted (Convert old transcript) v is = absurd is
 made_accepted (Public plan public) v is = absurd is
@@ -97,6 +97,7 @@ by_lane (OtherRow at one other) is = absurd (omega (arith, is))
 by_lane (OtherPlan name) is = absurd (omega (arith, is))
 by_lane (OtherLine name line expected) is = absurd (omega (arith, is))
 by_lane (OtherPresence group round meter) is = absurd (omega (arith, is))
+by_lane (OtherKnown group round meter) is = absurd (omega (arith, is))
 by_lane (OtherTotal group round first second) is = absurd (omega (arith, is))
 by_lane (BadLane fault) is = (fault, refl)
 by_lane (NoPartner group round meter) is = absurd (omega (arith, is))
@@ -126,6 +127,7 @@ no_lane (Run names workers) v w fault is (inr (p, r, p_read, r_read, inr (inl (v
 no_lane (Run names workers) v w fault is (inr (p, r, p_read, r_read, inr (inr (texts, made, only, ends)))) = ends
 no_lane (Audit transcript report) v w fault is ends = absurd is
 no_lane (Twin names) v w fault is ends = absurd is
+no_lane (Pooled known names) v w fault is ends = absurd is
 no_lane (Make size plan readings) v w fault is ends = absurd is
 no_lane (Convert old transcript) v w fault is ends = absurd is
 no_lane (Public plan public) v w fault is ends = absurd is

@@ -1,5 +1,5 @@
 -- The text of a public plan: the lines of a transcript's head, behind another title.
-use Rattle.std.proofs.Common.{◌≡◌, ◌∙◌, ◌≤◌, ◌+◌, ◌-◌, ℕ, Bool, List, [], ◌∷◌, ◌++◌, length, map, take, drop, refl, sym, ap, subst, inl, inr, arith, append_assoc, length-append, codes, decimal, Ok}
+use Rattle.std.proofs.Common.{◌≡◌, ◌∙◌, ◌+◌, ◌-◌, ℕ, Bool, List, [], ◌∷◌, ◌++◌, length, map, take, refl, sym, ap, subst, inl, inr, arith, append_assoc, length-append, codes, decimal, Ok}
 use Rattle.std.specs.List.{filter, flat_map, join_with_byte, range_with_len, slice_range}
 use Rattle.std.proofs.Math.Seq.{take-append_seam}
 use Rattle.std.proofs.lemmas.Fmt.{decimal_digit}
@@ -11,11 +11,10 @@ use Rattle.group_plan.specs.NewPlans.{stated}
 use Rattle.group_plan.specs.Plans.{Group, PlanView, size}
 use Rattle.group_plan.specs.declared.plan.members.Span.{Span}
 use Rattle.transcript_log.specs.Transcripts.{no_entries}
-use Rattle.transcript_text.specs.declared.version.Version.TheVariants.{Two}
 use Rattle.transcript_text.specs.Spelling as head
 use Rattle.transcript_text.specs.Spelling.{text_of, head_text, entries_text, stated_spans, transcript_text}
-use Rattle.plan_files.specs.PlainRows.{file_text, row_text, rest_text}
-use Rattle.plan_files.specs.Spelling.{all_spans, first_rows, group_fields, is_partial, member_fields, partial_spans, public_rows, public_text, span_at}
+use Rattle.plan_files.specs.PlainRows.{file_text, row_text}
+use Rattle.plan_files.specs.Spelling.{first_rows, group_fields, is_partial, member_fields, partial_spans, public_rows, public_text, span_at}
 use Rattle.plan_files.specs.declared.form.PlanForm.TheVariants.{Public}
 use Rattle.plan_files.specs.PlanFiles.{PlanFileView, plan_of}
 use Rattle.plan_files.proofs.AcceptedFiles.{accepted_plans}

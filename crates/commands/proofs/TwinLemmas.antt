@@ -1,24 +1,132 @@
--- What `twin` answers for the values of files.
-use Rattle.std.proofs.Common.{◌≡◌, List, Result, Ok, Err}
+-- What two tables come to against known meters, for the values of files; and that `twin` is the case of nobody.
+use Rattle.std.proofs.Common.{◌≡◌, ℕ, List, [], ◌∷◌, Result, Ok, Err, refl, subst, inl, inr}
+use mathlib.Core.Path.{fun_ext}
+use Rattle.std.specs.Prelude.{codes, length}
+use Rattle.std.proofs.lemmas.Bool.{false≢true}
+use Rattle.desk_outside.specs.Desk.{View}
 use Rattle.group_plan.specs.Tables.{ReadingsView}
-use Rattle.twin_worlds.specs.declared.answers.TwinError.{TwinError}
 use Rattle.plan_files.specs.declared.fault.FileError.{FileError}
 use Rattle.plan_files.specs.declared.fault.FileCause.TheVariants as cause
-use Rattle.plan_files.specs.PlanFiles.{PlanFileView, plan_of}
+use Rattle.plan_files.specs.PlanFiles.{PlanFileView}
 use Rattle.plan_files.specs.Readings.{readings_of, ReadingsEnd}
-use Rattle.commands.proofs.RunLemmas.{but_memory}
 use Rattle.mask_stream.specs.KeyStreams.{streams}
+use Rattle.transcript_log.specs.Tables.{Masks}
+use Rattle.transcript_log.specs.Transcripts.{TranscriptView}
+use Rattle.ideal_masks.specs.declared.Differ.{Differ}
+use Rattle.ideal_masks.specs.declared.Differ.TheVariants as differ
+use Rattle.ideal_masks.specs.Pools.{nobody, pool_of}
+use Rattle.ideal_masks.proofs.PoolLemmas.{nobody-shares}
 use Rattle.twin_worlds.specs.declared.rows.MovedRow.{MovedRow}
-use Rattle.commands.specs.Twins.{TwinBytes, RefusesSecond, Compared}
-use Rattle.twin_worlds.specs.Twins.{TwinEnds}
+use Rattle.twin_worlds.specs.declared.answers.TwinError.{TwinError}
+use Rattle.twin_worlds.specs.declared.answers.TwinError.TheVariants as twin
+use Rattle.twin_worlds.specs.declared.answers.PoolTwinError.{PoolTwinError}
+use Rattle.twin_worlds.specs.declared.answers.PoolTwinError.TheVariants as pool_twin
+use Rattle.twin_worlds.specs.MasksText.{masks_text}
+use Rattle.twin_worlds.specs.Twins.{Disagree, DisagreeFor, TwinEnds, PooledTwinEnds}
+use Rattle.command_words.specs.declared.outcome.Outcome.{Outcome}
+use Rattle.command_words.specs.declared.outcome.Outcome.TheVariants.{Done, NoMemory, BadWords, CannotRead, TooLong, CannotWrite, CannotPrint, BadPlan, BadReadings, BadTranscript, BadReport, Impossible, NotInTime, OtherRow, OtherPlan, OtherLine, OtherPresence, OtherKnown, OtherTotal, BadLane, NoPartner}
+use Rattle.command_words.specs.declared.known.KnownMeter.{KnownMeter}
+use Rattle.command_words.specs.Known.{known_of, IsKnown, is_known, AreSetsOf}
+use Rattle.command_words.specs.Words.{TwinNames}
+use Rattle.commands.specs.Calls.{after_fetches, putting, PutsEnd}
+use Rattle.commands.specs.Ends.{compared_by, moved_line, counted_line, TwinCommandEnds, PooledEndsAs}
+use Rattle.commands.specs.Twins.{TwinBytes, Compared, TwinRefuses}
+use Rattle.commands.specs.Pooled.{PooledCompared, RefusesSecondFor, PooledRefuses}
+use Rattle.commands.specs.PooledParts.{IsPlanFor}
+use Rattle.commands.proofs.RunLemmas.{but_memory}
+
+-- ---- the values of files
+
+-- the pool of the sets is that of the known meters
+pool-is : (known : List KnownMeter) (sets : List (List ℕ)) → AreSetsOf known sets → pool_of sets ≡ is_known known
+pool-is known sets are = fun_ext (λ g. fun_ext (λ i. are g i))
 
 -- the second table is refused, where the plan file and the first table are not
-pub second_refused : (bytes : TwinBytes) (file : PlanFileView) (first : ReadingsView) (fault : FileError) → plan_of bytes.plan ≡ Ok file
-    → readings_of file.plan bytes.readings ≡ Ok first → ReadingsEnd file.plan bytes.other (Err fault) → (fault.cause ≡ cause.Memory → ⊥) → RefusesSecond bytes fault
-second_refused bytes file first fault plan_is first_is ends other = (file, first, plan_is, first_is, but_memory fault.cause _ other ends)
+pub second_refused_for : (known : List KnownMeter) (bytes : TwinBytes) (file : PlanFileView) (sets : List (List ℕ)) (first : ReadingsView) (fault : FileError) → IsPlanFor known bytes file sets
+    → readings_of file.plan bytes.readings ≡ Ok first → ReadingsEnd file.plan bytes.other (Err fault) → (fault.cause ≡ cause.Memory → ⊥) → RefusesSecondFor known bytes fault
+second_refused_for known bytes file sets first fault is first_is ends other = (file, first, is.plan, is.within, first_is, but_memory fault.cause _ other ends)
 
-pub compared : (bytes : TwinBytes) (file : PlanFileView) (first second : ReadingsView) (result : Result (List MovedRow) TwinError) → plan_of bytes.plan ≡ Ok file
-    → readings_of file.plan bytes.readings ≡ Ok first → readings_of file.plan bytes.other ≡ Ok second
-    → TwinEnds (streams file.keys) first second bytes.transcript result → Compared bytes result
-compared bytes file first second result plan_is first_is second_is ends =
-    (record { file = file; first = first; second = second }, record { plan = plan_is; first = first_is; second = second_is }, ends)
+pub pooled_compared : (known : List KnownMeter) (bytes : TwinBytes) (file : PlanFileView) (sets : List (List ℕ)) (first second : ReadingsView) (result : Result (List MovedRow) PoolTwinError)
+    → IsPlanFor known bytes file sets → readings_of file.plan bytes.readings ≡ Ok first → readings_of file.plan bytes.other ≡ Ok second
+    → PooledTwinEnds (pool_of sets) (streams file.keys) first second bytes.transcript result → PooledCompared known bytes result
+pooled_compared known bytes file sets first second result is first_is second_is ends = (
+  record { file = file; first = first; second = second },
+  record { plan = is.plan; first = first_is; second = second_is },
+  is.within,
+  subst (λ pool. PooledTwinEnds pool (streams file.keys) first second bytes.transcript result) (pool-is known sets is.sets_are) ends,
+)
+
+-- ---- nobody
+
+-- `-` names nobody
+pub nobody_named : IsKnown (codes "-")
+unfolding known_of
+nobody_named = refl
+
+-- where nobody is in the pool, the tables disagree by the same cause
+disagree-nobody : (x y : ReadingsView) (t : TranscriptView) (cause : Differ) → DisagreeFor nobody x y t cause → Disagree x y t cause
+disagree-nobody x y t (differ.Presence g r i) is = record { known = is.known; ends = is.ends; no_worlds = tt }
+disagree-nobody x y t (differ.Total g r a b) is = record {
+  known = is.known;
+  ends = (is.ends.0, is.ends.2);
+  no_worlds = λ m k same. is.no_worlds m k (nobody-shares m k) same;
+}
+disagree-nobody x y t differ.Memory is = absurd (is.known refl)
+
+-- each answer is that of `twin`
+ends-nobody : (m : Masks) (x y : ReadingsView) (text : List ℕ) (error : TwinError) → PooledTwinEnds nobody m x y text (Err (pool_twin.Other error)) → TwinEnds m x y text (Err error)
+ends-nobody m x y text (twin.Transcript refusal) ends = ends
+ends-nobody m x y text twin.Head ends = ends
+ends-nobody m x y text (twin.NotThis line expected found tick fate) ends = ends
+ends-nobody m x y text (twin.Differ cause) (t, is, differ) = (t, is, disagree-nobody x y t cause differ)
+ends-nobody m x y text twin.Memory ends = ends
+
+compared-nobody : (bytes : TwinBytes) (error : TwinError) → PooledCompared [] bytes (Err (pool_twin.Other error)) → Compared bytes (Err error)
+compared-nobody bytes error (values, are, within, ends) =
+    (values, are, ends-nobody (streams values.file.keys) values.first values.second bytes.transcript error ends)
+
+-- and so is each refusal
+refuses-nobody : (names : TwinNames) (bytes : TwinBytes) (outcome : Outcome) → PooledRefuses [] names bytes outcome → TwinRefuses names bytes outcome
+refuses-nobody names bytes Done ends = ends
+refuses-nobody names bytes NoMemory ends = ends
+refuses-nobody names bytes BadWords ends = ends
+refuses-nobody names bytes (CannotRead name) ends = ends
+refuses-nobody names bytes (TooLong name) ends = ends
+refuses-nobody names bytes (CannotWrite name) ends = ends
+refuses-nobody names bytes CannotPrint ends = ends
+refuses-nobody names bytes (BadPlan name fault) (named, inl bad) = (named, bad)
+refuses-nobody names bytes (BadPlan name fault) (named, inr (file, is, outside, fault_is)) = absurd (false≢true (cc outside))
+refuses-nobody names bytes (BadReadings name fault) (inl (named, (file, is, within, bad))) = inl (named, (file, is, bad))
+refuses-nobody names bytes (BadReadings name fault) (inr (named, (file, first, is, within, first_is, bad))) = inr (named, (file, first, is, first_is, bad))
+refuses-nobody names bytes (BadTranscript name fault) (named, compared) = (named, compared-nobody bytes (twin.Transcript fault) compared)
+refuses-nobody names bytes (BadReport name line) ends = ends
+refuses-nobody names bytes (Impossible name line) ends = ends
+refuses-nobody names bytes (NotInTime name line) ends = ends
+refuses-nobody names bytes (OtherRow at from_frames reported) ends = ends
+refuses-nobody names bytes (OtherPlan name) (named, compared) = (named, compared-nobody bytes twin.Head compared)
+refuses-nobody names bytes (OtherLine name line expected) (named, (found, compared)) =
+    (named, (found, compared-nobody bytes (twin.NotThis line expected.line found expected.tick expected.fate) compared))
+refuses-nobody names bytes (OtherPresence group round meter) compared = compared-nobody bytes (twin.Differ (differ.Presence group round meter)) compared
+refuses-nobody names bytes (OtherKnown group round meter) (values, are, within, (t, is, apart)) = absurd (false≢true apart.first.known)
+refuses-nobody names bytes (OtherTotal group round first second) compared = compared-nobody bytes (twin.Differ (differ.Total group round first second)) compared
+refuses-nobody names bytes (BadLane fault) ends = ends
+refuses-nobody names bytes (NoPartner group round meter) ends = ends
+
+line-of-twin : (rows : ℕ) → counted_line (codes "twin") rows ≡ moved_line rows
+unfolding counted_line moved_line
+line-of-twin rows = refl
+
+-- so `twin` ends as it does against nobody
+pub ends_of_nobody : (names : TwinNames) (v w : View) (outcome : Outcome) → PooledEndsAs (codes "twin") [] names v w outcome → TwinCommandEnds names v w outcome
+ends_of_nobody names v w outcome (inl unread) = inl unread
+ends_of_nobody names v w outcome (inr (bytes, read, inl (refused, after))) = inr (bytes, read, inl (refuses-nobody names bytes outcome refused, after))
+ends_of_nobody names v w outcome (inr (bytes, read, inr (rows, (values, are, within, ends), put))) =
+    inr (
+      bytes,
+      read,
+      inr (
+        rows,
+        (values, are, ends),
+        subst (λ line. PutsEnd (putting names.masks (masks_text rows) ∷ []) line (after_fetches (compared_by names) v) w outcome) (line-of-twin (length rows)) put,
+      ),
+    )

@@ -1,5 +1,5 @@
 -- What is enough for a command to be done.
-use Rattle.std.specs.Prelude.{◌≡◌, ◌≤◌, ◌⊎◌, ℕ, List, length, reverse, Option, Some, Ok}
+use Rattle.std.specs.Prelude.{◌≡◌, ◌≤◌, ◌⊎◌, ℕ, true, List, length, reverse, Option, Some, Ok}
 use Rattle.desk_outside.specs.Desk.{View, Rose}
 use Rattle.link_lanes.specs.Lanes.{Meaning, Slot}
 use Rattle.link_lanes.specs.Fits.{hung_by}
@@ -15,11 +15,13 @@ use Rattle.transcript_text.specs.Spelling.{text_of}
 use Rattle.group_plan.specs.Tables.{reading}
 use Rattle.mask_stream.specs.KeyStreams.{streams}
 use Rattle.transcript_log.specs.Events.{events_of}
-use Rattle.ideal_masks.specs.Offsets.{Agree}
+use Rattle.ideal_masks.specs.Offsets.{AgreeFor, Agree}
 use Rattle.twin_worlds.specs.Twins.{IsRecord}
 use Rattle.plan_files.specs.PlanFiles.{PlanFileView, plan_of, public_of}
 use Rattle.run_course.specs.Beginnings.{IsSomeRun}
-use Rattle.command_words.specs.Words.{RunNames, TwinNames, Size, Command, Run, Audit, Twin, Make, Load, Convert, Public, Help, Version, BillNames, HideNames, Bill, Hide, InspectNames, Inspect}
+use Rattle.command_words.specs.declared.known.KnownMeter.{KnownMeter}
+use Rattle.command_words.specs.Known.{is_known, are_in_plan}
+use Rattle.command_words.specs.Words.{RunNames, TwinNames, Size, Command, Run, Audit, Twin, Pooled, Make, Load, Convert, Public, Help, Version, BillNames, HideNames, Bill, Hide, InspectNames, Inspect}
 use Rattle.command_words.specs.declared.words.Period.{Period}
 use Rattle.command_words.specs.declared.words.Place.{Place}
 use Rattle.billing_read.specs.declared.partners.Partner.{Partner}
@@ -72,6 +74,21 @@ pub record TwinAccepts (names : TwinNames) (v : View) : Type 0 where
   pub lines : TranscriptView
   pub recorded : IsRecord (streams values.file.keys) values.first bytes.transcript lines
   pub agree : Agree values.first.plan.groups (reading values.first.table) (reading values.second.table) (reverse (events_of lines.entries))
+
+-- the three files of `pooled` have values, the plan has each known meter, TRANSCRIPT holds the record of the first table under the stream words of the keys,
+-- and the second table agrees with the first for the known meters
+pub record PooledAccepts (known : List KnownMeter) (names : TwinNames) (v : View) : Type 0 where
+  pub bytes : TwinBytes
+  pub plan : HoldsFile v names.plan bytes.plan
+  pub readings : HoldsFile v names.readings bytes.readings
+  pub other : HoldsFile v names.other bytes.other
+  pub transcript : HoldsFile v names.transcript bytes.transcript
+  pub values : TwinValues
+  pub of_bytes : AreTwinValues bytes values
+  pub within : are_in_plan values.file.plan known ≡ true
+  pub lines : TranscriptView
+  pub recorded : IsRecord (streams values.file.keys) values.first bytes.transcript lines
+  pub agree : AgreeFor (is_known known) values.first.plan.groups (reading values.first.table) (reading values.second.table) (reverse (events_of lines.entries))
 
 -- the cupboard has the lane of the files of a size
 pub record LoadAccepts (cupboard : List Meaning) (size : Size) : Type 0 where
@@ -136,6 +153,7 @@ abbrev pub Accepts : List Meaning → Command → View → Type 0
 Accepts cupboard (Run names workers) v = RunAccepts cupboard names v
 Accepts cupboard (Audit transcript report) v = AuditAccepts transcript report v
 Accepts cupboard (Twin names) v = TwinAccepts names v
+Accepts cupboard (Pooled known names) v = PooledAccepts known names v
 Accepts cupboard (Make size plan readings) v = Unit {0}
 Accepts cupboard (Load size workers transcript) v = LoadAccepts cupboard size
 Accepts cupboard (Convert old transcript) v = ConvertAccepts old v

@@ -1,10 +1,10 @@
 -- What the bytes of the files of `bill` and of `hide` come to.
-use Rattle.std.specs.Prelude.{◌≡◌, ◌≢◌, ℕ, List, Option, Some, None, Result, Ok, Err, ⊤}
+use Rattle.std.specs.Prelude.{◌≡◌, ◌≢◌, ℕ, List, Option, Some, None, Ok, Err, ⊤}
 use Rattle.desk_outside.specs.Desk.{View}
 use Rattle.group_plan.specs.Plans.{PlanView}
 use Rattle.group_plan.specs.Tables.{ReadingsView, reading}
 use Rattle.plan_files.specs.declared.fault.FileError.{FileError}
-use Rattle.plan_files.specs.PlanFiles.{PlanFileView, plan_of, view_of}
+use Rattle.plan_files.specs.PlanFiles.{PlanFileView, plan_of}
 use Rattle.plan_files.specs.Readings.{readings_of}
 use Rattle.plan_files.specs.Spelling.{readings_text}
 use Rattle.transcript_log.specs.Events.{events_of}

@@ -2,7 +2,7 @@
 use Rattle.std.specs.Prelude.{◌≡◌, ◌≢◌, ◌⊎◌, ◌<◌, ◌^◌, ℕ, true, List, [], ◌∷◌, ◌++◌, Option, None, Some}
 use Rattle.desk_outside.specs.Desk.{View, Rose}
 use Rattle.load_maker.specs.Sizes.{is_within}
-use Rattle.command_words.specs.Words.{RunNames, Size, Command, Run, Load}
+use Rattle.command_words.specs.Words.{Size, Command, Run, Load}
 use Rattle.commands.specs.Ends.{made_plan_text, made_readings_text}
 use Rattle.link_lanes.specs.Lanes.{Meaning}
 use Rattle.link_lanes.specs.Kinds.{clear_by, rules_by, seeded_by, every_by, burst_by}

@@ -15,7 +15,8 @@ use Rattle.transcript_text.specs.Heads.{read_of}
 use Rattle.command_words.specs.declared.usage.TheConstants.{USAGE, VERSION}
 use Rattle.command_words.specs.declared.outcome.Outcome.{Outcome}
 use Rattle.command_words.specs.declared.outcome.Outcome.TheVariants.{NoMemory, BadWords, BadPlan, BadReadings, BadTranscript, BadLane}
-use Rattle.command_words.specs.Words.{RunNames, TwinNames, Size, Command, Run, Audit, Twin, Make, Load, Convert, Public, Help, Version, Bill, Hide, Inspect}
+use Rattle.command_words.specs.declared.known.KnownMeter.{KnownMeter}
+use Rattle.command_words.specs.Words.{RunNames, TwinNames, Size, Command, Run, Audit, Twin, Pooled, Make, Load, Convert, Public, Help, Version, Bill, Hide, Inspect}
 use Rattle.commands.specs.Calls.{IsRead, after_fetches, Unread, Putting, putting, PutsEnd, Unwritable}
 use Rattle.plan_files.specs.PlanFiles.{public_of}
 use Rattle.plan_files.specs.Spelling.{plan_text, public_text, readings_text}
@@ -26,6 +27,7 @@ use Rattle.commands.specs.Audits.{Audited, AuditRefuses}
 use Rattle.twin_worlds.specs.declared.rows.MovedRow.{MovedRow}
 use Rattle.twin_worlds.specs.MasksText.{masks_text}
 use Rattle.commands.specs.Twins.{TwinBytes, AreReadBy, Compared, TwinRefuses}
+use Rattle.commands.specs.Pooled.{PooledCompared, PooledRefuses}
 use Rattle.commands.specs.Runs.{Texts, Makes, IsOnly, HasValues}
 use Rattle.commands.specs.BillingEnds.{BillEnds, HideEnds}
 use Rattle.commands.specs.Inspecting.{InspectCommandEnds}
@@ -116,6 +118,30 @@ TwinCommandEnds names v w outcome =
     ⊎ ((bytes : TwinBytes) × AreReadBy names v bytes
     × ((TwinRefuses names bytes outcome × (w ≡ after_fetches (compared_by names) v))
     ⊎ MasksPut names bytes (after_fetches (compared_by names) v) w outcome))
+
+-- ---- `pooled KNOWN PLAN READINGS OTHER TRANSCRIPT MASKS`
+
+-- the line that a command of this name says
+unfoldable pub counted_line : List ℕ → ℕ → List ℕ
+counted_line verb rows = verb ++ (codes ": moved=" ++ (decimal rows ++ codes "\n"))
+
+-- the tables agree for the known meters, and the file of the moved words is put and their number said
+abbrev pub PooledMasksPut : (verb : List ℕ) → List KnownMeter → TwinNames → TwinBytes → View → View → Outcome → Type 0
+PooledMasksPut verb known names bytes v w outcome =
+    (rows : List MovedRow) × PooledCompared known bytes (Ok rows)
+    × PutsEnd (putting names.masks (masks_text rows) ∷ []) (counted_line verb (length rows)) v w outcome
+
+-- how a command of this name ends: a file is not read, or what they say is refused, or the file of the moved words is put
+abbrev pub PooledEndsAs : (verb : List ℕ) → List KnownMeter → TwinNames → View → View → Outcome → Type 0
+PooledEndsAs verb known names v w outcome =
+    Unread (compared_by names) v w outcome
+    ⊎ ((bytes : TwinBytes) × AreReadBy names v bytes
+    × ((PooledRefuses known names bytes outcome × (w ≡ after_fetches (compared_by names) v))
+    ⊎ PooledMasksPut verb known names bytes (after_fetches (compared_by names) v) w outcome))
+
+-- how `pooled` ends
+abbrev pub PooledCommandEnds : List KnownMeter → TwinNames → View → View → Outcome → Type 0
+PooledCommandEnds known names v w outcome = PooledEndsAs (codes "pooled") known names v w outcome
 
 -- ---- `make SEED GROUPS METERS ROUNDS PLAN READINGS`
 
@@ -235,6 +261,7 @@ Ends cupboard None v w outcome = (outcome ≡ BadWords) × (w ≡ v)
 Ends cupboard (Some (Run names workers)) v w outcome = RunEnds cupboard names v w outcome
 Ends cupboard (Some (Audit transcript report)) v w outcome = AuditCommandEnds transcript report v w outcome
 Ends cupboard (Some (Twin names)) v w outcome = TwinCommandEnds names v w outcome
+Ends cupboard (Some (Pooled known names)) v w outcome = PooledCommandEnds known names v w outcome
 Ends cupboard (Some (Make size plan readings)) v w outcome = MakeEnds size plan readings v w outcome
 Ends cupboard (Some (Load size workers transcript)) v w outcome = LoadEnds cupboard size transcript v w outcome
 Ends cupboard (Some (Convert old transcript)) v w outcome = ConvertEnds old transcript v w outcome

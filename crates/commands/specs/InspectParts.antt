@@ -1,7 +1,6 @@
 -- What the parts of `inspect` answer.
-use Rattle.std.specs.Prelude.{◌≡◌, ◌≤◌, ℕ, List, length, Result, Ok, Err}
+use Rattle.std.specs.Prelude.{◌≡◌, ℕ, List, Result, Ok, Err}
 use Rattle.group_plan.specs.Plans.{PlanView}
-use Rattle.plan_files.specs.PlanFiles.{public_of}
 use Rattle.transcript_log.specs.Transcripts.{TranscriptView}
 use Rattle.totals_report.specs.declared.row.ReportRow.{ReportRow}
 use Rattle.audit_check.specs.declared.answers.Inspected.{Inspected}

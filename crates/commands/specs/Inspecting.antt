@@ -1,5 +1,5 @@
 -- What the bytes of the three files of `inspect` come to, and how it ends.
-use Rattle.std.specs.Prelude.{◌≡◌, ◌≢◌, ◌⊎◌, ℕ, List, [], ◌∷◌, ◌++◌, length, Result, Ok, Err, codes, decimal, unwrap_or, ⊤}
+use Rattle.std.specs.Prelude.{◌≡◌, ◌≢◌, ◌⊎◌, ℕ, List, [], ◌∷◌, ◌++◌, length, Ok, Err, codes, decimal, unwrap_or, ⊤}
 use Rattle.desk_outside.specs.Desk.{View}
 use Rattle.group_plan.specs.Plans.{PlanView}
 use Rattle.link_lanes.specs.Lanes.{Meaning}

@@ -7,6 +7,8 @@ pub mod RunTexts
 pub mod Audits
 pub mod Twins
 pub mod TwinTexts
+pub mod Pooled
+pub mod PooledParts
 pub mod Billing
 pub mod BillingEnds
 pub mod BillingParts

@@ -1,5 +1,5 @@
 -- The parts of a transcript on their way from a run to the thread that writes them ahead.
-use Rattle.std.specs.Prelude.{◌≡◌, ℕ, List, All}
+use Rattle.std.specs.Prelude.{◌≡◌, List, All}
 use Rattle.std.specs.List.{flat_map}
 use Rattle.transcript_log.specs.Transcripts.{TranscriptView}
 

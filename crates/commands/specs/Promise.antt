@@ -3,7 +3,7 @@ use Rattle.std.specs.Prelude.{◌≡◌, ◌⊎◌, ℕ, false, true, List, Opti
 use Rattle.desk_outside.specs.Desk.{View, Complained, IsPrefixOf, after_step, Rose}
 use Rattle.link_lanes.specs.Lanes.{Meaning}
 use Rattle.command_words.specs.declared.outcome.Outcome.{Outcome}
-use Rattle.command_words.specs.declared.outcome.Outcome.TheVariants.{Done, NoMemory, BadWords, CannotRead, TooLong, CannotWrite, CannotPrint, BadPlan, BadReadings, BadTranscript, BadReport, Impossible, NotInTime, OtherRow, OtherPlan, OtherLine, OtherPresence, OtherTotal, BadLane, NoPartner}
+use Rattle.command_words.specs.declared.outcome.Outcome.TheVariants.{Done, NoMemory, BadWords, CannotRead, TooLong, CannotWrite, CannotPrint, BadPlan, BadReadings, BadTranscript, BadReport, Impossible, NotInTime, OtherRow, OtherPlan, OtherLine, OtherPresence, OtherKnown, OtherTotal, BadLane, NoPartner}
 use Rattle.command_words.specs.Words.{Command}
 use Rattle.commands.specs.Ends.{Ends}
 use Rattle.command_words.specs.Outcomes.{status_of, complaint_of, IsFault}
@@ -33,6 +33,7 @@ Tells (OtherRow at from_frames reported) v w = Complains (complaint_of (OtherRow
 Tells (OtherPlan name) v w = Complains (complaint_of (OtherPlan name)) v w
 Tells (OtherLine name line expected) v w = Complains (complaint_of (OtherLine name line expected)) v w
 Tells (OtherPresence group round meter) v w = Complains (complaint_of (OtherPresence group round meter)) v w
+Tells (OtherKnown group round meter) v w = Complains (complaint_of (OtherKnown group round meter)) v w
 Tells (OtherTotal group round first second) v w = Complains (complaint_of (OtherTotal group round first second)) v w
 Tells (BadLane fault) v w = Complains (complaint_of (BadLane fault)) v w
 Tells (NoPartner group round meter) v w = Complains (complaint_of (NoPartner group round meter)) v w

@@ -21,7 +21,7 @@ use crate::load::load;
 use crate::make::make;
 use crate::public::public;
 use crate::run::run;
-use crate::twin::twin;
+use crate::twin::{pooled, twin};
 use collector_workers::Gate;
 use command_words::{Command, Outcome, USAGE, VERSION, complaint, parse};
 use desk_outside::Desk;
@@ -48,6 +48,7 @@ fn perform<'a, R: Threads + Wait + Sync, D: Desk, G: Gate>(
         Some(Command::Run(words)) => run(rt, alloc, words, desk, cupboard, gate),
         Some(Command::Audit(files)) => audit(alloc, files, desk),
         Some(Command::Twin(files)) => twin(rt, alloc, files, desk),
+        Some(Command::Pooled(words)) => pooled(rt, alloc, words, desk),
         Some(Command::Make(words)) => make(rt, alloc, words, desk),
         Some(Command::Load(words)) => load(rt, alloc, words, desk, cupboard, gate),
         Some(Command::Convert(files)) => convert(rt, alloc, files, desk),
@@ -92,7 +93,8 @@ fn status(outcome: &Outcome<'_>) -> u8
         | Outcome::NotInTime(_, _)
         | Outcome::OtherPlan(_)
         | Outcome::OtherLine { .. } => 7,
-        Outcome::OtherPresence { .. } | Outcome::OtherTotal { .. } => 8,
+        Outcome::OtherPresence { .. } | Outcome::OtherKnown { .. } | Outcome::OtherTotal { .. } =>
+            8,
         Outcome::OtherRow { .. } => 9,
         Outcome::BadLane(_) => 10,
         Outcome::NoPartner { .. } => 11,

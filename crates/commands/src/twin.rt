@@ -1,24 +1,38 @@
-//! The command `twin`.
+//! The commands `twin` and `pooled`: `twin` is the case of nobody.
 
-ghost use Rattle.std.specs.Prelude.{◌≡◌, ◌≤◌, IfOk, IfErr, Err, string_bytes};
+ghost use Rattle.std.specs.Prelude.{◌≡◌, ◌≤◌, IfOk, IfErr, Err, List, string_bytes};
 ghost use Rattle.desk_outside.specs.Desk.{Rose};
 ghost use Rattle.command_words.specs.Commands.{twin_names_of};
-ghost use Rattle.commands.specs.Ends.{moved_line, TwinCommandEnds};
+ghost use Rattle.command_words.specs.Known.{IsKnown, known_in};
+ghost use Rattle.command_words.specs.declared.known.KnownMeter.{KnownMeter};
+ghost use Rattle.commands.specs.Ends.{counted_line, TwinCommandEnds, PooledEndsAs, PooledCommandEnds};
 ghost use Rattle.command_words.specs.Outcomes.{IsFault};
 ghost use Rattle.commands.specs.TwinTexts.{AreShort, bytes_of};
-ghost use Rattle.commands.specs.Twins.{TwinBytes, Compared, TwinRefuses, BytesCompared};
+ghost use Rattle.commands.specs.Twins.{TwinBytes};
+ghost use Rattle.commands.specs.Pooled.{PooledCompared, PooledRefuses, BytesPooled};
+ghost use Rattle.commands.specs.PooledParts.{IsPlanFor};
 ghost use Rattle.command_words.specs.Words.{TwinNames};
+ghost use Rattle.plan_files.specs.PlanFiles.{view_of};
+ghost use Rattle.pair_keys.specs.Keys.{table_of};
 
 use crate::desk_calls::{NewFile, fetch_two, put_one};
 use crate::source::Source;
-use command_words::{Outcome, TwinFiles};
+use command_words::{Outcome, PooledWords, TwinFiles, known_sets};
 use desk_outside::{Desk, Readers};
 use ideal_masks::Differ;
-use plan_files::{FileCause, read_plan, read_readings};
+use missing_round::MeterSet;
+use pair_keys::KeyError;
+use plan_files::{FileCause, FileError, PlanFile, read_plan, read_readings};
 use std::alloc::{AllocError, Global};
 use std::thread::Threads;
 use transcript_log::Entry;
-use twin_worlds::{MovedWords, TwinError, moved_text, twin as twin_words};
+use twin_worlds::{MovedWords, PoolTwinError, TwinError, moved_text, pooled_twin};
+
+/// The fault of a plan that hasn't each known meter.
+const OUTSIDE_PLAN: FileError = FileError {
+    row: 0,
+    cause: FileCause::Key(KeyError::Range),
+};
 
 // The bytes of the four files.
 #[derive(Clone, Copy)]
@@ -30,20 +44,33 @@ struct TwinTexts<'b> {
 }
 
 // The outcome of a comparison that finds no moved words.
-fn refusal<'a>(transcript: &'a str, error: TwinError) -> Outcome<'a>
-    ensures ends { (names : TwinNames) (bytes : TwinBytes) → names.transcript ≡ transcript.now → Compared bytes (Err error) → TwinRefuses names bytes result }
+fn refusal<'a>(transcript: &'a str, error: PoolTwinError) -> Outcome<'a>
+    ensures ends { (known : List KnownMeter) (names : TwinNames) (bytes : TwinBytes) → names.transcript ≡ transcript.now → PooledCompared known bytes (Err error) → PooledRefuses known names bytes result }
     ensures no_fault { ¬ IsFault result }
 {
     match error {
-        TwinError::Transcript(fault) => Outcome::BadTranscript(transcript, fault),
-        TwinError::Head => Outcome::OtherPlan(transcript),
-        TwinError::NotThis {
-            line,
-            expected,
-            found: _,
-            tick,
-            fate,
-        } => Outcome::OtherLine {
+        PoolTwinError::Known {
+            group,
+            round,
+            meter,
+        } => Outcome::OtherKnown {
+            group,
+            round,
+            meter,
+        },
+        PoolTwinError::Other(TwinError::Transcript(fault)) => {
+            Outcome::BadTranscript(transcript, fault)
+        }
+        PoolTwinError::Other(TwinError::Head) => Outcome::OtherPlan(transcript),
+        PoolTwinError::Other(
+            TwinError::NotThis {
+                line,
+                expected,
+                found: _,
+                tick,
+                fate,
+            },
+        ) => Outcome::OtherLine {
             name: transcript,
             line,
             expected: Entry {
@@ -52,51 +79,52 @@ fn refusal<'a>(transcript: &'a str, error: TwinError) -> Outcome<'a>
                 line: expected,
             },
         },
-        TwinError::Differ(
-            Differ::Presence {
-                group,
-                round,
-                meter,
-            },
+        PoolTwinError::Other(
+            TwinError::Differ(
+                Differ::Presence {
+                    group,
+                    round,
+                    meter,
+                },
+            ),
         ) => Outcome::OtherPresence {
             group,
             round,
             meter,
         },
-        TwinError::Differ(
-            Differ::Total {
-                group,
-                round,
-                first,
-                second,
-            },
+        PoolTwinError::Other(
+            TwinError::Differ(
+                Differ::Total {
+                    group,
+                    round,
+                    first,
+                    second,
+                },
+            ),
         ) => Outcome::OtherTotal {
             group,
             round,
             first,
             second,
         },
-        TwinError::Differ(Differ::Memory) | TwinError::Memory => Outcome::NoMemory,
+        PoolTwinError::Other(TwinError::Differ(Differ::Memory))
+        | PoolTwinError::Other(TwinError::Memory) => Outcome::NoMemory,
     }
 }
 
-// The mask words that move from the first readings to the other ones.
-fn compare<'a>(
+// The mask words that move from the first readings to the other ones, against the meters of these sets.
+fn compare_tables<'a>(
     alloc: Global,
     files: TwinFiles<'a>,
+    file: &PlanFile,
+    sets: &[MeterSet],
     texts: TwinTexts<'_>,
 ) -> Result<MovedWords, Outcome<'a>>
-    requires { AreShort (bytes_of texts) }
-    ensures ends { BytesCompared (twin_names_of files.entry) (bytes_of texts.entry) result }
+    requires short { AreShort (bytes_of texts) }
+    requires keys { (table_of file.now.keys).plan ≡ file.now.plan }
+    ensures ends { (known : List KnownMeter) → IsPlanFor known (bytes_of texts.entry) (view_of file.now) sets.now → BytesPooled known (twin_names_of files.entry) (bytes_of texts.entry) result }
     ensures no_fault { IfErr result (λ outcome. ¬ IsFault outcome) }
 {
-    let file = match read_plan(alloc, texts.plan) {
-        Ok(file) => file,
-        Err(fault) => match fault.cause {
-            FileCause::Memory => return Err(Outcome::NoMemory),
-            _ => return Err(Outcome::BadPlan(files.plan, fault)),
-        },
-    };
     let first = match read_readings(alloc, &file.plan, texts.readings) {
         Ok(readings) => readings,
         Err(fault) => match fault.cause {
@@ -111,10 +139,11 @@ fn compare<'a>(
             _ => return Err(Outcome::BadReadings(files.other, fault)),
         },
     };
-    match twin_words(
+    match pooled_twin(
         alloc,
         &file.plan,
         &file.keys,
+        sets,
         &first,
         &second,
         texts.transcript,
@@ -124,23 +153,53 @@ fn compare<'a>(
     }
 }
 
-// The line that says how many words move.
-#[tactic(auto, unfolding(crate::specs::Ends::moved_line))]
-fn moved_line(alloc: Global, rows: usize) -> Result<String, AllocError>
-    ensures { IfOk result (λ text. string_bytes text ≡ moved_line rows) }
+// The mask words that move from the first readings to the other ones, against the meters that the word names.
+fn compare<'a>(
+    alloc: Global,
+    known: &str,
+    files: TwinFiles<'a>,
+    texts: TwinTexts<'_>,
+) -> Result<MovedWords, Outcome<'a>>
+    requires short { AreShort (bytes_of texts) }
+    requires known { IsKnown known.now }
+    ensures ends { BytesPooled (known_in known.now) (twin_names_of files.entry) (bytes_of texts.entry) result }
+    ensures no_fault { IfErr result (λ outcome. ¬ IsFault outcome) }
 {
-    format!(in alloc; "twin: moved={rows}\n")
+    let file = match read_plan(alloc, texts.plan) {
+        Ok(file) => file,
+        Err(fault) => match fault.cause {
+            FileCause::Memory => return Err(Outcome::NoMemory),
+            _ => return Err(Outcome::BadPlan(files.plan, fault)),
+        },
+    };
+    let sets = match known_sets(alloc, &file.plan, known) {
+        Ok(Some(sets)) => sets,
+        Ok(None) => return Err(Outcome::BadPlan(files.plan, OUTSIDE_PLAN)),
+        Err(_) => return Err(Outcome::NoMemory),
+    };
+    compare_tables(alloc, files, &file, &sets, texts)
 }
 
-/// Fetches a plan, two tables of readings and a transcript, and puts the mask words that move so that the second table
-/// gives the transcript of the first.
-pub fn twin<'a, R: Threads + Sync, D: Desk>(
+// The line that says how many words move.
+#[tactic(auto, unfolding(crate::specs::Ends::counted_line))]
+fn counted_line(alloc: Global, verb: &str, rows: usize) -> Result<String, AllocError>
+    ensures { IfOk result (λ text. string_bytes text ≡ counted_line verb.now rows) }
+{
+    format!(in alloc; "{verb}: moved={rows}\n")
+}
+
+// Fetches a plan, two tables of readings and a transcript, and puts the mask words that move so that the second table
+// gives the transcript of the first and the known meters the same, as the command of this name.
+fn twin_for<'a, R: Threads + Sync, D: Desk>(
     rt: &R,
     alloc: Global,
+    verb: &str,
+    known: &str,
     files: TwinFiles<'a>,
     desk: &mut D,
 ) -> Outcome<'a>
-    ensures ends { TwinCommandEnds (twin_names_of files.entry) (D.view desk.old) (D.view desk.new) result }
+    requires { IsKnown known.now }
+    ensures ends { PooledEndsAs verb.now (known_in known.now) (twin_names_of files.entry) (D.view desk.old) (D.view desk.new) result }
     ensures later { D.faults desk.old ≤ D.faults desk.new }
     ensures cause { IsFault result → Rose (D.faults desk.old) (D.faults desk.new) }
 {
@@ -158,14 +217,14 @@ pub fn twin<'a, R: Threads + Sync, D: Desk>(
         other: &other,
         transcript: &transcript,
     };
-    let moved = match compare(alloc, files, texts) {
+    let moved = match compare(alloc, known, files, texts) {
         Ok(moved) => moved,
         Err(outcome) => return outcome,
     };
     let Ok(text) = moved_text(alloc, &moved) else {
         return Outcome::NoMemory;
     };
-    let Ok(line) = moved_line(alloc, moved.rows().len()) else {
+    let Ok(line) = counted_line(alloc, verb, moved.rows().len()) else {
         return Outcome::NoMemory;
     };
     let file = NewFile {
@@ -175,4 +234,35 @@ pub fn twin<'a, R: Threads + Sync, D: Desk>(
         readers: Readers::Owner,
     };
     put_one(rt, alloc, file, line.as_bytes(), desk)
+}
+
+/// Fetches a plan, two tables of readings and a transcript, and puts the mask words that move so that the second table
+/// gives the transcript of the first.
+pub fn twin<'a, R: Threads + Sync, D: Desk>(
+    rt: &R,
+    alloc: Global,
+    files: TwinFiles<'a>,
+    desk: &mut D,
+) -> Outcome<'a>
+    ensures ends { TwinCommandEnds (twin_names_of files.entry) (D.view desk.old) (D.view desk.new) result }
+    ensures later { D.faults desk.old ≤ D.faults desk.new }
+    ensures cause { IsFault result → Rose (D.faults desk.old) (D.faults desk.new) }
+{
+    twin_for(rt, alloc, "twin", "-", files, desk)
+}
+
+/// The same against meters that share what they know: the second table gives them the same readings, and they have the same
+/// mask words.
+pub fn pooled<'a, R: Threads + Sync, D: Desk>(
+    rt: &R,
+    alloc: Global,
+    words: PooledWords<'a>,
+    desk: &mut D,
+) -> Outcome<'a>
+    requires { IsKnown words.known.now }
+    ensures ends { PooledCommandEnds (known_in words.entry.known.now) (twin_names_of words.entry.files) (D.view desk.old) (D.view desk.new) result }
+    ensures later { D.faults desk.old ≤ D.faults desk.new }
+    ensures cause { IsFault result → Rose (D.faults desk.old) (D.faults desk.new) }
+{
+    twin_for(rt, alloc, "pooled", words.known, words.files, desk)
 }

@@ -1,4 +1,4 @@
-use Rattle.std.proofs.Common.{◌≡◌, ◌∙◌, ◌<◌, ◌+◌, ◌++◌, ◌∷◌, [], List, ℕ, zero, suc, ap, sym, refl, length, get_or, take, add-one, arith, append-nil, append_assoc}
+use Rattle.std.proofs.Common.{◌≡◌, ◌∙◌, ◌<◌, ◌+◌, ◌++◌, ◌∷◌, [], List, ℕ, zero, suc, ap, sym, length, get_or, take, add-one, arith, append-nil, append_assoc}
 use Rattle.command_words.specs.Outcomes.{shown_byte, shown_name}
 use Rattle.command_words.proofs.complaints.named.Goals as goal
 

@@ -1,6 +1,6 @@
 use Rattle.command_words.specs.Commands.{hide_names_of}
 use Rattle.commands.specs.BillingParts.{hide_bytes_of}
-use Rattle.commands.proofs.BillingLemmas.{hides_in, refuses_in}
+use Rattle.commands.proofs.BillingLemmas.{hides_in}
 use Rattle.commands.proofs.hide.hidden_of_files.Goals as goal
 
 pub returns-clause-hidden : goal.returns-clause-hidden

@@ -1,5 +1,4 @@
 use Rattle.commands.proofs.AcceptedLemmas.{accepted_is_done}
-use Rattle.commands.proofs.ComplaintLemmas.{has_complaint}
 use Rattle.commands.proofs.InspectedRuns.{runs_are_inspected}
 use Rattle.commands.proofs.StoredLemmas.{runs_are_confirmed, runs_are_recorded, runs_are_short}
 use Rattle.commands.proofs.program.meteragg.Goals as goal

@@ -1,4 +1,4 @@
-use Rattle.std.proofs.Common.{◌∙◌, [], ap, arith}
+use Rattle.std.proofs.Common.{◌∙◌, ap, arith}
 use Rattle.transcript_text.specs.Spelling.{transcript_text}
 use Rattle.commands.proofs.PublicLemmas.{cut_out, long_enough, text_made}
 use Rattle.commands.proofs.public.public_text.Goals as goal

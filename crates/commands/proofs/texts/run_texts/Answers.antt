@@ -1,4 +1,4 @@
-use Rattle.std.proofs.Common.{◌≡◌, ℕ, List, Bool, false, Ok, Err, ap, sym, subst, ◌∙◌, rules}
+use Rattle.std.proofs.Common.{◌≡◌, ℕ, List, Ok, Err, ap, sym, subst, ◌∙◌, rules}
 use Rattle.plan_files.specs.PlanFiles.{plan_of, view_of}
 use Rattle.plan_files.specs.Readings.{readings_of, ReadingsEnd}
 use Rattle.commands.proofs.RunLemmas.{plan_of_readings, makes, readings_refused, has_values}
