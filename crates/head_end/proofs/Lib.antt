@@ -1,0 +1,10 @@
+pub mod JournalLemmas
+pub mod RoundLemmas
+pub mod PlaceLemmas
+pub mod StateLemmas
+pub mod ReplyLemmas
+pub mod CallLemmas
+pub mod EndLemmas
+pub mod LineLemmas
+pub mod ReplayLemmas
+pub mod TotalLemmas

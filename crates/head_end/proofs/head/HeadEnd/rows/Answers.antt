@@ -1,0 +1,20 @@
+use Rattle.std.proofs.Common.{◌≡◌, ◌∙◌, [], ap, length, arith}
+use Rattle.std.specs.List.{flat_map, range_with_len}
+use Rattle.std.proofs.lemmas.List.{length-map}
+use Rattle.group_plan.specs.Plans.{PlanView}
+use Rattle.group_plan.specs.NewPlans.{stated}
+use Rattle.totals_report.specs.Reports.{group_rows, report_rows}
+use Rattle.head_end.specs.Lines.{row_in}
+use Rattle.head_end.proofs.LineLemmas.{lists_more}
+use Rattle.head_end.proofs.head.HeadEnd.rows.Goals as goal
+
+pub loop-group-preserved : goal.loop-group-preserved
+loop-group-preserved c = λ journal after.
+    lists_more (group_rows c.args.self.now.plan (row_in c.args.self.now.plan journal)) c.loop-group.group [] c.loop-group.rows.items c.add_rows.new.rows.items (c.loop-group.invariant journal after) (c.in_ok-add_rows.ensures journal after)
+
+pub returns : goal.returns
+unfolding report_rows
+returns c = λ journal after.
+    let long = ap length c.groups-group-end.ensures.groups ∙ length-map c.plan.result.now.groups stated ∙ ap (λ (p : PlanView). length p.groups) c.plan.ensures in
+    let all : c.loop-group.group ≡ length c.args.self.now.plan.groups = omega (arith, long, c.loop-group-test.false, c.loop-group.auto.group-end) in
+    c.loop-group.invariant journal after ∙ ap (λ n. flat_map (group_rows c.args.self.now.plan (row_in c.args.self.now.plan journal)) (range_with_len 0 n)) all

@@ -1,0 +1,8 @@
+//! What holds of every journal. Each law is a contract with an empty body.
+
+ghost use Rattle.head_end.specs.Statements.{TotalsAreExact};
+
+/// Where the frames have the words of readings and masks, a total is the plain sum of the survivors' readings.
+pub fn exact_totals()
+    ensures { TotalsAreExact }
+{}
