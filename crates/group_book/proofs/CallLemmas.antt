@@ -1,12 +1,12 @@
 -- What each call of a book answers, by what it reads off what it keeps.
-use Rattle.std.proofs.Common.{◌≡◌, ℕ, ◌+◌, ◌≤◌, Bool, true, false, ◌&&◌, List, [], ◌∷◌, ◌++◌, refl, sym, ap, ◌∙◌, subst}
+use Rattle.std.proofs.Common.{◌≡◌, ℕ, ◌+◌, ◌<◌, ◌≤◌, Bool, true, false, ◌&&◌, List, [], ◌∷◌, ◌++◌, refl, sym, ap, ◌∙◌, subst}
 use Rattle.std.specs.Prelude.{if◌then◌else◌, slice_index_or, Option, Some, None, is_some}
 use Rattle.std.proofs.lemmas.Bool.{false≢true}
 use Rattle.missing_round.specs.Sets.{is_member}
 use Rattle.group_plan.specs.declared.Kind.{Kind}
 use Rattle.group_plan.specs.declared.Kind.TheVariants.{Reading, Announcement, Answer}
 use Rattle.group_plan.specs.declared.Tag.{Tag}
-use Rattle.group_plan.specs.Plans.{PlanView, is_place}
+use Rattle.group_plan.specs.Plans.{is_place}
 use Rattle.group_plan.specs.Tables.{PresenceView}
 use Rattle.meter_frames.specs.declared.Frame.{Frame}
 use Rattle.round_machine.specs.declared.Verdict.{Verdict}
@@ -19,15 +19,15 @@ use Rattle.transcript_log.specs.Frames.{word_or_zero, first_word}
 use Rattle.transcript_log.specs.Journal.{past_of, core_line}
 use Rattle.transcript_log.proofs.ScheduleLemmas.{is_announced-from_sent, is_announced-from_answer, is_announcement_sent-from_taken}
 use Rattle.transcript_log.proofs.ListLemmas.{and_first}
-use Rattle.group_book.specs.Places.{page_at}
+use Rattle.group_book.specs.Groups.{GroupView, holds}
 use Rattle.group_book.specs.Pages.{PageView, taken_in, announced_in, PageTakes}
 use Rattle.group_book.specs.Books.{BookView, shape_of, past, posted_of, was_sent, allows, missing_of, Adds, IsFree, HasSet, IsPosted, IsAnnounced}
 use Rattle.group_book.specs.BookParts.{HasWord, set_carried, HasSetOf, IsOtherSet}
-use Rattle.group_book.specs.Replay.{IsPage, IsWord, Replays}
+use Rattle.group_book.specs.Replay.{IsPage, IsWord, Replays, book_at}
 use Rattle.group_book.proofs.LineLemmas.{first_word-posted}
 use Rattle.group_book.proofs.PageLemmas.{is_announced-is, announced-is, Took}
-use Rattle.group_book.proofs.PlaceLemmas.{is_round-from_place}
-use Rattle.group_book.proofs.BookLemmas.{page_of, took_now}
+use Rattle.group_book.proofs.PlaceLemmas.{in_group}
+use Rattle.group_book.proofs.GroupLemmas.{page_of, place-held, took_now}
 
 -- ---- announced
 
@@ -128,32 +128,31 @@ unknown_now b tag (Some p) is none = absurd (false≢true (sym none))
 
 -- ---- a Take of a posted frame
 
--- what the book holds where the frame is taken
-pub record Finds (p : PresenceView) (pages : List PageView) (words : List (Option ℕ)) (j : List Line) (f : Frame) (held : PageView) : Type 0 where
-  pub replays : Replays p pages words j
+-- what is kept of the group where the frame is taken
+pub record Finds (p : PresenceView) (j : List Line) (v : GroupView) (f : Frame) (held : PageView) : Type 0 where
+  pub replays : Replays p j v
+  pub own : f.tag.group ≡ v.group
+  pub round : f.tag.round < v.rounds
   pub place : is_place p.plan f.tag.group f.tag.round f.tag.meter ≡ true
   pub sent : is_sent (shape_of_presence p) f.tag.kind f.tag.group f.tag.round f.tag.meter (past_of j) ≡ true
   pub word : f.word ≡ first_word f.tag.group f.tag.round f.tag.meter f.tag.kind j
   pub page : IsPage (shape_of_presence p) f.tag.group f.tag.round held j
 
-pub finds : (b0 b : BookView) (pages : List PageView) (words : List (Option ℕ)) (f : Frame) (found : Option Frame) (held : PlanView) (known : Bool) (asked : PlanView) (at : ℕ) (page : PageView) → b0 ≡ b
-    → Replays b0.presence pages words b0.journal → held ≡ b.presence.plan → known ≡ is_place held f.tag.group f.tag.round f.tag.meter → known ≡ true
-    → IsPosted b f.tag found → IsFree found f → is_some found ≡ true
-    → asked ≡ b.presence.plan → at ≡ page_at asked f.tag.group f.tag.round → page ≡ slice_index_or pages at page
-    → Finds b0.presence pages words b0.journal f page
-finds b0 b pages words f found held known asked at page same rep held_is known_is is_known posted free some asked_is at_is page_is =
-    let place : is_place b0.presence.plan f.tag.group f.tag.round f.tag.meter ≡ true
-    = ap (λ x. is_place x.presence.plan f.tag.group f.tag.round f.tag.meter) same ∙ ap (λ q. is_place q f.tag.group f.tag.round f.tag.meter) (sym held_is) ∙ sym known_is ∙ is_known in
-    let is : IsKnown b0 f = subst (λ x. IsKnown x f) (sym same) (known_now b f found posted free some) in
+pub finds : (p : PresenceView) (j : List Line) (v : GroupView) (f : Frame) (found : Option Frame) (page : PageView) → Replays p j v → f.tag.group ≡ v.group → holds v f.tag ≡ true
+    → IsPosted (book_at p j 0) f.tag found → IsFree found f → is_some found ≡ true → page ≡ slice_index_or v.pages f.tag.round page → Finds p j v f page
+finds p j v f found page rep own held posted free some page_is =
+    let is : IsKnown (book_at p j 0) f = known_now (book_at p j 0) f found posted free some in
+    let round : f.tag.round < v.rounds = (in_group v f.tag held).0 in
     record {
       replays = rep;
-      place = place;
+      own = own;
+      round = round;
+      place = place-held p j v f.tag rep own ∙ held;
       sent = is.sent;
       word = is.word;
-      page = page_of b0.presence pages words b0.journal f.tag.group f.tag.round at page rep (is_round-from_place b0.presence.plan f.tag.group f.tag.round f.tag.meter place)
-          (at_is ∙ ap (λ q. page_at q f.tag.group f.tag.round) asked_is ∙ ap (λ x. page_at x.presence.plan f.tag.group f.tag.round) (sym same)) page_is;
+      page = page_of p j v f.tag.group f.tag.round page rep own round page_is;
     }
 
-pub took : (p : PresenceView) (pages : List PageView) (words : List (Option ℕ)) (j : List Line) (f : Frame) (page new : PageView) (v : Verdict) → Finds p pages words j f page
-    → PageTakes page f.tag.kind f.tag.meter f.word v new → Took (shape_of_presence p) f.tag v new j
-took p pages words j f page new v h takes = took_now p pages words j f.tag v f.word page new h.replays h.place h.sent h.word h.page takes
+pub took : (p : PresenceView) (j : List Line) (v : GroupView) (f : Frame) (page new : PageView) (w : Verdict) → Finds p j v f page
+    → PageTakes page f.tag.kind f.tag.meter f.word w new → Took (shape_of_presence p) f.tag w new j
+took p j v f page new w h takes = took_now p j f.tag w f.word page new h.replays.ledger h.place h.sent h.word h.page takes

@@ -3,8 +3,12 @@ pub mod LineLemmas
 pub mod PageLemmas
 pub mod PlaceLemmas
 pub mod WordLemmas
-pub mod BookLemmas
+pub mod GroupLemmas
 pub mod CallLemmas
 pub mod PlainLines
 pub mod StartLemmas
 pub mod TableLemmas
+pub mod EventsByGroup
+pub mod LinesByGroup
+pub mod OwnLines
+pub mod BookLemmas

@@ -1,17 +1,17 @@
--- Where rounds and words are kept: within the room for them, and no two at one place.
-use Rattle.std.proofs.Common.{◌≡◌, ℕ, ◌<◌, ◌/◌, ◌%◌, true, false, List, length, set, refl, sym, ap, ◌∙◌, subst, inl, inr, arith, get_or-set_same, get_or-set_other}
-use Rattle.std.specs.Prelude.{◌==◌, ◌&&◌, nat_lt, if◌then◌else◌, slice_index_or, Option}
+-- Where the words of a group are kept: within the room for them, and no two at one place.
+use Rattle.std.proofs.Common.{◌≡◌, ℕ, ◌<◌, ◌/◌, ◌%◌, ◌+◌, ◌*◌, true, false, List, length, set, refl, sym, ap, ◌∙◌, subst, inl, inr, arith, get_or-set_same, get_or-set_other}
+use Rattle.std.specs.Prelude.{◌==◌, nat_lt, if◌then◌else◌, slice_index_or, Option}
 use Rattle.std.proofs.lemmas.Nat.{div-mul-add, mod-mul-add, mul-add-lt}
 use Rattle.std.proofs.lemmas.Bool.{and_parts, ltb-true, lt-ltb, cases_Bool, eqb-true, eq-eqb, false≢true}
 use Rattle.group_plan.specs.declared.Kind.{Kind}
 use Rattle.group_plan.specs.declared.Kind.TheVariants.{Reading, Announcement, Answer}
 use Rattle.group_plan.specs.declared.Tag.{Tag}
 use Rattle.group_plan.specs.Plans.{PlanView, is_place}
-use Rattle.group_plan.specs.Places.{place_at, places}
-use Rattle.group_plan.proofs.MeterNumbers.{group-lt, in_place, place_at-lt, same_place}
+use Rattle.group_plan.proofs.MeterNumbers.{group-lt, in_place}
 use Rattle.transcript_log.specs.Events.{is_tag}
-use Rattle.group_book.specs.Places.{is_round, all_rounds, page_at, kind_number, all_tags, word_at}
+use Rattle.group_book.specs.Places.{is_round, kind_number}
 use Rattle.group_book.specs.Pages.{PageView}
+use Rattle.group_book.specs.Groups.{GroupView, holds, group_tags, word_in}
 use Rattle.group_book.proofs.Tags.{everywhere, is_tag-itself}
 
 -- ---- rounds
@@ -27,32 +27,24 @@ is_round-from_place plan g r i is =
     let both = in_place plan g r i is in
     rw (lt-ltb g (length plan.groups) (group-lt plan.groups g i both.1), lt-ltb r plan.rounds both.0) refl
 
--- after the page of one round was set
-pub pages_after : (plan : PlanView) (pages : List PageView) (a b : ℕ) (new : PageView) (P : ℕ → ℕ → PageView → Type 0)
-    → a < length plan.groups → b < plan.rounds → length pages ≡ all_rounds plan → P a b new
-    → ((g r : ℕ) (d : PageView) → g < length plan.groups → r < plan.rounds → ((a == g) && (b == r)) ≡ false → P g r (slice_index_or pages (page_at plan g r) d))
-    → (g r : ℕ) (d : PageView) → g < length plan.groups → r < plan.rounds → P g r (slice_index_or (set pages (page_at plan a b) new) (page_at plan g r) d)
-pages_after plan pages a b new P ha hb long here others g r d hg hr =
-    elim (cases_Bool ((a == g) && (b == r))) [
-      | inl same ↦
-          let both = and_parts (a == g) (b == r) same in
-          let eg : a ≡ g = eqb-true a g both.0 in
-          let er : b ≡ r = eqb-true b r both.1 in
-          subst (λ x. P x r (slice_index_or (set pages (page_at plan a b) new) (page_at plan x r) d)) eg
-          (subst (λ x. P a x (slice_index_or (set pages (page_at plan a b) new) (page_at plan a x) d)) er
-          (subst (P a b) (sym (get_or-set_same pages (page_at plan a b) new d lt)) here))
-      | inr other ↦
-          subst (P g r) (sym (get_or-set_other pages (page_at plan a b) (page_at plan g r) new d (λ e. clash other (sym e)))) (others g r d hg hr other)
-    ]
-  where
-    lt : page_at plan a b < length pages
-    lt = rw long (mul-add-lt a plan.rounds b (length plan.groups) ha hb)
+-- a tag that a group holds is within its rounds and meters
+pub in_group : (v : GroupView) (tag : Tag) → holds v tag ≡ true → (tag.round < v.rounds) × (tag.meter < v.meters)
+in_group v tag h =
+    let both = and_parts (nat_lt tag.round v.rounds) (nat_lt tag.meter v.meters) h in
+    (ltb-true tag.round v.rounds both.0, ltb-true tag.meter v.meters both.1)
 
-    clash : ((a == g) && (b == r)) ≡ false → page_at plan a b ≡ page_at plan g r → ⊥
-    clash other e =
-        let groups : a ≡ g = sym (div-mul-add a plan.rounds b hb) ∙ ap (λ n. n / plan.rounds) e ∙ div-mul-add g plan.rounds r hr in
-        let rounds : b ≡ r = sym (mod-mul-add a plan.rounds b hb) ∙ ap (λ n. n % plan.rounds) e ∙ mod-mul-add g plan.rounds r hr in
-        false≢true (sym other ∙ rw (eq-eqb a g groups, eq-eqb b r rounds) refl)
+-- after the page of one round was set
+pub pages_after : (pages : List PageView) (rounds at : ℕ) (new : PageView) (P : ℕ → PageView → Type 0) → at < length pages → P at new
+    → ((r : ℕ) (d : PageView) → r < rounds → (at == r) ≡ false → P r (slice_index_or pages r d))
+    → (r : ℕ) (d : PageView) → r < rounds → P r (slice_index_or (set pages at new) r d)
+pages_after pages rounds at new P lt here others r d hr =
+    elim (cases_Bool (at == r)) [
+      | inl same ↦
+          subst (λ n. P n (slice_index_or (set pages at new) n d)) (eqb-true at r same)
+          (subst (P at) (sym (get_or-set_same pages at new d lt)) here)
+      | inr other ↦
+          subst (P r) (sym (get_or-set_other pages at r new d (λ e. false≢true (sym other ∙ eq-eqb at r (sym e))))) (others r d hr other)
+    ]
 
 -- ---- tags
 
@@ -69,41 +61,41 @@ kind_of-number Reading = refl
 kind_of-number Announcement = refl
 kind_of-number Answer = refl
 
-pub word_at-lt : (plan : PlanView) (g r i : ℕ) (k : Kind) → is_place plan g r i ≡ true → word_at plan g r i k < all_tags plan
-word_at-lt plan g r i k is =
-    let both = in_place plan g r i is in
-    mul-add-lt (kind_number k) (places plan) (place_at plan g r i) 3 (kind_number-lt k) (place_at-lt plan g r i both.0 both.1)
+pub word_in-lt : (rounds meters r i : ℕ) (k : Kind) → r < rounds → i < meters → word_in rounds meters r i k < group_tags rounds meters
+word_in-lt rounds meters r i k hr hi =
+    mul-add-lt (kind_number k * rounds + r) meters i (rounds * 3) (mul-add-lt (kind_number k) rounds r 3 (kind_number-lt k) hr) hi
 
--- no two tags at one number
-same_tag : (plan : PlanView) (tag : Tag) (g r i : ℕ) (k : Kind) → is_place plan tag.group tag.round tag.meter ≡ true → is_place plan g r i ≡ true
-    → word_at plan tag.group tag.round tag.meter tag.kind ≡ word_at plan g r i k → is_tag g r i k tag ≡ true
-same_tag plan tag g r i k inside there e =
-    let h = in_place plan tag.group tag.round tag.meter inside in
-    let t = in_place plan g r i there in
-    let n : ℕ = places plan in
-    let a : ℕ = place_at plan tag.group tag.round tag.meter in
-    let b : ℕ = place_at plan g r i in
-    let la : a < n = place_at-lt plan tag.group tag.round tag.meter h.0 h.1 in
-    let lb : b < n = place_at-lt plan g r i t.0 t.1 in
-    let numbers : kind_number tag.kind ≡ kind_number k = sym (div-mul-add (kind_number tag.kind) n a la) ∙ ap (λ x. x / n) e ∙ div-mul-add (kind_number k) n b lb in
-    let spots : a ≡ b = sym (mod-mul-add (kind_number tag.kind) n a la) ∙ ap (λ x. x % n) e ∙ mod-mul-add (kind_number k) n b lb in
+-- no two tags of a group at one number
+same_tag : (rounds meters : ℕ) (tag : Tag) (r i : ℕ) (k : Kind) → tag.round < rounds → tag.meter < meters → r < rounds → i < meters
+    → word_in rounds meters tag.round tag.meter tag.kind ≡ word_in rounds meters r i k → is_tag tag.group r i k tag ≡ true
+same_tag rounds meters tag r i k in_rounds in_meters hr hi e =
+    let a : ℕ = kind_number tag.kind * rounds + tag.round in
+    let b : ℕ = kind_number k * rounds + r in
+    let spots : a ≡ b = sym (div-mul-add a meters tag.meter in_meters) ∙ ap (λ n. n / meters) e ∙ div-mul-add b meters i hi in
+    let same_meters : tag.meter ≡ i = sym (mod-mul-add a meters tag.meter in_meters) ∙ ap (λ n. n % meters) e ∙ mod-mul-add b meters i hi in
+    let numbers : kind_number tag.kind ≡ kind_number k = sym (div-mul-add (kind_number tag.kind) rounds tag.round in_rounds) ∙ ap (λ n. n / rounds) spots ∙ div-mul-add (kind_number k) rounds r hr in
+    let same_rounds : tag.round ≡ r = sym (mod-mul-add (kind_number tag.kind) rounds tag.round in_rounds) ∙ ap (λ n. n % rounds) spots ∙ mod-mul-add (kind_number k) rounds r hr in
     let kinds : tag.kind ≡ k = sym (kind_of-number tag.kind) ∙ ap kind_of numbers ∙ kind_of-number k in
-    let one = same_place plan tag.group tag.round tag.meter g r i h.0 h.1 t.0 t.1 spots in
-    subst (λ x. is_tag x r i k tag ≡ true) one.group (subst (λ x. is_tag tag.group x i k tag ≡ true) one.round (subst (λ x. is_tag tag.group tag.round x k tag ≡ true) one.meter
-    (subst (λ x. is_tag tag.group tag.round tag.meter x tag ≡ true) kinds (is_tag-itself tag))))
+    subst (λ x. is_tag tag.group x i k tag ≡ true) same_rounds (subst (λ x. is_tag tag.group tag.round x k tag ≡ true) same_meters
+    (subst (λ x. is_tag tag.group tag.round tag.meter x tag ≡ true) kinds (is_tag-itself tag)))
 
 -- after the word of one tag was set
-pub words_after : (plan : PlanView) (words : List (Option ℕ)) (tag : Tag) (new : Option ℕ) (P : ℕ → ℕ → ℕ → Kind → Option ℕ → Type 0)
-    → is_place plan tag.group tag.round tag.meter ≡ true → length words ≡ all_tags plan → P tag.group tag.round tag.meter tag.kind new
-    → ((g r i : ℕ) (k : Kind) (d : Option ℕ) → is_place plan g r i ≡ true → is_tag g r i k tag ≡ false → P g r i k (slice_index_or words (word_at plan g r i k) d))
-    → (g r i : ℕ) (k : Kind) (d : Option ℕ) → is_place plan g r i ≡ true
-    → P g r i k (slice_index_or (set words (word_at plan tag.group tag.round tag.meter tag.kind) new) (word_at plan g r i k) d)
-words_after plan words tag new P inside long here others =
-    everywhere tag
-    (λ g r i k. (d : Option ℕ) → is_place plan g r i ≡ true → P g r i k (slice_index_or (set words (word_at plan tag.group tag.round tag.meter tag.kind) new) (word_at plan g r i k) d))
-    (λ d is.
-    let lt : word_at plan tag.group tag.round tag.meter tag.kind < length words = rw long (word_at-lt plan tag.group tag.round tag.meter tag.kind inside) in
-    subst (P tag.group tag.round tag.meter tag.kind) (sym (get_or-set_same words (word_at plan tag.group tag.round tag.meter tag.kind) new d lt)) here)
-    (λ g r i k differs d is.
-    subst (P g r i k) (sym (get_or-set_other words (word_at plan tag.group tag.round tag.meter tag.kind) (word_at plan g r i k) new d (λ e. false≢true (sym differs ∙ same_tag plan tag g r i k inside is (sym e)))))
-    (others g r i k d is differs))
+pub words_after : (v : GroupView) (tag : Tag) (new : Option ℕ) (P : ℕ → ℕ → ℕ → Kind → Option ℕ → Type 0)
+    → tag.group ≡ v.group → tag.round < v.rounds → tag.meter < v.meters → length v.words ≡ group_tags v.rounds v.meters → P tag.group tag.round tag.meter tag.kind new
+    → ((r i : ℕ) (k : Kind) (d : Option ℕ) → r < v.rounds → i < v.meters → is_tag v.group r i k tag ≡ false → P v.group r i k (slice_index_or v.words (word_in v.rounds v.meters r i k) d))
+    → (r i : ℕ) (k : Kind) (d : Option ℕ) → r < v.rounds → i < v.meters
+    → P v.group r i k (slice_index_or (set v.words (word_in v.rounds v.meters tag.round tag.meter tag.kind) new) (word_in v.rounds v.meters r i k) d)
+words_after v tag new P own in_rounds in_meters long here others r i k d hr hi =
+    everywhere tag (λ g r i k. g ≡ v.group → r < v.rounds → i < v.meters → P g r i k (slice_index_or (set v.words at new) (word_in v.rounds v.meters r i k) d))
+    (λ e x y. subst (P tag.group tag.round tag.meter tag.kind) (sym (get_or-set_same v.words at new d lt)) here)
+    (λ g r i k differs e x y.
+    subst (λ g. P g r i k (slice_index_or (set v.words at new) (word_in v.rounds v.meters r i k) d)) (sym e)
+    (subst (P v.group r i k) (sym (get_or-set_other v.words at (word_in v.rounds v.meters r i k) new d (λ same. false≢true (sym differs ∙ ap (λ n. is_tag n r i k tag) (e ∙ sym own) ∙ same_tag v.rounds v.meters tag r i k in_rounds in_meters x y (sym same)))))
+    (others r i k d x y (ap (λ n. is_tag n r i k tag) (sym e) ∙ differs))))
+    v.group r i k refl hr hi
+  where
+    at : ℕ
+    at = word_in v.rounds v.meters tag.round tag.meter tag.kind
+
+    lt : at < length v.words
+    lt = rw long (word_in-lt v.rounds v.meters tag.round tag.meter tag.kind in_rounds in_meters)

@@ -2,7 +2,10 @@ pub mod Places
 pub mod Pages
 pub mod Words
 pub mod Start
+pub mod Groups
 pub mod Books
 pub mod BookParts
 pub mod Replay
 pub mod Tables
+pub mod ByGroup
+pub mod GroupLaws

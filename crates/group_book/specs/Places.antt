@@ -1,9 +1,8 @@
--- Where a book keeps its rounds, one after another by groups, and the words of its tags, one kind after another.
+-- The rounds of a plan, one after another by groups, and the kinds of tags.
 use Rattle.std.specs.Prelude.{ℕ, ◌+◌, ◌*◌, nat_lt, Bool, ◌&&◌, length}
 use Rattle.group_plan.specs.declared.Kind.{Kind}
 use Rattle.group_plan.specs.declared.Kind.TheVariants.{Reading, Announcement, Answer}
 use Rattle.group_plan.specs.Plans.{PlanView}
-use Rattle.group_plan.specs.Places.{place_at, places}
 
 -- whether the plan has this group and round
 abbrev pub is_round : PlanView → ℕ → ℕ → Bool
@@ -22,11 +21,3 @@ abbrev pub kind_number : Kind → ℕ
 kind_number Reading = 0
 kind_number Announcement = 1
 kind_number Answer = 2
-
--- how many tags a plan has
-abbrev pub all_tags : PlanView → ℕ
-all_tags plan = places plan * 3
-
--- the number of a tag
-abbrev pub word_at : PlanView → ℕ → ℕ → ℕ → Kind → ℕ
-word_at plan g r i k = kind_number k * places plan + place_at plan g r i

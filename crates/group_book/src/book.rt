@@ -1,27 +1,20 @@
 //! The book: every round of a plan, the word posted under each tag, and the journal.
 
-ghost use Rattle.std.specs.Prelude.{◌≡◌, ◌<◌, ◌≤◌, ℕ, [], IsTrue, IfOk, OnOk};
-ghost use Rattle.missing_round.specs.Sets.{is_member};
-ghost use Rattle.group_plan.specs.declared.Kind.{Kind};
+ghost use Rattle.std.specs.Prelude.{◌≡◌, ◌<◌, ◌≤◌, [], IsTrue, IfOk, OnOk, length, map};
+ghost use Rattle.std.specs.List.{range_with_len};
+ghost use Rattle.group_plan.specs.Plans.{IsWithinLimits};
 ghost use Rattle.meter_frames.specs.Frames.{FitsKind};
-ghost use Rattle.transcript_log.specs.Schedule.{is_taken};
-ghost use Rattle.group_book.specs.Pages.{taken_in};
-ghost use Rattle.group_book.specs.Books.{shape_of, past, knows, has_round, allows, HasOtherSet, HasSet, missing_of, IsFree, SendEnds, TakeEnds, CloseEnds, EndEnds, IsPosted, IsAnnounced, outcome_of};
-ghost use Rattle.group_book.specs.Replay.{IsJournal, IsPage};
+ghost use Rattle.group_book.specs.Groups.{GroupView, first_group};
+ghost use Rattle.group_book.specs.Books.{shape_of, has_round, SendEnds, TakeEnds, CloseEnds, EndEnds, IsPosted, IsAnnounced, outcome_of};
+ghost use Rattle.group_book.specs.Replay.{IsJournal, IsGroup, AreReplayed};
 ghost use Rattle.group_book.specs.Tables.{IsTranscriptUnder, IsOutcomeUnder};
-ghost use Rattle.group_book.specs.BookParts.{HasWord, set_carried, IsOther, IsOtherSet, HasSetOf};
 
-use crate::copies::copy_of_pages;
-use crate::lines::{add_close, add_end, add_send, add_take};
-use crate::page::Page;
-use crate::places::{is_round, page_at, word_at};
-use crate::start::{first_pages, no_words};
-use crate::words::Words;
+use crate::group_pages::GroupPages;
+use crate::places::is_round;
 use crate::{Outcome, SendAnswer, TakeError};
-use group_plan::{Kind, Plan, Presence, Tag};
+use group_plan::{Plan, Presence, Tag};
 use meter_frames::Frame;
 use missing_round::MeterSet;
-use mod_word::Word;
 use round_machine::{Closing, Ending, Verdict};
 use std::alloc::{AllocError, Global};
 use std::marker::Model;
@@ -33,22 +26,53 @@ use transcript_log::Lines;
 pub struct Book {
     alloc: Global,
     presence: Presence,
-    /// The rounds, one after another by groups.
-    pages: Vec<Page>,
-    /// The words of the posted frames, one kind after another and in each by places. The tag and the round give the rest.
-    words: Words,
+    /// What is kept of each group.
+    groups: Vec<GroupPages>,
     journal: Lines,
 }
 
 impl Model for Book {
     ghost use Rattle.group_book.specs.Books.{BookView};
-    ghost use Rattle.group_book.specs.Replay.{Replays};
+    ghost use Rattle.group_book.specs.Replay.{AreReplayed};
 
     ghost Value = { BookView };
 
     ghost view = { λ b. record { presence = b.presence; journal = b.journal.items; spare = b.journal.spare } };
 
-    ghost invariant = { λ b. Replays b.presence b.pages.items b.words b.journal.items };
+    ghost invariant = { λ b. AreReplayed b.presence b.journal.items b.groups.items };
+}
+
+/// A book taken apart: who has a reading, what is kept of each group, and the journal. Each group can go its own way, as long as the
+/// journal gets its lines.
+#[derive(Drop)]
+pub struct Parts {
+    pub presence: Presence,
+    pub groups: Vec<GroupPages>,
+    pub journal: Lines,
+}
+
+/// The groups of a plan, of which nothing was taken yet.
+fn first_groups(alloc: Global, plan: &Plan) -> Result<Vec<GroupPages>, AllocError>
+    ensures limits { OnOk result (IsWithinLimits plan.now) }
+    ensures groups { IfOk result (λ groups. groups.items ≡ map (first_group plan.now) (range_with_len 0 (length plan.now.groups))) }
+{
+    let count = plan.groups().len();
+    let mut groups = Vec::with_capacity(alloc, count)?;
+    for group in 0..count {
+        groups.push(GroupPages::new(alloc, plan, group as u16)?)?;
+    }
+    Ok(groups)
+}
+
+/// The same groups.
+fn copy_of_groups(alloc: Global, groups: &[GroupPages]) -> Result<Vec<GroupPages>, AllocError>
+    ensures { IfOk result (λ copy. copy.items ≡ groups.now) }
+{
+    let mut copy = Vec::with_capacity(alloc, groups.len())?;
+    for group in groups {
+        copy.push(group.try_copy(alloc)?)?;
+    }
+    Ok(copy)
 }
 
 impl Book {
@@ -60,8 +84,7 @@ impl Book {
     {
         Ok(Book {
             alloc,
-            pages: first_pages(alloc, plan)?,
-            words: no_words(alloc, plan)?,
+            groups: first_groups(alloc, plan)?,
             presence: presence.try_copy()?,
             journal: Lines::new(alloc),
         })
@@ -98,6 +121,44 @@ impl Book {
         journal
     }
 
+    /// The book taken apart.
+    pub fn into_parts(self) -> Parts
+        ensures presence { result.presence ≡ self.presence }
+        ensures journal { result.journal.items ≡ self.journal }
+        ensures groups { AreReplayed self.presence self.journal result.groups.items }
+    {
+        let Book {
+            alloc: _,
+            presence,
+            groups,
+            journal,
+        } = self;
+        Parts {
+            presence,
+            groups,
+            journal,
+        }
+    }
+
+    /// A book put together again, of groups that are what the journal says of them.
+    pub fn of_parts(alloc: Global, parts: Parts) -> Book
+        requires { AreReplayed parts.presence parts.journal.items parts.groups.items }
+        ensures presence { result.presence ≡ parts.presence }
+        ensures journal { result.journal ≡ parts.journal.items }
+    {
+        let Parts {
+            presence,
+            groups,
+            journal,
+        } = parts;
+        Book {
+            alloc,
+            presence,
+            groups,
+            journal,
+        }
+    }
+
     /// For how many more lines there is room.
     pub fn spare(&self) -> u64
         ensures { result ≡ self.now.spare }
@@ -123,8 +184,7 @@ impl Book {
         Ok(Book {
             alloc: self.alloc,
             presence: self.presence.try_copy()?,
-            pages: copy_of_pages(self.alloc, &self.pages)?,
-            words: self.words.try_copy(self.alloc)?,
+            groups: copy_of_groups(self.alloc, &self.groups)?,
             journal: self.journal.try_copy()?,
         })
     }
@@ -141,7 +201,7 @@ impl Book {
         requires { IsTrue (has_round self.now group round) }
         ensures { IsAnnounced self.now group round result }
     {
-        self.page(group, round).announced()
+        self.group(group).announced(round)
     }
 
     /// The frame that is posted under the tag: that of its first Send with effect.
@@ -151,9 +211,7 @@ impl Book {
         if !self.presence.plan().holds(tag) {
             return None;
         }
-        let word = self.word(tag)?;
-        let missing = set_carried(tag.kind, self.announced(tag.group, tag.round));
-        Some(Frame { tag, missing, word })
+        self.group(tag.group).posted(tag)
     }
 
     /// Sends a frame. It is posted under its tag where the Send has effect; a Send without effect has a line too.
@@ -162,24 +220,11 @@ impl Book {
         requires frame { FitsKind frame.tag.kind frame.missing frame.word }
         ensures { SendEnds self.old frame result self.new }
     {
-        let tag = frame.tag;
-        if !self.plan().holds(tag) {
+        if !self.plan().holds(frame.tag) {
             return SendAnswer::Unknown;
         }
-        if !self.allows(tag) {
-            add_send(&mut self.journal, tag, None);
-            return SendAnswer::NotAllowed;
-        }
-        if let Some(announced) = self.other_set(&frame) {
-            return SendAnswer::WrongSet { announced };
-        }
-        if let Some(posted) = other_frame(&self.posted(tag), &frame) {
-            return SendAnswer::Differs { posted };
-        }
-        let at = word_at(self.plan(), tag);
-        self.words.put(at, frame.word);
-        add_send(&mut self.journal, tag, Some(frame));
-        SendAnswer::Sent
+        let at = frame.tag.group as usize;
+        self.groups[at].send(&self.presence, frame, &mut self.journal)
     }
 
     /// Takes a frame: what came from the link.
@@ -187,25 +232,11 @@ impl Book {
         requires spare { 0 < self.old.spare }
         ensures { TakeEnds self.old frame.now result self.new }
     {
-        let tag = frame.tag;
-        if !self.plan().holds(tag) {
+        if !self.plan().holds(frame.tag) {
             return Err(TakeError::Unknown);
         }
-        let posted = self.posted(tag);
-        if let Some(posted) = other_frame(&posted, frame) {
-            return Err(TakeError::Forged {
-                posted,
-                came: *frame,
-            });
-        }
-        if posted.is_none() {
-            add_take(&mut self.journal, tag, Verdict::Void);
-            return Ok(Verdict::Void);
-        }
-        let at = page_at(self.plan(), tag.group, tag.round);
-        let verdict = self.pages[at].take(tag.kind, tag.meter, frame.word);
-        add_take(&mut self.journal, tag, verdict);
-        Ok(verdict)
+        let at = frame.tag.group as usize;
+        self.groups[at].take(frame, &mut self.journal)
     }
 
     /// Closes a round to readings. The first Close announces the missing set, or finds the round thin.
@@ -214,10 +245,7 @@ impl Book {
         requires known { IsTrue (has_round self.old group round) }
         ensures { CloseEnds self.old group round result self.new }
     {
-        let at = page_at(self.plan(), group, round);
-        let closing = self.pages[at].close();
-        add_close(&mut self.journal, group, round, &closing);
-        closing
+        self.groups[group as usize].close(round, &mut self.journal)
     }
 
     /// Ends a round. The first End after a Close says its total, or why none is published.
@@ -226,10 +254,7 @@ impl Book {
         requires known { IsTrue (has_round self.old group round) }
         ensures { EndEnds self.old group round result self.new }
     {
-        let at = page_at(self.plan(), group, round);
-        let ending = self.pages[at].end();
-        add_end(&mut self.journal, group, round, &ending);
-        ending
+        self.groups[group as usize].end(round, &mut self.journal)
     }
 
     /// What a round comes to: its survivors so far and its total, or why there is none.
@@ -238,91 +263,14 @@ impl Book {
         ensures outcome { result ≡ outcome_of self.now group round }
         ensures tables { IsOutcomeUnder self.now group round result.state }
     {
-        let page = &self.pages[page_at(self.presence.plan(), group, round)];
-        Outcome {
-            survivors: page.survivors(),
-            state: page.state(),
-        }
+        self.group(group).outcome(round)
     }
 
-    // The page of a round.
-    fn page(&self, group: u16, round: u32) -> &Page
-        requires { IsTrue (has_round self.now group round) }
-        ensures page { IsPage (shape_of self.now) group round result.now self.now.journal }
-        ensures taken { (i : ℕ) (k : Kind) → is_member i (taken_in k result.now) ≡ is_taken (shape_of self.now) k group round i (past self.now) }
+    // What is kept of a group of the plan.
+    fn group(&self, group: u16) -> &GroupPages
+        requires { group < length self.now.presence.plan.groups }
+        ensures { IsGroup self.now.presence self.now.journal group result.now }
     {
-        &self.pages[page_at(self.presence.plan(), group, round)]
-    }
-
-    // The word of the frame that is posted under a tag of the plan.
-    fn word(&self, tag: Tag) -> Option<Word>
-        requires { IsTrue (knows self.now tag) }
-        ensures { HasWord self.now tag result }
-    {
-        self.words.get(word_at(self.presence.plan(), tag))
-    }
-
-    // Whether a Send of the tag has effect now.
-    fn allows(&self, tag: Tag) -> bool
-        requires { IsTrue (knows self.now tag) }
-        ensures { result ≡ allows self.now tag }
-    {
-        match tag.kind {
-            Kind::Reading => self.presence.has(tag.group, tag.round, tag.meter),
-            Kind::Announcement => {
-                let page = self.page(tag.group, tag.round);
-                page.announced().is_some() && page.survivors().has(tag.meter)
-            }
-            Kind::Answer => self.page(tag.group, tag.round).is_told(tag.meter),
-        }
-    }
-
-    // The announced set, where the frame has another one.
-    fn other_set(&self, frame: &Frame) -> Option<MeterSet>
-        requires known { IsTrue (knows self.now frame.now.tag) }
-        requires allowed { IsTrue (allows self.now frame.now.tag) }
-        ensures { HasSetOf (missing_of self.now frame.now.tag) frame.now result }
-    {
-        let announced = self.announced(frame.tag.group, frame.tag.round);
-        other_set(announced, frame)
-    }
-}
-
-// The missing set that a frame of this kind carries: the announced one, and none in a reading.
-fn set_carried(kind: Kind, announced: Option<MeterSet>) -> MeterSet
-    ensures { result ≡ set_carried kind announced }
-{
-    match kind {
-        Kind::Reading => MeterSet::empty(),
-        Kind::Announcement | Kind::Answer => announced.unwrap_or(MeterSet::empty()),
-    }
-}
-
-// The posted frame, where another one came.
-fn other_frame(found: &Option<Frame>, came: &Frame) -> Option<Frame>
-    ensures { IsOther found.now came.now result }
-{
-    match *found {
-        None => None,
-        Some(posted) => { if posted == *came { None } else { Some(posted) } }
-    }
-}
-
-// The announced set, where the frame is to carry it and has another one.
-fn other_set(announced: Option<MeterSet>, frame: &Frame) -> Option<MeterSet>
-    ensures { IsOtherSet announced frame.now result }
-{
-    match announced {
-        None => None,
-        Some(set) => match frame.tag.kind {
-            Kind::Reading => None,
-            Kind::Announcement | Kind::Answer => {
-                if set == frame.missing {
-                    None
-                } else {
-                    Some(set)
-                }
-            }
-        },
+        &self.groups[group as usize]
     }
 }

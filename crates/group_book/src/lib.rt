@@ -4,6 +4,8 @@
 mod answers;
 mod book;
 mod copies;
+mod group_pages;
+pub mod laws;
 mod lines;
 mod page;
 mod places;
@@ -11,4 +13,5 @@ mod start;
 mod words;
 
 pub use answers::{Outcome, OutcomeState, SendAnswer, TakeError};
-pub use book::Book;
+pub use book::{Book, Parts};
+pub use group_pages::GroupPages;

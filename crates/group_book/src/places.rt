@@ -1,8 +1,8 @@
-//! Where a book keeps its rounds and the words of its tags.
+//! Where a book keeps the words of a group's tags.
 
-ghost use Rattle.std.specs.Prelude.{◌≡◌, ◌<◌, ◌*◌, IsTrue};
-ghost use Rattle.group_plan.specs.Plans.{is_place};
-ghost use Rattle.group_book.specs.Places.{is_round, all_rounds, page_at, kind_number, all_tags, word_at};
+ghost use Rattle.std.specs.Prelude.{◌≡◌, ◌<◌};
+ghost use Rattle.group_book.specs.Groups.{word_in};
+ghost use Rattle.group_book.specs.Places.{is_round, kind_number};
 
 use group_plan::{Kind, Plan, Tag};
 
@@ -11,15 +11,6 @@ pub(crate) fn is_round(plan: &Plan, group: u16, round: u32) -> bool
     ensures { result ≡ is_round plan.now group round }
 {
     (group as usize) < plan.groups().len() && round < plan.rounds()
-}
-
-/// The place of a round's page, counted from 0: rounds stand one after another by groups.
-pub(crate) fn page_at(plan: &Plan, group: u16, round: u32) -> usize
-    requires { IsTrue (is_round plan.now group round) }
-    ensures at { result ≡ page_at plan.now group round }
-    ensures within { result < all_rounds plan.now }
-{
-    group as usize * plan.rounds() as usize + round as usize
 }
 
 // The order in which words are kept: readings, announcements, answers.
@@ -34,11 +25,11 @@ fn kind_number(kind: Kind) -> usize
     }
 }
 
-/// The place of a tag's word, counted from 0: kinds one after another, and in each by places.
-pub(crate) fn word_at(plan: &Plan, tag: Tag) -> usize
-    requires { IsTrue (is_place plan.now tag.group tag.round tag.meter) }
-    ensures at { result ≡ word_at plan.now tag.group tag.round tag.meter tag.kind }
-    ensures within { result < all_tags plan.now }
+/// The place of a tag's word in its group of so many rounds and meters, counted from 0: kinds one after another, in each the rounds,
+/// and in each of these the meters.
+pub(crate) fn word_in(rounds: u32, meters: u16, tag: Tag) -> usize
+    ensures { result ≡ word_in rounds meters tag.round tag.meter tag.kind }
 {
-    kind_number(tag.kind) * plan.places() + plan.place_at(tag.group, tag.round, tag.meter)
+    (kind_number(tag.kind) * rounds as usize + tag.round as usize) * meters as usize
+        + tag.meter as usize
 }

@@ -1,10 +1,11 @@
-//! What a book begins with: every round with its members, and no word.
+//! What a group begins with: every round with its members, and no word.
 
-ghost use Rattle.std.specs.Prelude.{◌≡◌, ◌<◌, IsTrue, IfOk, OnOk, None, map, replicate};
+ghost use Rattle.std.specs.Prelude.{◌≡◌, ◌<◌, IsTrue, IfOk, OnOk, None, length, map, replicate};
 ghost use Rattle.std.specs.List.{range_with_len};
 ghost use Rattle.group_plan.specs.Plans.{IsWithinLimits};
-ghost use Rattle.group_book.specs.Places.{is_round, all_rounds, all_tags};
-ghost use Rattle.group_book.specs.Start.{first_page, first_page_at};
+ghost use Rattle.group_book.specs.Places.{is_round};
+ghost use Rattle.group_book.specs.Groups.{group_tags};
+ghost use Rattle.group_book.specs.Start.{first_page};
 
 use crate::page::Page;
 use crate::words::Words;
@@ -20,31 +21,22 @@ fn first_page(plan: &Plan, group: u16, round: u32) -> Page
     Page::new(members(plan, group, round), floor_of(plan, group))
 }
 
-// The page of a round by its number.
-fn first_page_at(plan: &Plan, at: usize) -> Page
-    requires { at < all_rounds plan.now }
-    ensures { result ≡ first_page_at plan.now at }
+/// The pages with which the rounds of a group begin.
+pub(crate) fn first_pages(alloc: Global, plan: &Plan, group: u16) -> Result<Vec<Page>, AllocError>
+    requires { group < length plan.now.groups }
+    ensures { IfOk result (λ pages. pages.items ≡ map (first_page plan.now group) (range_with_len 0 plan.now.rounds)) }
 {
-    let rounds = plan.rounds() as usize;
-    first_page(plan, (at / rounds) as u16, (at % rounds) as u32)
-}
-
-/// The pages with which a book begins, one after another by groups.
-pub(crate) fn first_pages(alloc: Global, plan: &Plan) -> Result<Vec<Page>, AllocError>
-    ensures limits { OnOk result (IsWithinLimits plan.now) }
-    ensures pages { IfOk result (λ pages. pages.items ≡ map (first_page_at plan.now) (range_with_len 0 (all_rounds plan.now))) }
-{
-    let all = plan.rounds() as usize * plan.groups().len();
-    let mut pages = Vec::with_capacity(alloc, all)?;
-    for at in 0..all {
-        pages.push(first_page_at(plan, at))?;
+    let rounds = plan.rounds();
+    let mut pages = Vec::with_capacity(alloc, rounds as usize)?;
+    for round in 0..rounds {
+        pages.push(first_page(plan, group, round))?;
     }
     Ok(pages)
 }
 
-/// No word under any tag of the plan.
-pub(crate) fn no_words(alloc: Global, plan: &Plan) -> Result<Words, AllocError>
-    ensures { IfOk result (λ words. words ≡ replicate (all_tags plan.now) None) }
+/// No word under any tag of a group of so many rounds and meters.
+pub(crate) fn no_words(alloc: Global, rounds: u32, meters: u16) -> Result<Words, AllocError>
+    ensures { IfOk result (λ words. words ≡ replicate (group_tags rounds meters) None) }
 {
-    Words::none(alloc, plan.places() * 3)
+    Words::none(alloc, meters as usize * (rounds as usize * 3))
 }

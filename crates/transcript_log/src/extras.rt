@@ -162,6 +162,14 @@ impl Extras {
         self.extras.push_reserved(small_extra(set, extra.word));
     }
 
+    /// Forgets all extras, and keeps their memory for others.
+    pub(crate) fn clear(&mut self)
+        ensures { self.new.items ≡ [] }
+    {
+        self.extras.clear();
+        self.sets.clear();
+    }
+
     /// The same extras. For how many more there is room is not said.
     pub(crate) fn try_copy(&self) -> Result<Extras, AllocError>
         ensures { IfOk result (λ copy. copy.items ≡ self.now.items) }

@@ -164,6 +164,27 @@ impl Lines {
         self.lines.push_reserved(moved(line, place));
     }
 
+    /// Adds the lines of another list, in their order.
+    pub fn append(&mut self, others: &Lines) -> Result<(), AllocError>
+        ensures ok { OnOk result (self.new.items ≡ self.old.items ++ others.now.items) }
+        ensures err { OnErr result (self.new.items ≡ self.old.items) }
+    {
+        let len = others.len();
+        self.reserve(len as u64)?;
+        for at in 0..len {
+            self.push_from(others, at);
+        }
+        Ok(())
+    }
+
+    /// Forgets all lines, and keeps their memory for others.
+    pub fn clear(&mut self)
+        ensures { self.new.items ≡ [] }
+    {
+        self.lines.clear();
+        self.extras.clear();
+    }
+
     /// The lines from a place on, in a list of their own.
     pub fn tail(&self, from: usize) -> Result<Lines, AllocError>
         requires { from ≤ length self.now.items }

@@ -1,5 +1,6 @@
-use Rattle.group_book.proofs.CallLemmas.{announced_now}
+use Rattle.std.proofs.Common.{ℕ, subst}
+use Rattle.group_book.specs.Books.{IsAnnounced}
 use Rattle.group_book.proofs.book.Book.announced.Goals as goal
 
 pub returns : goal.returns
-returns c = announced_now c.args.self.now _ _ c.page.result.now _ c.page.ensures.page c.announced.ensures
+returns c = subst (λ (g : ℕ). IsAnnounced c.args.self.now g c.args.round c.announced.result) c.group.ensures.group (c.announced.ensures _ _ c.group.ensures.replays)

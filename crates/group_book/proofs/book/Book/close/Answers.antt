@@ -1,32 +1,30 @@
-use Rattle.std.proofs.Common.{◌≡◌, true, ap, sym, refl, ◌∙◌}
-use Rattle.std.specs.Prelude.{None}
-use Rattle.transcript_log.specs.declared.Event.TheVariants.{Close}
-use Rattle.transcript_log.specs.declared.Line.TheVariants.{Close as CloseLine}
-use Rattle.transcript_log.specs.Schedule.{shape_of_presence}
-use Rattle.group_book.specs.Places.{is_round, page_at}
-use Rattle.group_book.specs.Books.{has_round, closing_of}
-use Rattle.group_book.specs.Replay.{IsPage}
-use Rattle.group_book.proofs.PageLemmas.{closing-is}
-use Rattle.group_book.proofs.BookLemmas.{page_of, closed_now}
-use Rattle.group_book.proofs.CallLemmas.{adds_line}
+use Rattle.std.specs.List.{All}
+use Rattle.transcript_log.specs.Events.{event_of}
+use Rattle.group_book.specs.ByGroup.{group_of}
+use Rattle.std.proofs.Common.{◌≡◌, ◌<◌, ℕ, refl, length, ap, ◌∙◌, subst}
+use Rattle.group_book.specs.Books.{has_round, CloseEnds}
+use Rattle.group_book.specs.Replay.{IsGroup, PagesEnd, book_at}
+use Rattle.group_book.proofs.PlaceLemmas.{in_round}
+use Rattle.group_book.proofs.BookLemmas.{group_at, groups_after, came_to}
 use Rattle.group_book.proofs.book.Book.close.Goals as goal
 
-known : (c : goal.After-add_close) → is_round c.self.inside.presence.plan c.args.group c.args.round ≡ true
-known c = ap (λ b. has_round b c.args.group c.args.round) c.self.view_is ∙ c.requires.known
+inside : (c : goal.After-self-1) → c.args.group < length c.self.inside.presence.plan.groups
+inside c = (in_round c.self.inside.presence.plan c.args.group c.args.round (ap (λ b. has_round b c.args.group c.args.round) c.self.view_is ∙ c.requires.known)).0
 
-at_is : (c : goal.After-add_close) → c.page_at-at.result ≡ page_at c.self.inside.presence.plan c.args.group c.args.round
-at_is c = c.page_at-at.ensures.at ∙ ap (λ q. page_at q c.args.group c.args.round) c.plan.ensures ∙ ap (λ b. page_at b.presence.plan c.args.group c.args.round) (sym c.self.view_is)
+found : (c : goal.After-self-1) → IsGroup c.self.inside.presence c.self.inside.journal.items c.args.group c.index_mut.result.now
+found c = group_at _ _ _ _ _ c.self.invariant (inside c) c.index_mut.ensures.value
 
-page_is : (c : goal.After-add_close) → IsPage (shape_of_presence c.self.inside.presence) c.args.group c.args.round c.index_mut.result.now c.self.inside.journal.items
-page_is c = page_of _ _ _ _ _ _ _ _ c.self.invariant (known c) (at_is c) c.index_mut.ensures.value
+ended : (c : goal.After-self-1)
+    → PagesEnd c.self.inside.presence c.self.inside.journal.items (λ b d. CloseEnds b c.index_mut.result.now.group c.args.round c.close.result d) c.self.inside.journal c.index_mut.result.now.group c.close.new.self c.close.new.lines
+ended c = c.close.ensures _ _ (found c).replays
 
 pub invariant_of-self : goal.invariant_of-self
-invariant_of-self c = closed_now _ _ _ _ _ _ _ _ _ _ _ c.self.invariant (known c) (at_is c) (page_is c) c.close-closing.ensures.round c.close-closing.ensures.told c.add_close.ensures.lines
+invariant_of-self c =
+    groups_after _ _ _ (ended c).added _ _ _ c.self.invariant (inside c) ((ended c).group ∙ (found c).group) (ended c).pages
+    (subst (λ n. All (λ l. group_of (event_of l) ≡ n) (ended c).added) (found c).group (ended c).own) (ended c).lines
 
 pub returns : goal.returns
 returns c =
-    let is = closing-is _ _ _ _ c.index_mut.result.now c.close-closing.new.self _ (page_is c) c.close-closing.ensures.round in
-    record {
-      is = is ∙ ap (λ b. closing_of b c.args.group c.args.round) c.self.view_is;
-      adds = adds_line _ c.args.self.now _ (Close c.args.group c.args.round) None _ c.self.view_is refl c.add_close.ensures.lines c.add_close.ensures.spare (ap (CloseLine c.args.group c.args.round) is);
-    }
+    subst (λ b. CloseEnds b c.args.group c.args.round c.close.result (book_at c.self.inside.presence c.close.new.lines.items c.close.new.lines.spare)) c.self.view_is
+    (subst (λ (n : ℕ). CloseEnds (book_at c.self.inside.presence c.self.inside.journal.items c.self.inside.journal.spare) n c.args.round c.close.result (book_at c.self.inside.presence c.close.new.lines.items c.close.new.lines.spare)) (found c).group
+    (came_to _ _ _ _ _ _ _ (ended c) refl))

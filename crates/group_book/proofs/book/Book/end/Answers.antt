@@ -1,32 +1,30 @@
-use Rattle.std.proofs.Common.{◌≡◌, true, ap, sym, refl, ◌∙◌}
-use Rattle.std.specs.Prelude.{None}
-use Rattle.transcript_log.specs.declared.Event.TheVariants.{End}
-use Rattle.transcript_log.specs.declared.Line.TheVariants.{End as EndLine}
-use Rattle.transcript_log.specs.Schedule.{shape_of_presence}
-use Rattle.group_book.specs.Places.{is_round, page_at}
-use Rattle.group_book.specs.Books.{has_round, ending_of}
-use Rattle.group_book.specs.Replay.{IsPage}
-use Rattle.group_book.proofs.PageLemmas.{ending-is}
-use Rattle.group_book.proofs.BookLemmas.{page_of, ended_now}
-use Rattle.group_book.proofs.CallLemmas.{adds_line}
+use Rattle.std.specs.List.{All}
+use Rattle.transcript_log.specs.Events.{event_of}
+use Rattle.group_book.specs.ByGroup.{group_of}
+use Rattle.std.proofs.Common.{◌≡◌, ◌<◌, ℕ, refl, length, ap, ◌∙◌, subst}
+use Rattle.group_book.specs.Books.{has_round, EndEnds}
+use Rattle.group_book.specs.Replay.{IsGroup, PagesEnd, book_at}
+use Rattle.group_book.proofs.PlaceLemmas.{in_round}
+use Rattle.group_book.proofs.BookLemmas.{group_at, groups_after, came_to}
 use Rattle.group_book.proofs.book.Book.end.Goals as goal
 
-known : (c : goal.After-add_end) → is_round c.self.inside.presence.plan c.args.group c.args.round ≡ true
-known c = ap (λ b. has_round b c.args.group c.args.round) c.self.view_is ∙ c.requires.known
+inside : (c : goal.After-self-1) → c.args.group < length c.self.inside.presence.plan.groups
+inside c = (in_round c.self.inside.presence.plan c.args.group c.args.round (ap (λ b. has_round b c.args.group c.args.round) c.self.view_is ∙ c.requires.known)).0
 
-at_is : (c : goal.After-add_end) → c.page_at-at.result ≡ page_at c.self.inside.presence.plan c.args.group c.args.round
-at_is c = c.page_at-at.ensures.at ∙ ap (λ q. page_at q c.args.group c.args.round) c.plan.ensures ∙ ap (λ b. page_at b.presence.plan c.args.group c.args.round) (sym c.self.view_is)
+found : (c : goal.After-self-1) → IsGroup c.self.inside.presence c.self.inside.journal.items c.args.group c.index_mut.result.now
+found c = group_at _ _ _ _ _ c.self.invariant (inside c) c.index_mut.ensures.value
 
-page_is : (c : goal.After-add_end) → IsPage (shape_of_presence c.self.inside.presence) c.args.group c.args.round c.index_mut.result.now c.self.inside.journal.items
-page_is c = page_of _ _ _ _ _ _ _ _ c.self.invariant (known c) (at_is c) c.index_mut.ensures.value
+ended : (c : goal.After-self-1)
+    → PagesEnd c.self.inside.presence c.self.inside.journal.items (λ b d. EndEnds b c.index_mut.result.now.group c.args.round c.end.result d) c.self.inside.journal c.index_mut.result.now.group c.end.new.self c.end.new.lines
+ended c = c.end.ensures _ _ (found c).replays
 
 pub invariant_of-self : goal.invariant_of-self
-invariant_of-self c = ended_now _ _ _ _ _ _ _ _ _ _ _ c.self.invariant (known c) (at_is c) (page_is c) c.end-ending.ensures.round c.end-ending.ensures.told c.add_end.ensures.lines
+invariant_of-self c =
+    groups_after _ _ _ (ended c).added _ _ _ c.self.invariant (inside c) ((ended c).group ∙ (found c).group) (ended c).pages
+    (subst (λ n. All (λ l. group_of (event_of l) ≡ n) (ended c).added) (found c).group (ended c).own) (ended c).lines
 
 pub returns : goal.returns
 returns c =
-    let is = ending-is _ _ _ _ c.index_mut.result.now c.end-ending.new.self _ (page_is c) c.end-ending.ensures.round in
-    record {
-      is = is ∙ ap (λ b. ending_of b c.args.group c.args.round) c.self.view_is;
-      adds = adds_line _ c.args.self.now _ (End c.args.group c.args.round) None _ c.self.view_is refl c.add_end.ensures.lines c.add_end.ensures.spare (ap (EndLine c.args.group c.args.round) is);
-    }
+    subst (λ b. EndEnds b c.args.group c.args.round c.end.result (book_at c.self.inside.presence c.end.new.lines.items c.end.new.lines.spare)) c.self.view_is
+    (subst (λ (n : ℕ). EndEnds (book_at c.self.inside.presence c.self.inside.journal.items c.self.inside.journal.spare) n c.args.round c.end.result (book_at c.self.inside.presence c.end.new.lines.items c.end.new.lines.spare)) (found c).group
+    (came_to _ _ _ _ _ _ _ (ended c) refl))

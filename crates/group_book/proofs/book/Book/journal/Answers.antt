@@ -7,4 +7,4 @@ pub returns-clause-tables : goal.returns-clause-tables
 returns-clause-tables c =
     subst (IsTranscriptUnder c.args.self.now.presence) (sym (ap (λ b. b.journal) c.self.view_is))
     (subst (λ b. IsTranscriptUnder b.presence b.journal) c.self.view_is
-    (transcript_under c.self.inside.presence c.self.inside.journal.items c.self.invariant.limits c.self.invariant.table c.self.invariant.journal))
+    (transcript_under c.self.inside.presence c.self.inside.journal.items c.self.invariant.ledger.limits c.self.invariant.ledger.table c.self.invariant.ledger.journal))

@@ -1,8 +1,7 @@
 use Rattle.std.proofs.Common.{◌≡◌, false, ap, sym, ◌∙◌}
 use Rattle.group_plan.specs.Plans.{is_place}
 use Rattle.group_book.specs.Books.{posted_of, was_sent}
-use Rattle.group_book.proofs.BookLemmas.{none_outside, unsent_outside}
-use Rattle.group_book.proofs.CallLemmas.{posted_now}
+use Rattle.group_book.proofs.GroupLemmas.{none_outside, unsent_outside}
 use Rattle.group_book.proofs.book.Book.posted.Goals as goal
 
 pub returns-then-not-holds : goal.returns-then-not-holds
@@ -10,9 +9,9 @@ returns-then-not-holds c =
     let tag = c.args.tag in
     let outside : is_place c.self.inside.presence.plan tag.group tag.round tag.meter ≡ false
     = ap (λ q. is_place q tag.group tag.round tag.meter) (sym c.plan.ensures.plan) ∙ sym c.holds.ensures ∙ c.if-not-holds.true in (
-      sym (ap (λ b. posted_of b tag) c.self.view_is) ∙ none_outside _ _ _ _ tag.group tag.round tag.meter tag.kind c.self.invariant outside,
-      sym (ap (λ b. was_sent b tag) c.self.view_is) ∙ unsent_outside _ _ _ _ tag.group tag.round tag.meter tag.kind c.self.invariant outside,
+      sym (ap (λ b. posted_of b tag) c.self.view_is) ∙ none_outside _ _ tag.group tag.round tag.meter tag.kind c.self.invariant.ledger outside,
+      sym (ap (λ b. was_sent b tag) c.self.view_is) ∙ unsent_outside _ _ tag.group tag.round tag.meter tag.kind c.self.invariant.ledger outside,
     )
 
 pub returns : goal.returns
-returns c = posted_now c.args.self.now c.args.tag _ _ c.announced.result c.in_ok-word.ensures c.announced.ensures c.set_carried-missing.ensures
+returns c = c.posted.ensures _ _ c.group.ensures.replays
