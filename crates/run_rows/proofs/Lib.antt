@@ -9,3 +9,4 @@ pub mod SummaryLemmas
 pub mod PostLemmas
 pub mod RunLemmas
 pub mod PlanLemmas
+pub mod GroupRuns

@@ -1,4 +1,5 @@
 pub mod Ticks
+pub mod ByGroup
 pub mod Report
 pub mod Summary
 pub mod Posts

@@ -6,6 +6,7 @@ ghost use Rattle.link_lanes.specs.Lanes.{fates_after};
 ghost use Rattle.transcript_log.specs.Events.{events_of, lines_of};
 ghost use Rattle.transcript_log.specs.Rows.{three, joining, readings, joining_readings, all, first_two};
 ghost use Rattle.transcript_log.specs.Tables.{plain_sum};
+ghost use Rattle.run_rows.specs.ByGroup.{GroupRunsAreTickRuns};
 ghost use Rattle.run_rows.specs.Posts.{posts_by_lanes};
 ghost use Rattle.run_rows.specs.Report.{ThinRow, TotalRow, NoneRow, outcome_row};
 ghost use Rattle.run_rows.specs.Rows.{clock, hung, only, burst, first_two_read, one_read, three_rounds_read, three_long, one_then_three, one_then_three_read, reported, counts, heard_twice, north, late_run};
@@ -16,6 +17,11 @@ ghost use Rattle.run_rows.specs.Ticks.{IsOrdered, sent_at, due_of, posts_of};
 /// A plan and a presence of it can run.
 pub fn plans()
     ensures { PlansCanRun }
+{}
+
+/// Runs of all groups are one tick run, where they are in order and have the fates of the lanes.
+pub fn groups()
+    ensures { GroupRunsAreTickRuns }
 {}
 
 /// The posts of a run depend on its plan, presence and lanes alone.
