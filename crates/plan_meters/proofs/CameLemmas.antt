@@ -1,9 +1,8 @@
 -- The frames that came to the meters, and their answers.
 use Rattle.std.proofs.Common.{◌≡◌, ℕ, ◌+◌, ◌-◌, ◌<◌, ◌≤◌, Bool, true, false, cond, ◌||◌, List, [], ◌∷◌, map, refl, sym, ap, ◌∙◌, subst, arith, min, ⊎_elim}
-use Rattle.std.specs.Prelude.{◌==◌}
 use mathlib.Core.Path.{fun_ext}
 use Rattle.std.specs.List.{filter, flat_map, range_with_len, All}
-use Rattle.std.proofs.lemmas.Bool.{false≢true, and_from, eq-eqb, false_from_ne_true}
+use Rattle.std.proofs.lemmas.Bool.{false≢true, false_from_ne_true}
 use Rattle.std.proofs.lemmas.List.Elements.{All-head, All-tail, All-nil, All-cons}
 use Rattle.missing_round.specs.Masks.{Masks}
 use Rattle.missing_round.specs.Sets.{is_member as is_in}
@@ -19,7 +18,7 @@ use Rattle.transcript_log.proofs.EventLemmas.{is_send-true}
 use Rattle.run_rows.specs.Ticks.{Clock, clock_of, tag_of}
 use Rattle.plan_meters.specs.Came.{same_tag, tags_of}
 use Rattle.group_book.specs.Books.{past}
-use Rattle.plan_meters.specs.TickFrames.{was_taken, answer_frame, announced_set, answer_to, answers_to, CanAnswer, AreAnswerable, AreHeard, IsHeardIn, is_announcement_to}
+use Rattle.plan_meters.specs.TickFrames.{was_taken, announced_set, answer_to, answers_to, CanAnswer, AreAnswerable, AreHeard, IsHeardIn}
 use Rattle.plan_meters.specs.Meters.{is_announcement, HasSet}
 use Rattle.plan_meters.proofs.GroupLemmas.{told-place, told-not_missing, missing-places, flat_window}
 
@@ -114,17 +113,6 @@ pub answers-heard : (groups : List Group) (m : Masks) (came : List Frame) (g r :
 answers-heard groups m came g r heard ms is are =
     ap (λ l. map (answer_to m came g r) (filter (λ i. is_in i heard) l)) are
     ∙ ap (λ f. map (answer_to m came g r) (filter f (members groups g r))) (fun_ext is)
-
-pub to_own : (g r i : ℕ) → is_announcement_to g (tag_of Announcement g r i) ≡ true
-to_own g r i = and_from (g == g) true (eq-eqb g g refl) refl
-
--- those to the announcements to this group
-pub answers-own : (groups : List Group) (m : Masks) (came : List Frame) (g r : ℕ) → answers_to groups m (filter (λ f. is_announcement_to g f.tag) came) g r ≡ answers_to groups m came g r
-answers-own groups m came g r =
-    let own : List Frame = filter (λ f. is_announcement_to g f.tag) came in
-    ap (λ F. map F (filter (λ i. was_taken (tags_of own) (tag_of Announcement g r i)) (members groups g r)))
-    (fun_ext (λ i. ap (λ set. answer_frame m g r set i) (set-filter (is_announcement_to g) (tag_of Announcement g r i) (to_own g r i) came)))
-    ∙ ap (λ f. map (answer_to m came g r) (filter f (members groups g r))) (fun_ext (λ i. taken-filter (is_announcement_to g) (tag_of Announcement g r i) (to_own g r i) came))
 
 -- no one heard in these rounds
 pub answers-silent : (groups : List Group) (m : Masks) (came : List Frame) (g r : ℕ) → ((i : ℕ) → was_taken (tags_of came) (tag_of Announcement g r i) ≡ true → ⊥) → answers_to groups m came g r ≡ []

@@ -4,7 +4,6 @@ use Rattle.std.specs.Prelude.{◌==◌, nat_lt, if◌then◌else◌, is_some}
 use mathlib.Core.Path.{fun_ext}
 use Rattle.std.specs.List.{filter, flat_map, range_with_len, list_any, list_all}
 use Rattle.std.proofs.lemmas.Bool.{lt-ltb, and_parts, and_from}
-use Rattle.std.proofs.lemmas.Bool.Decides.{nat_tests}
 use Rattle.missing_round.specs.Masks.{Masks}
 use Rattle.missing_round.specs.Sets.{is_member as is_in, joined}
 use Rattle.missing_round.proofs.SetLemmas.{is_member-joined, is_member-filter}
@@ -39,15 +38,6 @@ pub readings-now : (readings : ReadingsView) (m : Masks) (g t : ℕ) → t < rea
 readings-now readings m g t below =
     ap (λ f. map (reading_frame readings.plan.groups (reading readings.table) m g t) (filter f (members_of (run_shape readings) g t))) (fun_ext (λ i. sym (present_is readings g t i)))
     ∙ ap (λ b. map (reading_frame readings.plan.groups (reading readings.table) m g t) (cond b (filter (λ i. (run_shape readings).present g t i) (members_of (run_shape readings) g t)) [])) (sym (lt-ltb t readings.plan.rounds below))
-
-pub readings-past : (readings : ReadingsView) (m : Masks) (g t : ℕ) → readings.plan.rounds ≤ t
-    → map (reading_frame readings.plan.groups (reading readings.table) m g t)
-    (if nat_lt t readings.plan.rounds then filter (λ i. (run_shape readings).present g t i) (members_of (run_shape readings) g t) else []) ≡ []
-readings-past readings m g t past =
-    ap (λ b. map (reading_frame readings.plan.groups (reading readings.table) m g t) (cond b (filter (λ i. (run_shape readings).present g t i) (members_of (run_shape readings) g t)) [])) (not_below t readings.plan.rounds past)
-  where
-    not_below : (a b : ℕ) → b ≤ a → nat_lt a b ≡ false
-    not_below a b h = grind (arith, nat_tests)
 
 -- ---- who heard
 

@@ -6,7 +6,6 @@ pub mod HearerLemmas
 pub mod CameLemmas
 pub mod SpellingLemmas
 pub mod CopyLemmas
-pub mod ByGroupLemmas
 pub mod HiddenLemmas
 pub mod MeterLemmas
 pub mod MetersLemmas

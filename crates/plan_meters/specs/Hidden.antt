@@ -7,7 +7,6 @@ use Rattle.group_plan.specs.Plans.{PlanView, members}
 use Rattle.group_plan.specs.Tables.{ReadingsView}
 use Rattle.blind_core.specs.Blind.{AreGroupWords}
 use Rattle.blind_core.specs.Columns.{column}
-use Rattle.mask_stream.specs.ChaMaskTables.{plan_of, words_of}
 use Rattle.plan_meters.specs.TickFrames.{IsRow}
 use Rattle.plan_meters.specs.declared.hidden.HiddenReadings.{HiddenReadings}
 use Rattle.plan_meters.specs.declared.known.Known.{Known}
@@ -73,10 +72,10 @@ abbrev pub AreRest : ReadingsView → Masks → HiddenReadings → List (Vec (Ve
 AreRest readings m h blocks = AreBlocks readings m (blocks_in h.rounds * length readings.plan.groups) (blocks_in readings.plan.rounds * length readings.plan.groups) blocks
 
 -- what the meters have is of one plan: the masks, and the readings hidden under them
-pub record IsOfOnePlan (known : Known) : Type 0 where
+pub record IsOfOnePlan {M : Type 0} (plan_of : M → PlanView) (words_of : M → Masks) (known : Known M) : Type 0 where
   pub masks : plan_of known.masks.now ≡ known.readings.now.plan
   pub hidden : AreHidden known.readings.now (words_of known.masks.now) known.hidden.now
 
 -- where the tick is one of the plan's rounds, that round has words
-abbrev pub HasWordsAt : Known → ℕ → Type 0
+abbrev pub HasWordsAt : {M : Type 0} → Known M → ℕ → Type 0
 HasWordsAt known tick = tick < known.readings.now.plan.rounds → tick < known.hidden.now.rounds

@@ -1,10 +1,9 @@
--- The meters of a plan: what each has read, and what it answers.
+-- A meter of a run: what it has read, and what it answers.
 use Rattle.meter_frames.specs.declared.Frame.{Frame}
-use Rattle.std.specs.Prelude.{◌≡◌, ℕ, ◌<◌, nat_lt, ◌&&◌, Bool, true, false, List, length, All, filter, Option, Some, None, is_some, slice_index_or, Vec}
-use Rattle.std.specs.declared.alloc.Global.{Global}
+use Rattle.std.specs.Prelude.{◌≡◌, ℕ, ◌<◌, nat_lt, ◌&&◌, Bool, true, false, List, length, All, filter, Option, Some, None, is_some}
 use Rattle.std.specs.List.{AllZip, range_with_len}
 use Rattle.group_plan.specs.Plans.{size}
-use Rattle.group_plan.specs.Tables.{ReadingsView, IsPresenceTable, presence_of}
+use Rattle.group_plan.specs.Tables.{ReadingsView, presence_of}
 use Rattle.group_plan.specs.declared.Kind.TheVariants.{Announcement}
 use Rattle.group_plan.specs.declared.Tag.{Tag}
 use Rattle.meter_core.specs.Meters.{MeterView, note_at, kept_set}
@@ -14,10 +13,6 @@ use Rattle.transcript_log.specs.declared.Event.{Event}
 use Rattle.transcript_log.specs.Events.{same_kind}
 use Rattle.transcript_log.specs.Schedule.{Shape, members_of, floor_of, missing, is_announcement_taken}
 use Rattle.group_book.specs.Books.{BookView, shape_of, past}
-use Rattle.run_rows.specs.Ticks.{clock_of}
-use Rattle.plan_meters.specs.Came.{tags_of}
-use Rattle.plan_meters.specs.TickFrames.{run_shape, AreHeard}
-use Rattle.plan_meters.specs.declared.meters.Meters.{Meters}
 
 -- a meter that is marked read is so over the members of the round
 abbrev pub AreMembers : List ℕ → Option (List ℕ) → Type 0
@@ -46,24 +41,11 @@ IsMeterOf b t g i m = IsMeter (shape_of b) b.presence.plan.rounds t (past b) g i
 abbrev pub AreOfGroup : BookView → ℕ → ℕ → List MeterView → Type 0
 AreOfGroup b t g meters = AllZip (IsMeterOf b t g) (range_with_len 0 (size b.presence.plan.groups g)) meters
 
-abbrev pub IsGroup : BookView → ℕ → ℕ → Vec MeterView Global → Type 0
-IsGroup b t g meters = AreOfGroup b t g meters.items
-
--- the meters of all groups; only members are present
-pub record AreMeters (b : BookView) (t : ℕ) (m : Meters) : Type 0 where
-  pub table : IsPresenceTable b.presence.plan b.presence.table
-  pub groups : AllZip (IsGroup b t) (range_with_len 0 (length b.presence.plan.groups)) m.groups.items
-
 -- a book, as one of these readings
 abbrev pub book_of : ReadingsView → BookView → BookView
 book_of readings b = record b { presence = presence_of readings }
 
--- by some book of these readings the meters have read the rounds below t
-pub record CanRead (readings : ReadingsView) (t : ℕ) (m : Meters) : Type 0 where
-  pub book : BookView
-  pub meters : AreMeters (book_of readings book) t m
-
--- so have those of group g
+-- by some book of these readings the meters of group g have read the rounds below t
 pub record CanReadGroup (readings : ReadingsView) (t g : ℕ) (meters : List MeterView) : Type 0 where
   pub book : BookView
   pub are : AreOfGroup (book_of readings book) t g meters
@@ -97,33 +79,3 @@ pub record IsTold (b : BookView) (t : ℕ) (f : Frame) : Type 0 where
 -- so is each announcement among these frames
 abbrev pub AreTold : BookView → ℕ → List Frame → Type 0
 AreTold b t came = All (λ f. is_announcement f.tag ≡ true → IsTold b t f) came
-
--- by some book the meters have read the rounds below some t, and the announcement is of one of them
-pub record CanHear (m : Meters) (f : Frame) : Type 0 where
-  pub book : BookView
-  pub until : ℕ
-  pub meters : AreMeters book until m
-  pub told : is_announcement f.tag ≡ true → IsTold book until f
-
--- the same of each of these frames
-pub record CanHearAll (m : Meters) (came : List Frame) : Type 0 where
-  pub book : BookView
-  pub until : ℕ
-  pub meters : AreMeters book until m
-  pub told : AreTold book until came
-
--- by some book of these readings the meters have read the rounds below t, and each announcement that came is heard with the missing set
-pub record CanHearNow (readings : ReadingsView) (t : ℕ) (m : Meters) (came : List Frame) : Type 0 where
-  pub book : BookView
-  pub meters : AreMeters (book_of readings book) t m
-  pub heard : AreHeard (run_shape readings) (clock_of readings.plan) (past book) t (tags_of came)
-  pub sets : All (HasSet (run_shape readings) (past book)) came
-
--- the meter to which the announcement came keeps its set
-abbrev pub HasKept : Meters → Frame → Type 0
-HasKept m f = (group : Vec MeterView Global) (meter : MeterView)
-    → kept_set (slice_index_or (slice_index_or m.groups.items f.tag.group group).items f.tag.meter meter) f.tag.round ≡ Some f.missing
-
--- so do the meters of the announcements among these frames
-abbrev pub HaveHeard : Meters → List Frame → Type 0
-HaveHeard m came = All (λ f. is_announcement f.tag ≡ true → HasKept m f) came

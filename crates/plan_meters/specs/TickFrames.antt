@@ -76,10 +76,6 @@ pub record AreAnswerable (plan : PlanView) (t : ℕ) (came : List Frame) : Type 
 abbrev pub is_announcement_in : ℕ → ℕ → Tag → Bool
 is_announcement_in g r tag = (tag.group == g) && (tag.round == r) && same_kind tag.kind Announcement
 
--- an announcement to a meter of this group
-abbrev pub is_announcement_to : ℕ → Tag → Bool
-is_announcement_to g tag = (tag.group == g) && same_kind tag.kind Announcement
-
 -- the set has the meters of a round whose announcement was taken
 abbrev pub IsHeardIn : List Tag → ℕ → ℕ → List ℕ → Type 0
 IsHeardIn taken g r heard = (i : ℕ) → is_in i heard ≡ was_taken taken (tag_of Announcement g r i)

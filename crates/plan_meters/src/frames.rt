@@ -11,7 +11,6 @@ ghost use Rattle.group_plan.specs.declared.Kind.TheVariants.{Announcement, Answe
 ghost use Rattle.run_rows.specs.Ticks.{tag_of};
 ghost use Rattle.plan_meters.specs.Came.{same_tag};
 ghost use Rattle.blind_core.specs.Blind.{are_places};
-ghost use Rattle.mask_stream.specs.ChaMaskTables.{plan_of, words_of};
 ghost use Rattle.plan_meters.specs.TickFrames.{reading_frame, answer_to, announced_set, CanAnswer, word_frame};
 ghost use Rattle.plan_meters.specs.Hidden.{IsOfOnePlan, HasWordsAt};
 
@@ -19,7 +18,7 @@ use crate::group::Hearers;
 use crate::known::Known;
 use blind_core::{answer, answers};
 use group_plan::{Kind, Readings, Tag};
-use mask_stream::ChaMasks;
+use mask_stream::Masks;
 use meter_frames::Frame;
 use missing_round::MeterSet;
 use mod_word::Word;
@@ -48,9 +47,9 @@ fn announced_to(came: &[Frame], group: u16, round: u32, meter: u8) -> MeterSet
 }
 
 /// The values of the words that the meters answer which heard of the same set, each at its meter's place.
-fn alike_words(masks: &ChaMasks, group: u16, round: u32, hearers: &Hearers) -> [u64; 256]
-    requires can { (i : ℕ) → is_member i hearers.now.alike ≡ true → CanAnswer (plan_of masks.now) group round i hearers.now.missing }
-    ensures { (i : ℕ) → is_member i hearers.now.alike ≡ true → slice_index result i ≡ answer_word ((words_of masks.now).own group round) ((words_of masks.now).pair group round) i hearers.now.missing }
+fn alike_words<M: Masks>(masks: &M, group: u16, round: u32, hearers: &Hearers) -> [u64; 256]
+    requires can { (i : ℕ) → is_member i hearers.now.alike ≡ true → CanAnswer (M.plan masks.now) group round i hearers.now.missing }
+    ensures { (i : ℕ) → is_member i hearers.now.alike ≡ true → slice_index result i ≡ answer_word ((M.table masks.now).own group round) ((M.table masks.now).pair group round) i hearers.now.missing }
 {
     if hearers.alike.len() == 0 {
         return [0; 256];
@@ -59,18 +58,18 @@ fn alike_words(masks: &ChaMasks, group: u16, round: u32, hearers: &Hearers) -> [
 }
 
 /// The answer under a tag, to the announcement that came to its meter.
-fn answer_of(
-    masks: &ChaMasks,
+fn answer_of<M: Masks>(
+    masks: &M,
     tag: Tag,
     hearers: &Hearers,
     words: &[u64; 256],
     came: &[Frame],
 ) -> Frame
     requires kind { tag.kind ≡ Answer }
-    requires can { CanAnswer (plan_of masks.now) tag.group tag.round tag.meter (announced_set came.now (tag_of Announcement tag.group tag.round tag.meter)) }
+    requires can { CanAnswer (M.plan masks.now) tag.group tag.round tag.meter (announced_set came.now (tag_of Announcement tag.group tag.round tag.meter)) }
     requires alike { is_member tag.meter hearers.now.alike ≡ true → announced_set came.now (tag_of Announcement tag.group tag.round tag.meter) ≡ hearers.now.missing }
-    requires words { is_member tag.meter hearers.now.alike ≡ true → slice_index words.now tag.meter ≡ answer_word ((words_of masks.now).own tag.group tag.round) ((words_of masks.now).pair tag.group tag.round) tag.meter hearers.now.missing }
-    ensures { result ≡ answer_to (words_of masks.now) came.now tag.group tag.round tag.meter }
+    requires words { is_member tag.meter hearers.now.alike ≡ true → slice_index words.now tag.meter ≡ answer_word ((M.table masks.now).own tag.group tag.round) ((M.table masks.now).pair tag.group tag.round) tag.meter hearers.now.missing }
+    ensures { result ≡ answer_to (M.table masks.now) came.now tag.group tag.round tag.meter }
 {
     if hearers.alike.has(tag.meter) {
         return Frame {
@@ -88,20 +87,20 @@ fn answer_of(
 }
 
 /// Adds the answer of each member that heard, to the announcement that came to it.
-pub(crate) fn add_answers(
-    known: &Known,
+pub(crate) fn add_answers<M: Masks>(
+    known: &Known<M>,
     group: u16,
     round: u32,
     hearers: &Hearers,
     came: &[Frame],
     frames: &mut Vec<Frame>,
 ) -> Result<(), AllocError>
-    requires known { IsOfOnePlan known.now }
+    requires known { IsOfOnePlan M.plan M.table known.now }
     requires group { group < length known.now.readings.now.plan.groups }
     requires round { round < known.now.readings.now.plan.rounds }
     requires hearers { AreHearers came.now group round hearers.now }
-    requires can { (i : _) → is_member i hearers.now.meters ≡ true → CanAnswer (plan_of known.now.masks.now) group round i (announced_set came.now (tag_of Announcement group round i)) }
-    ensures { OnOk result (frames.new.items ≡ frames.old.items ++ map (answer_to (words_of known.now.masks.now) came.now group round) (filter (λ i. is_member i hearers.now.meters) (members_of known.now.readings.now.plan.groups group round))) }
+    requires can { (i : _) → is_member i hearers.now.meters ≡ true → CanAnswer (M.plan known.now.masks.now) group round i (announced_set came.now (tag_of Announcement group round i)) }
+    ensures { OnOk result (frames.new.items ≡ frames.old.items ++ map (answer_to (M.table known.now.masks.now) came.now group round) (filter (λ i. is_member i hearers.now.meters) (members_of known.now.readings.now.plan.groups group round))) }
 {
     let members = members(known.readings.plan(), group, round);
     let words = alike_words(known.masks, group, round, hearers);
@@ -151,19 +150,19 @@ fn add_words(
 }
 
 /// Adds the frame of each reading of a group in a round. Its word was made before.
-pub(crate) fn add_readings(
-    known: &Known,
+pub(crate) fn add_readings<M: Masks>(
+    known: &Known<M>,
     group: u16,
     round: u32,
     members: &MeterSet,
     frames: &mut Vec<Frame>,
 ) -> Result<(), AllocError>
-    requires known { IsOfOnePlan known.now }
+    requires known { IsOfOnePlan M.plan M.table known.now }
     requires words { HasWordsAt known.now round }
     requires group { group < length known.now.readings.now.plan.groups }
     requires round { round < known.now.readings.now.plan.rounds }
     requires members { members.now ≡ members_of known.now.readings.now.plan.groups group round }
-    ensures { OnOk result (frames.new.items ≡ frames.old.items ++ map (reading_frame known.now.readings.now.plan.groups (reading known.now.readings.now.table) (words_of known.now.masks.now) group round) (filter (λ i. is_some (reading known.now.readings.now.table group round i)) members.now)) }
+    ensures { OnOk result (frames.new.items ≡ frames.old.items ++ map (reading_frame known.now.readings.now.plan.groups (reading known.now.readings.now.table) (M.table known.now.masks.now) group round) (filter (λ i. is_some (reading known.now.readings.now.table group round i)) members.now)) }
 {
     let words = known.hidden.row(group, round);
     add_words(known.readings, group, round, members, words, frames)

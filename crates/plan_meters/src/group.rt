@@ -1,12 +1,11 @@
 //! All frames that the meters of a group send at a tick: their readings, and their answers to what came.
 
-ghost use Rattle.std.specs.Prelude.{◌≡◌, ◌++◌, ◌<◌, ◌≤◌, List, [], ◌∷◌, true, filter, length, All, IfOk, OnOk, map};
-ghost use Rattle.mask_stream.specs.ChaMaskTables.{words_of};
+ghost use Rattle.std.specs.Prelude.{◌≡◌, ◌++◌, ◌<◌, ◌≤◌, List, [], ◌∷◌, true, length, All, OnOk};
 ghost use Rattle.group_plan.specs.declared.Kind.TheVariants.{Announcement};
 ghost use Rattle.run_rows.specs.Ticks.{tag_of};
 ghost use Rattle.plan_meters.specs.Came.{tags_of};
 ghost use Rattle.plan_meters.specs.TickFrames.{was_taken, announced_set, answers_to, CanAnswer, AreAnswerable, is_announcement_in};
-ghost use Rattle.plan_meters.specs.Sent.{readings_at, answers_at, AreGroupFrames};
+ghost use Rattle.plan_meters.specs.Sent.{readings_at, answers_at};
 ghost use Rattle.plan_meters.specs.Hearers.{HearsToo, AreHearers};
 ghost use Rattle.plan_meters.specs.Hidden.{IsOfOnePlan, HasWordsAt};
 ghost use Rattle.meter_frames.specs.declared.Frame.{Frame};
@@ -14,19 +13,11 @@ ghost use Rattle.meter_frames.specs.declared.Frame.{Frame};
 use crate::frames::{add_answers, add_readings};
 use crate::known::Known;
 use group_plan::{Kind, Tag};
+use mask_stream::Masks;
 use meter_frames::Frame;
 use missing_round::MeterSet;
-use std::alloc::{AllocError, Global};
+use std::alloc::AllocError;
 use transcript_log::members;
-
-/// What the meters of a group send at a tick.
-#[derive(Drop)]
-pub struct GroupFrames {
-    /// The frames of their readings.
-    pub readings: Vec<Frame>,
-    /// Their answers to the announcements that came.
-    pub answers: Vec<Frame>,
-}
 
 /// Whether it is an announcement of this round.
 fn is_announcement(tag: Tag, group: u16, round: u32) -> bool
@@ -99,17 +90,17 @@ fn hearers_in(came: &[Frame], group: u16, round: u32) -> Hearers
     hearers
 }
 
-/// Adds the readings of the round that starts at the tick.
-fn add_reading_frames(
-    known: &Known,
+/// Adds the readings of a group in the round that starts at the tick.
+pub fn add_reading_frames<M: Masks>(
+    known: &Known<M>,
     group: u16,
     tick: u32,
     frames: &mut Vec<Frame>,
 ) -> Result<(), AllocError>
-    requires known { IsOfOnePlan known.now }
+    requires known { IsOfOnePlan M.plan M.table known.now }
     requires words { HasWordsAt known.now tick }
     requires group { group < length known.now.readings.now.plan.groups }
-    ensures { OnOk result (frames.new.items ≡ frames.old.items ++ readings_at known.now.readings.now (words_of known.now.masks.now) tick group) }
+    ensures { OnOk result (frames.new.items ≡ frames.old.items ++ readings_at known.now.readings.now (M.table known.now.masks.now) tick group) }
 {
     if tick >= known.readings.plan().rounds() {
         return Ok(());
@@ -130,20 +121,20 @@ fn oldest_round(came: &[Frame]) -> u32
 }
 
 /// Adds the answers of a round to the announcements that came, none of which is of a round before the oldest.
-fn add_answers_of(
-    known: &Known,
+fn add_answers_of<M: Masks>(
+    known: &Known<M>,
     came: &[Frame],
     oldest: u32,
     group: u16,
     round: u32,
     frames: &mut Vec<Frame>,
 ) -> Result<(), AllocError>
-    requires known { IsOfOnePlan known.now }
+    requires known { IsOfOnePlan M.plan M.table known.now }
     requires group { group < length known.now.readings.now.plan.groups }
     requires round { round < known.now.readings.now.plan.rounds }
     requires oldest { All (λ f. oldest ≤ f.tag.round) came.now }
     requires can { (i : _) → was_taken (tags_of came.now) (tag_of Announcement group round i) ≡ true → CanAnswer known.now.readings.now.plan group round i (announced_set came.now (tag_of Announcement group round i)) }
-    ensures { OnOk result (frames.new.items ≡ frames.old.items ++ answers_to known.now.readings.now.plan.groups (words_of known.now.masks.now) came.now group round) }
+    ensures { OnOk result (frames.new.items ≡ frames.old.items ++ answers_to known.now.readings.now.plan.groups (M.table known.now.masks.now) came.now group round) }
 {
     if round < oldest {
         return Ok(());
@@ -155,18 +146,18 @@ fn add_answers_of(
     add_answers(known, group, round, &hearers, came, frames)
 }
 
-/// Adds the answers to the announcements that came: their rounds closed at most 16 ticks before.
-fn add_answer_frames(
-    known: &Known,
+/// Adds the answers of a group to the announcements that came: their rounds closed at most 16 ticks before.
+pub fn add_answer_frames<M: Masks>(
+    known: &Known<M>,
     came: &[Frame],
     group: u16,
     tick: u32,
     frames: &mut Vec<Frame>,
 ) -> Result<(), AllocError>
-    requires known { IsOfOnePlan known.now }
+    requires known { IsOfOnePlan M.plan M.table known.now }
     requires group { group < length known.now.readings.now.plan.groups }
     requires came { AreAnswerable known.now.readings.now.plan tick came.now }
-    ensures { OnOk result (frames.new.items ≡ frames.old.items ++ answers_at known.now.readings.now.plan (words_of known.now.masks.now) came.now group) }
+    ensures { OnOk result (frames.new.items ≡ frames.old.items ++ answers_at known.now.readings.now.plan (M.table known.now.masks.now) came.now group) }
 {
     let closed = tick.saturating_sub(known.readings.plan().w1());
     let until = closed.min(known.readings.plan().rounds());
@@ -176,28 +167,4 @@ fn add_answer_frames(
         add_answers_of(known, came, oldest, group, round, frames)?;
     }
     Ok(())
-}
-
-/// The frames that the meters of a group send at a tick, after these announcements came to them.
-pub(crate) fn group_frames(
-    alloc: Global,
-    known: &Known,
-    came: &[Frame],
-    tick: u32,
-    group: u16,
-) -> Result<GroupFrames, AllocError>
-    requires known { IsOfOnePlan known.now }
-    requires words { HasWordsAt known.now tick }
-    requires group { group < length known.now.readings.now.plan.groups }
-    requires came { AreAnswerable known.now.readings.now.plan tick came.now }
-    ensures { IfOk result (λ sent. AreGroupFrames known.now.readings.now (words_of known.now.masks.now) came.now tick group sent) }
-{
-    let mut first = Vec::with_capacity(alloc, known.readings.plan().meters(group) as usize)?;
-    add_reading_frames(known, group, tick, &mut first)?;
-    let mut answers = Vec::with_capacity(alloc, came.len())?;
-    add_answer_frames(known, came, group, tick, &mut answers)?;
-    Ok(GroupFrames {
-        readings: first,
-        answers,
-    })
 }

@@ -4,22 +4,21 @@ ghost use Rattle.std.specs.Prelude.{◌≡◌, ℕ, ◌+◌, ◌*◌, ◌/◌, �
 ghost use Rattle.group_plan.specs.Plans.{is_place, members};
 ghost use Rattle.group_plan.specs.Tables.{reading, ReadingsView};
 ghost use Rattle.blind_core.specs.Columns.{column};
-ghost use Rattle.mask_stream.specs.ChaMaskTables.{plan_of, words_of};
 ghost use Rattle.plan_meters.specs.TickFrames.{IsRow};
-ghost use Rattle.missing_round.specs.Masks.{Masks};
+ghost use Rattle.missing_round.specs.Masks.{Masks as MaskTable};
 ghost use Rattle.plan_meters.specs.Hidden.{Hide, HideRounds, HideBlock, CanHide, AreColumns, AreBlocks, AreRest, AreHidden, HasRow, words_in, blocks_in};
 
 use crate::pieces::items_a_piece;
 use blind_core::{masked_group, masked_rounds};
 use group_plan::{GroupPlan, Plan, Readings};
-use mask_stream::ChaMasks;
+use mask_stream::Masks;
 use mod_word::Word;
 use rayon::prelude::*;
 use std::alloc::{AllocError, Global};
 use std::thread::Threads;
 use transcript_log::members;
 
-/// The word of each reading of a plan, hidden under the words of its keys, and 0 where there is no reading. Each block
+/// The word of each reading of a plan, hidden under mask words, and 0 where there is no reading. Each block
 /// has the rows of a group in eight rounds, or in those that are left at the end of the plan. The groups of the first
 /// eight rounds come first, then those of the next eight.
 #[derive(Drop)]
@@ -50,17 +49,17 @@ fn row_of(
 }
 
 /// The words of a group in a round.
-fn words_of_round(
+fn words_of_round<M: Masks>(
     alloc: Global,
     readings: &Readings,
-    masks: &ChaMasks,
+    masks: &M,
     group: u16,
     round: u32,
 ) -> Result<Vec<Word>, AllocError>
-    requires masks { plan_of masks.now ≡ readings.now.plan }
+    requires masks { M.plan masks.now ≡ readings.now.plan }
     requires group { group < length readings.now.plan.groups }
     requires round { round < readings.now.plan.rounds }
-    ensures { IfOk result (λ words. Hide readings.now (words_of masks.now) group round words.items) }
+    ensures { IfOk result (λ words. Hide readings.now (M.table masks.now) group round words.items) }
 {
     let members = members(readings.plan(), group, round);
     let row = row_of(alloc, readings, group, round)?;
@@ -68,19 +67,19 @@ fn words_of_round(
 }
 
 /// The words of a group in so many rounds from the first on, one round after another.
-fn words_one_by_one(
+fn words_one_by_one<M: Masks>(
     alloc: Global,
     readings: &Readings,
-    masks: &ChaMasks,
+    masks: &M,
     group: u16,
     first: u32,
     count: u32,
 ) -> Result<Vec<Vec<Word>>, AllocError>
-    requires masks { plan_of masks.now ≡ readings.now.plan }
+    requires masks { M.plan masks.now ≡ readings.now.plan }
     requires group { group < length readings.now.plan.groups }
     requires fits { first + count < 2 ^ 32 }
     requires rounds { first + count ≤ readings.now.plan.rounds }
-    ensures { IfOk result (λ rows. HideRounds readings.now (words_of masks.now) group first count rows.items) }
+    ensures { IfOk result (λ rows. HideRounds readings.now (M.table masks.now) group first count rows.items) }
 {
     let mut rows = Vec::new(alloc);
     for later in 0..count {
@@ -160,19 +159,19 @@ fn have_same_members(plan: &Plan, group: u16, first: u32) -> bool
 }
 
 /// The words of a group in eight rounds that have the same members.
-fn words_at_once(
+fn words_at_once<M: Masks>(
     alloc: Global,
     readings: &Readings,
-    masks: &ChaMasks,
+    masks: &M,
     group: u16,
     first: u32,
 ) -> Result<Vec<Vec<Word>>, AllocError>
-    requires masks { plan_of masks.now ≡ readings.now.plan }
+    requires masks { M.plan masks.now ≡ readings.now.plan }
     requires group { group < length readings.now.plan.groups }
     requires fits { first + 7 < 2 ^ 32 }
     requires rounds { first + 7 < readings.now.plan.rounds }
     requires same { (j : ℕ) → j < 8 → members readings.now.plan.groups group (first + j) ≡ members readings.now.plan.groups group first }
-    ensures { IfOk result (λ rows. HideRounds readings.now (words_of masks.now) group first 8 rows.items) }
+    ensures { IfOk result (λ rows. HideRounds readings.now (M.table masks.now) group first 8 rows.items) }
 {
     let members = members(readings.plan(), group, first);
     let rows = readings_by_meter(alloc, readings, group, first)?;
@@ -181,19 +180,19 @@ fn words_at_once(
 }
 
 /// The words of a group in a block of rounds: all at once where they are eight that have the same members.
-fn words_of_block(
+fn words_of_block<M: Masks>(
     alloc: Global,
     readings: &Readings,
-    masks: &ChaMasks,
+    masks: &M,
     group: u16,
     first: u32,
     count: u32,
 ) -> Result<Vec<Vec<Word>>, AllocError>
-    requires masks { plan_of masks.now ≡ readings.now.plan }
+    requires masks { M.plan masks.now ≡ readings.now.plan }
     requires group { group < length readings.now.plan.groups }
     requires fits { first + count < 2 ^ 32 }
     requires rounds { first + count ≤ readings.now.plan.rounds }
-    ensures { IfOk result (λ rows. HideRounds readings.now (words_of masks.now) group first count rows.items) }
+    ensures { IfOk result (λ rows. HideRounds readings.now (M.table masks.now) group first count rows.items) }
 {
     if count == 8 && have_same_members(readings.plan(), group, first) {
         words_at_once(alloc, readings, masks, group, first)
@@ -203,15 +202,15 @@ fn words_of_block(
 }
 
 /// The words of the block at a place.
-fn words_at(
+fn words_at<M: Masks>(
     alloc: Global,
     readings: &Readings,
-    masks: &ChaMasks,
+    masks: &M,
     place: usize,
 ) -> Result<Vec<Vec<Word>>, AllocError>
-    requires masks { plan_of masks.now ≡ readings.now.plan }
+    requires masks { M.plan masks.now ≡ readings.now.plan }
     requires place { place < blocks_in readings.now.plan.rounds * length readings.now.plan.groups }
-    ensures { IfOk result (λ rows. HideBlock readings.now (words_of masks.now) place rows.items) }
+    ensures { IfOk result (λ rows. HideBlock readings.now (M.table masks.now) place rows.items) }
 {
     let groups = readings.plan().groups().len();
     let group = (place % groups) as u16;
@@ -254,17 +253,17 @@ fn places_of(rounds: u32, groups: usize) -> usize
 }
 
 /// Hides the readings of the blocks from one place up to another, side by side.
-fn blocks_between(
-    rt: &(impl Threads + Sync),
+fn blocks_between<R: Threads + Sync, M: Masks + Sync>(
+    rt: &R,
     alloc: Global,
     readings: &Readings,
-    masks: &ChaMasks,
+    masks: &M,
     from: usize,
     to: usize,
 ) -> Result<Vec<Vec<Vec<Word>>>, AllocError>
-    requires masks { plan_of masks.now ≡ readings.now.plan }
+    requires masks { M.plan masks.now ≡ readings.now.plan }
     requires places { to ≤ blocks_in readings.now.plan.rounds * length readings.now.plan.groups }
-    ensures { IfOk result (λ blocks. AreBlocks readings.now (words_of masks.now) from to blocks.items) }
+    ensures { IfOk result (λ blocks. AreBlocks readings.now (M.table masks.now) from to blocks.items) }
 {
     let groups = readings.plan().groups();
     (from..to)
@@ -272,8 +271,8 @@ fn blocks_between(
         .with_min_len(items_a_piece(words_a_block(groups), groups.len()))
         .map(
             |place: usize| -> Result<Vec<Vec<Word>>, AllocError>
-                requires { CanHide readings.now (plan_of masks.now) place }
-                ensures { IfOk result (λ rows. HideBlock readings.entry.now (words_of masks.entry.now) place rows.items) }
+                requires { CanHide readings.now (M.plan masks.now) place }
+                ensures { IfOk result (λ rows. HideBlock readings.entry.now (M.table masks.entry.now) place rows.items) }
             { words_at(alloc, readings, masks, place) },
         )
         .collect::<Result<Vec<Vec<Vec<Word>>>, AllocError>>(rt, alloc)?
@@ -281,14 +280,14 @@ fn blocks_between(
 
 impl HiddenReadings {
     /// Hides the readings of the first rounds of a plan.
-    pub fn first(
-        rt: &(impl Threads + Sync),
+    pub fn first<R: Threads + Sync, M: Masks + Sync>(
+        rt: &R,
         alloc: Global,
         readings: &Readings,
-        masks: &ChaMasks,
+        masks: &M,
     ) -> Result<HiddenReadings, AllocError>
-        requires masks { plan_of masks.now ≡ readings.now.plan }
-        ensures { IfOk result (AreHidden readings.now (words_of masks.now)) }
+        requires masks { M.plan masks.now ≡ readings.now.plan }
+        ensures { IfOk result (AreHidden readings.now (M.table masks.now)) }
     {
         let groups = readings.plan().groups().len();
         let rounds = first_rounds(readings.plan());
@@ -301,16 +300,16 @@ impl HiddenReadings {
     }
 
     /// Hides the readings of the rounds that have no words yet.
-    pub fn rest(
+    pub fn rest<R: Threads + Sync, M: Masks + Sync>(
         &self,
-        rt: &(impl Threads + Sync),
+        rt: &R,
         alloc: Global,
         readings: &Readings,
-        masks: &ChaMasks,
+        masks: &M,
     ) -> Result<Vec<Vec<Vec<Word>>>, AllocError>
-        requires masks { plan_of masks.now ≡ readings.now.plan }
-        requires hidden { AreHidden readings.now (words_of masks.now) self.now }
-        ensures { IfOk result (λ rest. AreRest readings.now (words_of masks.now) self.now rest.items) }
+        requires masks { M.plan masks.now ≡ readings.now.plan }
+        requires hidden { AreHidden readings.now (M.table masks.now) self.now }
+        ensures { IfOk result (λ rest. AreRest readings.now (M.table masks.now) self.now rest.items) }
     {
         let groups = readings.plan().groups().len();
         let from = places_of(self.rounds, groups);
@@ -324,7 +323,7 @@ impl HiddenReadings {
         plan: &Plan,
         rest: Vec<Vec<Vec<Word>>>,
     ) -> Result<HiddenReadings, AllocError>
-        ensures hidden { (readings : ReadingsView) (m : Masks) → readings.plan ≡ plan.now → AreHidden readings m self → AreRest readings m self rest.items → IfOk result (AreHidden readings m) }
+        ensures hidden { (readings : ReadingsView) (m : MaskTable) → readings.plan ≡ plan.now → AreHidden readings m self → AreRest readings m self rest.items → IfOk result (AreHidden readings m) }
         ensures rounds { IfOk result (λ all. all.rounds ≡ plan.now.rounds) }
     {
         let HiddenReadings {

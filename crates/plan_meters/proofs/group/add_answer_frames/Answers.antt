@@ -1,17 +1,16 @@
 use Rattle.std.proofs.Common.{◌≡◌, ◌++◌, ◌-◌, ◌<◌, ◌≤◌, sym, ap, ◌∙◌, min, append_assoc, arith}
 use Rattle.std.specs.List.{flat_map, range_with_len}
-use Rattle.mask_stream.specs.ChaMaskTables.{words_of}
 use Rattle.plan_meters.specs.TickFrames.{answers_to}
 use Rattle.plan_meters.proofs.GroupLemmas.{flat_more}
 use Rattle.plan_meters.proofs.CameLemmas.{answers-window}
 use Rattle.plan_meters.proofs.group.add_answer_frames.Goals as goal
 
 pub add_answers_of-requires-clause-can : goal.add_answers_of-requires-clause-can
-add_answers_of-requires-clause-can c = λ i told. c.requires.came.can c.args.group c.loop-round.round i told
+add_answers_of-requires-clause-can g c = λ i told. c.requires.came.can c.args.group c.loop-round.round i told
 
 pub loop-round-preserved : goal.loop-round-preserved
-loop-round-preserved c =
-    let F = answers_to c.args.known.now.readings.now.plan.groups (words_of c.args.known.now.masks.now) c.args.came.now c.args.group in
+loop-round-preserved g c =
+    let F = answers_to c.args.known.now.readings.now.plan.groups (g.M.Masks.table c.args.known.now.masks.now) c.args.came.now c.args.group in
     let first = c.min-first.result in
     let r = c.loop-round.round in
     let was = c.loop-round.invariant in
@@ -25,9 +24,9 @@ loop-round-preserved c =
     }
 
 pub returns : goal.returns
-returns c =
+returns g c =
     let plan = c.args.known.now.readings.now.plan in
-    let F = answers_to plan.groups (words_of c.args.known.now.masks.now) c.args.came.now c.args.group in
+    let F = answers_to plan.groups (g.M.Masks.table c.args.known.now.masks.now) c.args.came.now c.args.group in
     let t = c.args.tick in
     let first = c.min-first.result in
     let until = c.min-until.result in
@@ -42,4 +41,4 @@ returns c =
     let starts : first ≡ min (t - plan.w1 - 16) until = c.min-first.ensures ∙ ap (λ k. min k until) (c.saturating_sub.ensures ∙ ap (λ k. k - 16) closed) in
     was.frames
     ∙ ap (λ k. c.args.frames.now.items ++ flat_map F (range_with_len first (k - first))) at
-    ∙ ap (λ l. c.args.frames.now.items ++ l) (answers-window plan (words_of c.args.known.now.masks.now) c.args.came.now t c.args.group first until c.requires.came ends starts)
+    ∙ ap (λ l. c.args.frames.now.items ++ l) (answers-window plan (g.M.Masks.table c.args.known.now.masks.now) c.args.came.now t c.args.group first until c.requires.came ends starts)

@@ -3,7 +3,6 @@ use Rattle.std.specs.declared.alloc.Global.{Global}
 use Rattle.std.specs.declared.alloc.AllocError.{AllocError}
 use Rattle.std.specs.Prelude.{MatchResult}
 use Rattle.std.specs.List.{range_with_len, AllZip, Contains}
-use Rattle.mask_stream.specs.ChaMaskTables.{plan_of, words_of}
 use Rattle.rayon.specs.Numbers.{nat_range}
 use Rattle.rayon.proofs.ToStd.{nat_range-All}
 use Rattle.plan_meters.specs.Hidden.{HideBlock, CanHide, AreBlocks, blocks_in}
@@ -15,7 +14,7 @@ collect-requires-clause-ready g c κs within =
     let ends = c.into_par_iter.ensures in
     let readings = c.args.readings.now in
     let all : c.args.to ≤ blocks_in readings.plan.rounds * length readings.plan.groups = c.requires.places in
-    let inside = nat_range-All (CanHide readings (plan_of c.args.masks.now)) c.args.from c.args.to
+    let inside = nat_range-All (CanHide readings (g.M.Masks.plan c.args.masks.now)) c.args.from c.args.to
     (λ i low high. record {
       masks = c.requires.masks;
       within = omega (arith, high, all);
@@ -33,7 +32,7 @@ returns g c =
     let start = ap (λ r. r.start) c.with_min_len.ensures.base ∙ ends.0 in
     let end = ap (λ r. r.end) c.with_min_len.ensures.base ∙ ends.1 in
     let readings = c.args.readings.now in
-    let m = words_of c.args.masks.now in
+    let m = g.M.Masks.table c.args.masks.now in
     let from = c.args.from in
     let to = c.args.to in
     let R : ℕ → Vec (Vec ℕ Global) Global → Type 0 = λ k row. HideBlock readings m k row.items in

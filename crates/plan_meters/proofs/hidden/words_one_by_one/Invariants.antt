@@ -1,7 +1,6 @@
-use Rattle.mask_stream.specs.ChaMaskTables.{words_of}
 use Rattle.plan_meters.specs.Hidden.{HideRounds}
 use Rattle.plan_meters.proofs.hidden.words_one_by_one.Given as goal
 
 -- the rows of the rounds so far
 abbrev pub invariant-loop-later : goal.invariant-loop-later
-invariant-loop-later l = HideRounds l.readings (words_of l.masks) l.group l.first l.later l.rows.items
+invariant-loop-later g l = HideRounds l.readings (g.M.Masks.table l.masks) l.group l.first l.later l.rows.items
