@@ -1,9 +1,8 @@
 -- The Closes and Ends that are due at a tick: each once.
-use Rattle.std.proofs.Common.{◌≡◌, ℕ, zero, suc, ◌+◌, ◌-◌, ◌<◌, ◌≤◌, Bool, true, false, cond, ◌&&◌, [], ◌∷◌, refl, sym, ap, ◌∙◌, arith, ⊎_elim}
+use Rattle.std.proofs.Common.{◌≡◌, ℕ, ◌+◌, ◌-◌, Bool, true, false, cond, ◌&&◌, ◌||◌, List, [], ◌∷◌, refl, ap, ◌∙◌, arith}
 use Rattle.std.specs.Prelude.{◌==◌, nat_lt, if◌then◌else◌}
-use Rattle.std.specs.List.{sum_by, count_by, range_with_len}
+use Rattle.std.specs.List.{sum_by, count_by, list_any}
 use mathlib.Core.Path.{fun_ext}
-use Rattle.std.proofs.lemmas.Bool.{cases_lt, cases_eq, ne_eqb, lt-ltb}
 use Rattle.std.proofs.lemmas.Bool.Decides.{nat_tests}
 use Rattle.std.proofs.lemmas.List.Sums.{sum_by-cons, sum_by-append}
 use Rattle.transcript_log.specs.declared.Event.{Event}
@@ -15,46 +14,31 @@ use Rattle.tick_run.specs.Running.{is_due, calls_of, calls_due}
 
 -- ---- one of a range
 
-sum_off : (g v a n : ℕ) → ((h : ℕ) → a ≤ h → h < a + n → h ≡ g → ⊥) → sum_by (λ h. cond {A = ℕ} (h == g) v 0) (range_with_len a n) ≡ 0
-sum_off g v a zero off = refl
-sum_off g v a (suc n) off =
-    omega (
-      arith,
-      sum_by-cons (λ h. cond {A = ℕ} (h == g) v 0) a (range_with_len (a + 1) n),
-      ap (λ b. cond {A = ℕ} b v 0) (ne_eqb a g (off a (omega arith) (omega arith))),
-      sum_off g v (a + 1) n (λ h above below. off h (omega arith) (omega arith)),
-    )
-
-sum_at : (g v a n : ℕ) → a ≤ g → g < a + n → sum_by (λ h. cond {A = ℕ} (h == g) v 0) (range_with_len a n) ≡ v
-sum_at g v a zero above below = absurd (omega arith)
-sum_at g v a (suc n) above below =
-    ⊎_elim
-    (λ here. omega (
-      arith,
-      sum_by-cons (λ h. cond {A = ℕ} (h == g) v 0) a (range_with_len (a + 1) n),
-      ap (λ b. cond {A = ℕ} b v 0) (same a g here),
-      sum_off g v (a + 1) n (λ h ge lt is. omega arith),
-    ))
-    (λ other. omega (
-      arith,
-      sum_by-cons (λ h. cond {A = ℕ} (h == g) v 0) a (range_with_len (a + 1) n),
-      ap (λ b. cond {A = ℕ} b v 0) (ne_eqb a g other),
-      sum_at g v (a + 1) n (omega arith) (omega arith),
-    ))
-    (cases_eq a g)
+-- where a test counts some it holds of one
+pub some-counted : {X : Type 0} (p : X → Bool) (zs : List X) → nat_lt 0 (count_by p zs) ≡ list_any p zs
+some-counted p [] = refl
+some-counted {X} p (y ∷ zs) = ap (nat_lt 0) (sum_by-cons (λ (w : X). cond {A = ℕ} (p w) 1 0) y zs) ∙ step (p y) (some-counted p zs)
   where
-    same : (x y : ℕ) → x ≡ y → (x == y) ≡ true
-    same x y h = grind (arith, nat_tests)
+    positive : (n : ℕ) → nat_lt 0 (1 + n) ≡ true
+    positive n = grind (arith, nat_tests)
 
-sum_one : (g v n : ℕ) → sum_by (λ h. cond {A = ℕ} (h == g) v 0) (range_with_len 0 n) ≡ cond (nat_lt g n) v 0
-sum_one g v n =
-    ⊎_elim
-    (λ inside. sum_at g v 0 n (omega arith) (omega arith) ∙ sym (ap (λ b. cond b v 0) (lt-ltb g n inside)))
-    (λ outside. sum_off g v 0 n (λ h _ below is. omega arith) ∙ sym (ap (λ b. cond b v 0) (not_below g n outside)))
-    (cases_lt g n)
+    plain : (n : ℕ) → nat_lt 0 (0 + n) ≡ nat_lt 0 n
+    plain n = grind (arith, nat_tests)
+
+    step : (b : Bool) → nat_lt 0 (count_by p zs) ≡ list_any p zs → nat_lt 0 (cond {A = ℕ} b 1 0 + count_by p zs) ≡ (b || list_any p zs)
+    step true later = positive (count_by p zs)
+    step false later = plain (count_by p zs) ∙ later
+
+-- no group stands twice among these
+pub record AreOnce (these : List ℕ) : Type 0 where
+  pub sums : (g v : ℕ) → sum_by (λ h. cond {A = ℕ} (h == g) v 0) these ≡ cond (list_any (λ h. h == g) these) v 0
+
+pub once-one : (g : ℕ) → AreOnce (g ∷ [])
+once-one g = record { sums = λ h v. sum_by-cons (λ k. cond {A = ℕ} (k == h) v 0) g [] ∙ step (g == h) v }
   where
-    not_below : (a b : ℕ) → b ≤ a → nat_lt a b ≡ false
-    not_below a b h = grind (arith, nat_tests)
+    step : (b : Bool) (v : ℕ) → cond {A = ℕ} b v 0 + 0 ≡ cond (b || false) v 0
+    step true v = omega arith
+    step false v = refl
 
 -- ---- one of the calls
 
@@ -73,14 +57,14 @@ count_calls test c t g =
     one true e = omega (arith, sum_by-cons (λ (v : Event). cond {A = ℕ} (test v) 1 0) e [])
     one false e = refl
 
--- the Close of a round is due once, where the plan has it and its tick is this one
-pub closes-due : (c : Clock) (n t g r : ℕ) → count_by (is_close g r) (calls_due c n t) ≡ (if nat_lt g n && nat_lt r c.rounds && (r + c.w1 == t) then 1 else 0)
-closes-due c n t g r =
-    sum_by-flat_map (λ (e : Event). cond {A = ℕ} (is_close g r e) 1 0) (calls_of c t) (range_with_len 0 n)
-    ∙ ap (λ f. sum_by f (range_with_len 0 n)) (fun_ext (λ h. count_calls (is_close g r) c t h ∙ here h))
-    ∙ sum_one g (cond {A = ℕ} (is_due c.rounds c.w1 t && ((t - c.w1) == r)) 1 0) n
-    ∙ ap (λ b. cond (nat_lt g n) (cond {A = ℕ} b 1 0) 0) (due_then c.rounds c.w1 r t)
-    ∙ nested (nat_lt g n) (nat_lt r c.rounds) (r + c.w1 == t)
+-- the Close of a round is due once, where it is of these groups and its tick is this one
+pub closes-due : (c : Clock) (these : List ℕ) (t g r : ℕ) → AreOnce these → count_by (is_close g r) (calls_due c these t) ≡ (if list_any (λ h. h == g) these && nat_lt r c.rounds && (r + c.w1 == t) then 1 else 0)
+closes-due c these t g r once =
+    sum_by-flat_map (λ (e : Event). cond {A = ℕ} (is_close g r e) 1 0) (calls_of c t) these
+    ∙ ap (λ f. sum_by f these) (fun_ext (λ h. count_calls (is_close g r) c t h ∙ here h))
+    ∙ once.sums g (cond {A = ℕ} (is_due c.rounds c.w1 t && ((t - c.w1) == r)) 1 0)
+    ∙ ap (λ b. cond (list_any (λ h. h == g) these) (cond {A = ℕ} b 1 0) 0) (due_then c.rounds c.w1 r t)
+    ∙ nested (list_any (λ h. h == g) these) (nat_lt r c.rounds) (r + c.w1 == t)
   where
     nested : (p q b : Bool) → cond p (cond {A = ℕ} (q && b) 1 0) 0 ≡ cond {A = ℕ} (p && q && b) 1 0
     nested true q b = refl
@@ -101,14 +85,14 @@ closes-due c n t g r =
     here h = omega (arith, inner (is_due c.rounds c.w1 t) (h == g) ((t - c.w1) == r), none (is_due c.rounds (c.w1 + c.w2) t))
 
 -- likewise its End
-pub ends-due : (c : Clock) (n t g r : ℕ) → count_by (is_end g r) (calls_due c n t) ≡ (if nat_lt g n && nat_lt r c.rounds && (r + c.w1 + c.w2 == t) then 1 else 0)
-ends-due c n t g r =
-    sum_by-flat_map (λ (e : Event). cond {A = ℕ} (is_end g r e) 1 0) (calls_of c t) (range_with_len 0 n)
-    ∙ ap (λ f. sum_by f (range_with_len 0 n)) (fun_ext (λ h. count_calls (is_end g r) c t h ∙ here h))
-    ∙ sum_one g (cond {A = ℕ} (is_due c.rounds (c.w1 + c.w2) t && ((t - (c.w1 + c.w2)) == r)) 1 0) n
-    ∙ ap (λ b. cond (nat_lt g n) (cond {A = ℕ} b 1 0) 0) (due_then c.rounds (c.w1 + c.w2) r t)
-    ∙ ap (λ k. cond (nat_lt g n) (cond {A = ℕ} (nat_lt r c.rounds && (k == t)) 1 0) 0) (both r c.w1 c.w2)
-    ∙ nested (nat_lt g n) (nat_lt r c.rounds) (r + c.w1 + c.w2 == t)
+pub ends-due : (c : Clock) (these : List ℕ) (t g r : ℕ) → AreOnce these → count_by (is_end g r) (calls_due c these t) ≡ (if list_any (λ h. h == g) these && nat_lt r c.rounds && (r + c.w1 + c.w2 == t) then 1 else 0)
+ends-due c these t g r once =
+    sum_by-flat_map (λ (e : Event). cond {A = ℕ} (is_end g r e) 1 0) (calls_of c t) these
+    ∙ ap (λ f. sum_by f these) (fun_ext (λ h. count_calls (is_end g r) c t h ∙ here h))
+    ∙ once.sums g (cond {A = ℕ} (is_due c.rounds (c.w1 + c.w2) t && ((t - (c.w1 + c.w2)) == r)) 1 0)
+    ∙ ap (λ b. cond (list_any (λ h. h == g) these) (cond {A = ℕ} b 1 0) 0) (due_then c.rounds (c.w1 + c.w2) r t)
+    ∙ ap (λ k. cond (list_any (λ h. h == g) these) (cond {A = ℕ} (nat_lt r c.rounds && (k == t)) 1 0) 0) (both r c.w1 c.w2)
+    ∙ nested (list_any (λ h. h == g) these) (nat_lt r c.rounds) (r + c.w1 + c.w2 == t)
   where
     both : (x y z : ℕ) → x + (y + z) ≡ x + y + z
     both x y z = omega arith

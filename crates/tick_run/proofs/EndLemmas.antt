@@ -1,27 +1,26 @@
--- After the last tick: nothing is on its way, and the entries are a tick run.
-use Rattle.std.proofs.Common.{◌≡◌, ℕ, ◌+◌, ◌*◌, ◌<◌, ◌≤◌, Bool, true, false, cond, ◌&&◌, List, [], ◌∷◌, ◌++◌, length, map, refl, sym, ap, ◌∙◌, subst, arith, ⊎_elim}
+-- After the last tick: nothing is on its way, and nothing is due.
+use Rattle.std.proofs.Common.{◌≡◌, ℕ, ◌+◌, ◌<◌, ◌≤◌, Bool, true, false, cond, ◌&&◌, List, [], ◌∷◌, ◌++◌, refl, ap, ◌∙◌, subst, arith, ⊎_elim}
 use Rattle.std.specs.Prelude.{◌==◌, nat_lt, if◌then◌else◌}
 use mathlib.Core.Path.{fun_ext}
 use Rattle.std.specs.List.{sum_by, count_by, filter, flat_map, range_with_len, All}
-use Rattle.std.proofs.lemmas.Bool.{and_parts, lt-ltb, ltb-true, ne_eqb, cases_lt}
+use Rattle.std.proofs.lemmas.Bool.{ne_eqb, cases_lt}
 use Rattle.std.proofs.lemmas.Bool.Decides.{nat_tests}
 use Rattle.std.proofs.lemmas.List.Elements.{All-weaker}
 use Rattle.group_plan.specs.declared.Kind.{Kind}
 use Rattle.group_plan.specs.declared.Kind.TheVariants.{Reading, Announcement, Answer}
 use Rattle.group_plan.specs.declared.Tag.{Tag}
-use Rattle.link_lanes.specs.Lanes.{Slot, fates_after}
 use Rattle.transcript_log.specs.declared.Entry.{Entry}
 use Rattle.transcript_log.specs.Events.{is_send, event_of}
 use Rattle.transcript_log.specs.Schedule.{Shape, is_announced, survivors, members_of}
 use Rattle.transcript_log.proofs.EventLemmas.{is_send-true}
 use Rattle.transcript_log.proofs.ListLemmas.{flat_map_same}
-use Rattle.run_rows.specs.Ticks.{Clock, last_tick, in_plan, tag_of, tags, takes_at, copies, due_of, posts_of, HaveDelays, IsTickRun}
+use Rattle.run_rows.specs.Ticks.{Clock, last_tick, tag_of, tags, takes_at, copies, due_of, HaveDelays}
 use Rattle.run_rows.proofs.TickLemmas.{Member}
 use Rattle.run_rows.proofs.TickRun.{all_member}
 use Rattle.run_rows.proofs.FateLemmas.{all_from_member}
 use Rattle.tick_run.specs.Progress.{IsDelay, latest, IsTimely, IsInTime, past_of_entries, RunsTo}
-use Rattle.tick_run.proofs.BatchLemmas.{sum_none, takes-other, sent-other}
-use Rattle.tick_run.proofs.StepLemmas.{from_copies, earlier_ticks}
+use Rattle.tick_run.proofs.BatchLemmas.{sum_none}
+use Rattle.tick_run.proofs.StepLemmas.{from_copies}
 use Rattle.tick_run.proofs.SendLemmas.{count_none}
 
 -- no copy comes later than the longest delay after the last tick of its frame
@@ -48,9 +47,9 @@ latest_is c Announcement r = omega arith
 latest_is c Answer r = omega arith
 
 -- an announcement that is taken at a tick is of a round of the plan, closed not more than the longest delay before
-pub announcement_round : (s : Shape) (c : Clock) (m a b d : ℕ) (xs : List Entry) → RunsTo s c m a b d xs → (g r i t : ℕ)
+pub announcement_round : (s : Shape) (c : Clock) (these : List ℕ) (m a b d : ℕ) (xs : List Entry) → RunsTo s c these m a b d xs → (g r i t : ℕ)
     → t < a → 0 < takes_at xs (tag_of Announcement g r i) t → (r < c.rounds) × (t ≤ r + c.w1 + 16)
-announcement_round s c m a b d xs run g r i t below pos =
+announcement_round s c these m a b d xs run g r i t below pos =
     let tag : Tag = tag_of Announcement g r i in
     let some : 0 < sum_by (copies tag t) xs = omega (arith, pos, run.taken tag t below) in (
       from_copies (r < c.rounds) tag t xs (λ e at is. (in_time_of s c xs run.in_time tag e at is).round) some,
@@ -61,9 +60,9 @@ announcement_round s c m a b d xs run g r i t below pos =
     )
 
 -- nor sooner than the round is closed
-pub announcement_later : (s : Shape) (c : Clock) (m a b d : ℕ) (xs : List Entry) → RunsTo s c m a b d xs → (g r i t : ℕ)
+pub announcement_later : (s : Shape) (c : Clock) (these : List ℕ) (m a b d : ℕ) (xs : List Entry) → RunsTo s c these m a b d xs → (g r i t : ℕ)
     → t < a → 0 < takes_at xs (tag_of Announcement g r i) t → r + c.w1 < t
-announcement_later s c m a b d xs run g r i t below pos =
+announcement_later s c these m a b d xs run g r i t below pos =
     let tag : Tag = tag_of Announcement g r i in
     let some : 0 < sum_by (copies tag t) xs = omega (arith, pos, run.taken tag t below) in
     ⊎_elim
@@ -81,8 +80,8 @@ announcement_later s c m a b d xs run g r i t below pos =
     none e sooner true from all = let ge : r + c.w1 ≤ e.tick = from refl in count_none e.tick t e.fate (λ z is sum. omega arith) all
 
 -- nothing comes after the last tick
-no_copies_late : (s : Shape) (c : Clock) (m a b d : ℕ) (xs : List Entry) → RunsTo s c m a b d xs → (tag : Tag) (u : ℕ) → last_tick c < u → sum_by (copies tag u) xs ≡ 0
-no_copies_late s c m a b d xs run tag u late =
+pub no_copies_late : (s : Shape) (c : Clock) (these : List ℕ) (m a b d : ℕ) (xs : List Entry) → RunsTo s c these m a b d xs → (tag : Tag) (u : ℕ) → last_tick c < u → sum_by (copies tag u) xs ≡ 0
+no_copies_late s c these m a b d xs run tag u late =
     no_copies tag u xs run.delays (λ e at is.
     let known = in_time_of s c xs run.in_time tag e at is in
     let r_in : tag.round < c.rounds = known.round in
@@ -103,7 +102,7 @@ filter_off (x ∷ xs) = filter_off xs
 not_below : (a b : ℕ) → b ≤ a → nat_lt a b ≡ false
 not_below a b h = grind (arith, nat_tests)
 
-nothing_due : (s : Shape) (c : Clock) (xs : List Entry) (u : ℕ) → c.rounds + c.w1 ≤ u → ((tag : Tag) → takes_at xs tag u ≡ 0) → (g : ℕ) → due_of s c xs u g ≡ []
+pub nothing_due : (s : Shape) (c : Clock) (xs : List Entry) (u : ℕ) → c.rounds + c.w1 ≤ u → ((tag : Tag) → takes_at xs tag u ≡ 0) → (g : ℕ) → due_of s c xs u g ≡ []
 nothing_due s c xs u late none g =
     let rounds : List ℕ = range_with_len 0 c.rounds in
     let announced : ℕ → List Tag = λ r. if (r + c.w1 == u) && is_announced s g r (past_of_entries xs) then tags Announcement g r (survivors s g r (past_of_entries xs)) else [] in
@@ -120,30 +119,10 @@ nothing_due s c xs u late none g =
 
 -- ---- the whole run
 
-when_in_plan : (p q : Bool) → (p ≡ true → q ≡ true) → (p && q) ≡ p
+pub when_in_plan : (p q : Bool) → (p ≡ true → q ≡ true) → (p && q) ≡ p
 when_in_plan true q h = h refl
 when_in_plan false q h = refl
 
--- after the last tick the entries are a tick run
-pub is_tick_run : (s : Shape) (c : Clock) (slots : List Slot) (n : ℕ) (xs : List Entry) → n ≡ last_tick c + 1 → RunsTo s c (3 * n) n n n xs → map (λ p. p.fate) (posts_of xs) ≡ fates_after slots [] (posts_of xs) → IsTickRun s c slots xs
-is_tick_run s c slots n xs whole run fates =
-    let ticks : All (λ e. e.tick < n) xs = earlier_ticks n xs run.before in
-    let over : (u : ℕ) → n ≤ u → All (λ e. e.tick ≡ u → ⊥) xs = λ u le. All-weaker (λ e. e.tick < n) (λ e. e.tick ≡ u → ⊥) (λ e h is. omega arith) xs ticks in
-    record {
-      ordered = run.ordered;
-      within = All-weaker (λ e. e.tick < n) (λ e. e.tick ≤ last_tick c) (λ e h. omega arith) xs ticks;
-      taken = λ tag u. ⊎_elim (λ below. run.taken tag u below) (λ above. takes-other xs tag u (over u above) ∙ sym (no_copies_late s c (3 * n) n n n xs run tag u (omega arith))) (cases_lt u n);
-      closed = λ g r. run.closed g r ∙ ap (λ b. cond b ((r + c.w1) ∷ []) []) (when_in_plan (in_plan s c g r) (nat_lt (r + c.w1) n)
-          (λ h. let r_in : r < c.rounds = ltb-true r c.rounds (and_parts (nat_lt g (length s.groups)) (nat_lt r c.rounds) h).1 in lt-ltb (r + c.w1) n (omega arith)));
-      ended = λ g r. run.ended g r ∙ ap (λ b. cond b ((r + c.w1 + c.w2) ∷ []) []) (when_in_plan (in_plan s c g r) (nat_lt (r + c.w1 + c.w2) n)
-          (λ h. let r_in : r < c.rounds = ltb-true r c.rounds (and_parts (nat_lt g (length s.groups)) (nat_lt r c.rounds) h).1 in lt-ltb (r + c.w1 + c.w2) n (omega arith)));
-      sent = λ u. ⊎_elim (λ below. run.sent u below) (λ above.
-          sent-other xs u (over u above)
-          ∙ sym (flat_map_same (length s.groups) 0 (due_of s c xs u) (λ g. []) (λ g _ g_in. nothing_due s c xs u (omega arith) (λ tag. takes-other xs tag u (over u above)) g) ∙ nothing (range_with_len 0 (length s.groups)))) (cases_lt u n);
-      fates = fates;
-      others = run.others;
-    }
-
-pub have_delays : (s : Shape) (c : Clock) (m a b d : ℕ) (xs : List Entry) → RunsTo s c m a b d xs → HaveDelays xs
-have_delays s c m a b d xs run =
+pub have_delays : (s : Shape) (c : Clock) (these : List ℕ) (m a b d : ℕ) (xs : List Entry) → RunsTo s c these m a b d xs → HaveDelays xs
+have_delays s c these m a b d xs run =
     All-weaker (λ e. All IsDelay e.fate) (λ e. All (λ d. 0 < d) e.fate) (λ e all. All-weaker IsDelay (λ d. 0 < d) (λ d is. is.0) e.fate all) xs run.delays

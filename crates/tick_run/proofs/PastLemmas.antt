@@ -1,10 +1,10 @@
 -- What later entries leave as it was.
-use Rattle.std.proofs.Common.{◌≡◌, ℕ, ◌+◌, ◌<◌, Bool, true, false, cond, ◌&&◌, List, [], ◌∷◌, ◌++◌, length, map, refl, sym, ap, ◌∙◌, subst, arith}
+use Rattle.std.proofs.Common.{◌≡◌, ℕ, ◌+◌, ◌<◌, Bool, true, false, cond, ◌&&◌, ◌||◌, List, [], ◌∷◌, ◌++◌, length, refl, sym, ap, ◌∙◌, subst, arith}
 use Rattle.std.specs.Prelude.{◌==◌, nat_lt, nat_le, if◌then◌else◌}
 use mathlib.Core.List.{reverse_aux, reverse}
 use mathlib.Core.Path.{fun_ext}
-use Rattle.std.specs.List.{count_by, filter, flat_map, range_with_len}
-use Rattle.std.proofs.lemmas.Bool.{and_from, and_parts, eqb-true}
+use Rattle.std.specs.List.{count_by, filter, flat_map, range_with_len, list_any}
+use Rattle.std.proofs.lemmas.Bool.{and_from, and_parts, or_left, eqb-true, eq-eqb}
 use Rattle.std.proofs.lemmas.List.{map-append}
 use Rattle.std.proofs.lemmas.List.Sums.{sum_by-cons, sum_by-append}
 use Rattle.group_plan.specs.declared.Kind.{Kind}
@@ -13,10 +13,8 @@ use Rattle.group_plan.specs.declared.Tag.{Tag}
 use Rattle.transcript_log.specs.declared.Event.{Event}
 use Rattle.transcript_log.specs.declared.Event.TheVariants.{Send, Take, Close, End}
 use Rattle.transcript_log.specs.declared.Entry.{Entry}
-use Rattle.transcript_log.specs.declared.Line.{Line}
 use Rattle.transcript_log.specs.Events.{is_take, event_of, events_of}
 use Rattle.transcript_log.specs.Schedule.{Shape, is_closed, is_sent, is_announced, reaches_floor, survivors, members_of, floor_of, is_announcement_sent, is_announcement_taken}
-use Rattle.transcript_log.specs.Journal.{past_of}
 use Rattle.transcript_log.proofs.ScheduleLemmas.{after, after-keeps, after-reverse_aux, once-more, once-now, is_closed-more, is_announced-more, survivors-after, missing-after}
 use Rattle.transcript_log.proofs.ListLemmas.{flat_map_same}
 use Rattle.run_rows.specs.Ticks.{Clock, tag_of, tags, takes_at, due_of}
@@ -103,12 +101,6 @@ sets-after s p rest = record {
 pub sets-append : (s : Shape) (xs ys : List Entry) → KeepSets s (past_of_entries xs) (past_of_entries (xs ++ ys))
 sets-append s xs ys = subst (KeepSets s (past_of_entries xs)) (sym (past-append xs ys)) (sets-after s (past_of_entries xs) (events_of ys))
 
-pub sets-lines : (s : Shape) (journal added : List Line) → KeepSets s (past_of journal) (past_of (journal ++ added))
-sets-lines s journal added =
-    subst (KeepSets s (past_of journal))
-    (sym (ap reverse (map-append event_of journal added) ∙ reverse_aux-append (map event_of journal) (map event_of added) [] ∙ sym (after-reverse_aux (past_of journal) (map event_of added))))
-    (sets-after s (past_of journal) (map event_of added))
-
 -- ---- what is due
 
 pub takes-append : (xs ys : List Entry) (tag : Tag) (u : ℕ) → takes_at (xs ++ ys) tag u ≡ takes_at xs tag u + takes_at ys tag u
@@ -155,9 +147,20 @@ due_of_stays s c xs ys u g none closed =
     ap (λ l. (firsts ++ l) ++ flat_map (answers_part s (xs ++ ys) u g) rounds) same_announced
     ∙ ap (λ l. (firsts ++ flat_map (announced_part s c xs u g) rounds) ++ l) same_answers
 
+-- functions that are alike on these groups
+pub flat_map_these : {X : Type 0} (these : List ℕ) (f h : ℕ → List X) → ((g : ℕ) → list_any (λ k. k == g) these ≡ true → f g ≡ h g) → flat_map f these ≡ flat_map h these
+flat_map_these [] f h same = refl
+flat_map_these (k ∷ these) f h same =
+    ap (λ l. l ++ flat_map f these) (same k (or_left (k == k) (list_any (λ j. j == k) these) (eq-eqb k k refl)))
+    ∙ ap (λ l. h k ++ l) (flat_map_these these f h (λ g inside. same g (or_right (k == g) (list_any (λ j. j == g) these) inside)))
+  where
+    or_right : (a b : Bool) → b ≡ true → (a || b) ≡ true
+    or_right true b is = refl
+    or_right false b is = is
+
 -- later entries that take nothing at a tick leave what is due then, once its rounds are closed
-pub due-stays : (s : Shape) (c : Clock) (xs ys : List Entry) (u : ℕ) → ((tag : Tag) → takes_at ys tag u ≡ 0)
-    → ((g r : ℕ) → g < length s.groups → r < c.rounds → r + c.w1 ≡ u → is_closed g r (past_of_entries xs) ≡ true)
-    → flat_map (due_of s c (xs ++ ys) u) (range_with_len 0 (length s.groups)) ≡ flat_map (due_of s c xs u) (range_with_len 0 (length s.groups))
-due-stays s c xs ys u none closed =
-    flat_map_same (length s.groups) 0 (due_of s c (xs ++ ys) u) (due_of s c xs u) (λ g _ g_in. due_of_stays s c xs ys u g none (λ r. closed g r (omega arith)))
+pub due-stays : (s : Shape) (c : Clock) (these : List ℕ) (xs ys : List Entry) (u : ℕ) → ((tag : Tag) → takes_at ys tag u ≡ 0)
+    → ((g r : ℕ) → list_any (λ h. h == g) these ≡ true → r < c.rounds → r + c.w1 ≡ u → is_closed g r (past_of_entries xs) ≡ true)
+    → flat_map (due_of s c (xs ++ ys) u) these ≡ flat_map (due_of s c xs u) these
+due-stays s c these xs ys u none closed =
+    flat_map_these these (due_of s c (xs ++ ys) u) (due_of s c xs u) (λ g inside. due_of_stays s c xs ys u g none (λ r. closed g r inside))

@@ -32,12 +32,14 @@ past_of-append xs ys =
     ∙ reverse_aux-append (map event_of xs) (map event_of ys) []
     ∙ sym (after-reverse_aux (past_of xs) (map event_of ys))
 
-frame_later : (s : Shape) (w : Contents) (tag : Tag) (f : Frame) (xs ys : List Line) → frame s w tag (past_of xs) ≡ Some f → frame s w tag (past_of (xs ++ ys)) ≡ Some f
+-- a frame of its tag stays so
+pub frame_later : (s : Shape) (w : Contents) (tag : Tag) (f : Frame) (xs ys : List Line) → frame s w tag (past_of xs) ≡ Some f → frame s w tag (past_of (xs ++ ys)) ≡ Some f
 frame_later s w tag f xs ys is =
     subst (λ p. frame s w tag p ≡ Some f) (sym (past_of-append xs ys))
     (after-keeps (λ p. frame s w tag p ≡ Some f) (frame_more s w tag f) (past_of xs) (map event_of ys) is)
 
-next : (s : Shape) (w : Contents) (journal : List Line) (l : Line) (rest : List Line) → HasFramesOf s w journal (l ∷ rest) → HasFramesOf s w (journal ++ l ∷ []) rest
+-- behind a line
+pub next : (s : Shape) (w : Contents) (journal : List Line) (l : Line) (rest : List Line) → HasFramesOf s w journal (l ∷ rest) → HasFramesOf s w (journal ++ l ∷ []) rest
 next s w journal (SendLine tag f) rest has = has.1
 next s w journal (TakeLine tag v) rest has = has
 next s w journal (CloseLine g r v) rest has = has

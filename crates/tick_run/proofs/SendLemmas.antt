@@ -1,7 +1,7 @@
 -- How a run goes on by one Send, and from tick to tick.
-use Rattle.std.proofs.Common.{◌≡◌, ℕ, ◌+◌, ◌*◌, ◌<◌, ◌≤◌, Bool, true, false, cond, ◌&&◌, List, [], ◌∷◌, ◌++◌, length, refl, sym, ap, ◌∙◌, subst, append-nil, arith, ⊎_elim}
+use Rattle.std.proofs.Common.{◌≡◌, ℕ, ◌+◌, ◌*◌, ◌<◌, ◌≤◌, Bool, true, false, cond, ◌&&◌, List, [], ◌∷◌, ◌++◌, refl, sym, ap, ◌∙◌, subst, append-nil, arith, ⊎_elim}
 use Rattle.std.specs.Prelude.{◌==◌, nat_lt, Option}
-use Rattle.std.specs.List.{sum_by, count_by, flat_map, range_with_len, All}
+use Rattle.std.specs.List.{sum_by, count_by, flat_map, All}
 use Rattle.std.proofs.lemmas.Bool.{and_from, ne_eqb, cases_lt}
 use Rattle.std.proofs.lemmas.Bool.Decides.{nat_tests}
 use Rattle.std.proofs.lemmas.List.Elements.{All-weaker, All-nil, All-cons, All-push}
@@ -17,16 +17,16 @@ use Rattle.transcript_log.specs.Events.{is_send, is_close, is_end, event_of}
 use Rattle.transcript_log.specs.Schedule.{Shape, is_sent, may_send}
 use Rattle.transcript_log.proofs.EventLemmas.{is_send-itself}
 use Rattle.transcript_log.proofs.ScheduleLemmas.{after, once-now}
-use Rattle.run_rows.specs.Ticks.{Clock, in_plan, phase, moment, tag_of, takes_at, copies, tags_of, sent_at, due_of, posts_of}
-use Rattle.tick_run.specs.Progress.{IsDelay, IsInTime, HadEffect, past_of_entries, RunsTo, sending}
+use Rattle.run_rows.specs.Ticks.{Clock, phase, moment, tag_of, takes_at, copies, tags_of, sent_at, due_of, posts_of}
+use Rattle.tick_run.specs.Progress.{IsDelay, IsInTime, HadEffect, past_of_entries, is_round_of, RunsTo, sending}
 use Rattle.tick_run.proofs.OrderLemmas.{ordered-append}
 use Rattle.tick_run.proofs.PastLemmas.{past-append, had_effect-append, taken-append, takes-append, due-stays}
 use Rattle.tick_run.proofs.BatchLemmas.{sum_none, takes-none, sent-append, posts-append, stands-none}
 use Rattle.tick_run.proofs.StepLemmas.{closed_of_run}
 
 -- a later moment bounds the entries too
-pub run_later : (s : Shape) (c : Clock) (m n a b d : ℕ) (xs : List Entry) → m ≤ n → RunsTo s c m a b d xs → RunsTo s c n a b d xs
-run_later s c m n a b d xs le run =
+pub run_later : (s : Shape) (c : Clock) (these : List ℕ) (m n a b d : ℕ) (xs : List Entry) → m ≤ n → RunsTo s c these m a b d xs → RunsTo s c these n a b d xs
+run_later s c these m n a b d xs le run =
     record {
       ordered = run.ordered;
       before = All-weaker (λ e. moment e < m) (λ e. moment e < n) (λ e h. omega arith) xs run.before;
@@ -56,7 +56,7 @@ push_past : (xs : List Entry) (x : Entry) → past_of_entries (xs ++ x ∷ []) �
 unfolding after
 push_past xs x = past-append xs (x ∷ [])
 
-module _ (s : Shape) (c : Clock) (t : ℕ) (xs : List Entry) (tag : Tag) (frame : Option Frame) (fate : List ℕ) (run : RunsTo s c (3 * t + 3) (t + 1) (t + 1) t xs) where
+module _ (s : Shape) (c : Clock) (these : List ℕ) (t : ℕ) (xs : List Entry) (tag : Tag) (frame : Option Frame) (fate : List ℕ) (run : RunsTo s c these (3 * t + 3) (t + 1) (t + 1) t xs) where
   x : Entry
   x = sending t tag frame fate
 
@@ -94,16 +94,16 @@ module _ (s : Shape) (c : Clock) (t : ℕ) (xs : List Entry) (tag : Tag) (frame 
 
   -- one more Send of the tick, with effect
   pub send_step : All IsDelay fate → IsInTime s c t (Send tag) → may_send s tag.kind tag.group tag.round tag.meter (past_of_entries xs) ≡ true
-      → RunsTo s c (3 * t + 3) (t + 1) (t + 1) t (xs ++ sending t tag frame fate ∷ [])
+      → RunsTo s c these (3 * t + 3) (t + 1) (t + 1) t (xs ++ sending t tag frame fate ∷ [])
   unfolding x
   send_step delays in_time may = record {
     ordered = ordered-append (3 * t + 2) xs (x ∷ []) run.ordered (All-weaker (λ e. moment e < 3 * t + 3) (λ e. moment e < 3 * t + 2 + 1) (λ e h. omega arith) xs run.before) one_moment;
     before = All-push (λ e. moment e < 3 * t + 3) xs x run.before (omega arith);
     taken = λ z u lt. omega (arith, takes-append xs (x ∷ []) z u, no_takes z u, run.taken z u lt, no_copies_now delays z u lt);
-    closed = λ g r. stands-none (is_close g r) (in_plan s c g r && nat_lt (r + c.w1) (t + 1)) (r + c.w1) xs (x ∷ []) (run.closed g r) (All-cons (λ e. is_close g r (event_of e.line) ≡ false) x [] refl (All-nil (λ e. is_close g r (event_of e.line) ≡ false)));
-    ended = λ g r. stands-none (is_end g r) (in_plan s c g r && nat_lt (r + c.w1 + c.w2) (t + 1)) (r + c.w1 + c.w2) xs (x ∷ []) (run.ended g r) (All-cons (λ e. is_end g r (event_of e.line) ≡ false) x [] refl (All-nil (λ e. is_end g r (event_of e.line) ≡ false)));
+    closed = λ g r. stands-none (is_close g r) (is_round_of these c g r && nat_lt (r + c.w1) (t + 1)) (r + c.w1) xs (x ∷ []) (run.closed g r) (All-cons (λ e. is_close g r (event_of e.line) ≡ false) x [] refl (All-nil (λ e. is_close g r (event_of e.line) ≡ false)));
+    ended = λ g r. stands-none (is_end g r) (is_round_of these c g r && nat_lt (r + c.w1 + c.w2) (t + 1)) (r + c.w1 + c.w2) xs (x ∷ []) (run.ended g r) (All-cons (λ e. is_end g r (event_of e.line) ≡ false) x [] refl (All-nil (λ e. is_end g r (event_of e.line) ≡ false)));
     sent = λ u lt. sent_before u lt ∙ run.sent u lt
-        ∙ sym (due-stays s c xs (x ∷ []) u (λ z. no_takes z u) (λ g r g_in r_in at. closed_of_run s c (3 * t + 3) (t + 1) (t + 1) t xs run g r g_in r_in (omega arith)));
+        ∙ sym (due-stays s c these xs (x ∷ []) u (λ z. no_takes z u) (λ g r g_in r_in at. closed_of_run s c these (3 * t + 3) (t + 1) (t + 1) t xs run g r g_in r_in (omega arith)));
     others = All-push (λ e. tags_of (event_of e.line) ≡ [] → e.fate ≡ []) xs x run.others (λ none. absurd (cc none));
     delays = All-push (λ e. All IsDelay e.fate) xs x run.delays delays;
     in_time = All-push (λ e. IsInTime s c e.tick (event_of e.line)) xs x run.in_time in_time;
@@ -120,21 +120,21 @@ module _ (s : Shape) (c : Clock) (t : ℕ) (xs : List Entry) (tag : Tag) (frame 
       same a = grind (arith, nat_tests)
 
   -- what is due at the tick stays
-  pub due_step : flat_map (due_of s c (xs ++ sending t tag frame fate ∷ []) t) (range_with_len 0 (length s.groups)) ≡ flat_map (due_of s c xs t) (range_with_len 0 (length s.groups))
+  pub due_step : flat_map (due_of s c (xs ++ sending t tag frame fate ∷ []) t) these ≡ flat_map (due_of s c xs t) these
   unfolding x
-  due_step = due-stays s c xs (x ∷ []) t (λ z. no_takes z t) (λ g r g_in r_in at. closed_of_run s c (3 * t + 3) (t + 1) (t + 1) t xs run g r g_in r_in (omega arith))
+  due_step = due-stays s c these xs (x ∷ []) t (λ z. no_takes z t) (λ g r g_in r_in at. closed_of_run s c these (3 * t + 3) (t + 1) (t + 1) t xs run g r g_in r_in (omega arith))
 
 -- a tick is over once all that was due is sent
-pub tick_over : (s : Shape) (c : Clock) (t : ℕ) (xs : List Entry) → RunsTo s c (3 * t + 3) (t + 1) (t + 1) t xs
-    → sent_at xs t ≡ flat_map (due_of s c xs t) (range_with_len 0 (length s.groups)) → RunsTo s c (3 * (t + 1)) (t + 1) (t + 1) (t + 1) xs
-tick_over s c t xs run all =
+pub tick_over : (s : Shape) (c : Clock) (these : List ℕ) (t : ℕ) (xs : List Entry) → RunsTo s c these (3 * t + 3) (t + 1) (t + 1) t xs
+    → sent_at xs t ≡ flat_map (due_of s c xs t) these → RunsTo s c these (3 * (t + 1)) (t + 1) (t + 1) (t + 1) xs
+tick_over s c these t xs run all =
     record {
       ordered = run.ordered;
       before = All-weaker (λ e. moment e < 3 * t + 3) (λ e. moment e < 3 * (t + 1)) (λ e h. omega arith) xs run.before;
       taken = run.taken;
       closed = run.closed;
       ended = run.ended;
-      sent = λ u lt. ⊎_elim (λ before. run.sent u before) (λ now. let is : u ≡ t = omega arith in subst (λ v. sent_at xs v ≡ flat_map (due_of s c xs v) (range_with_len 0 (length s.groups))) (sym is) all) (cases_lt u t);
+      sent = λ u lt. ⊎_elim (λ before. run.sent u before) (λ now. let is : u ≡ t = omega arith in subst (λ v. sent_at xs v ≡ flat_map (due_of s c xs v) these) (sym is) all) (cases_lt u t);
       others = run.others;
       delays = run.delays;
       in_time = run.in_time;
@@ -143,13 +143,13 @@ tick_over s c t xs run all =
     }
 
 -- before the first tick
-pub at_start : (s : Shape) (c : Clock) → RunsTo s c 0 0 0 0 []
-at_start s c = record {
+pub at_start : (s : Shape) (c : Clock) (these : List ℕ) → RunsTo s c these 0 0 0 0 []
+at_start s c these = record {
   ordered = tt;
   before = All-nil (λ e. moment e < 0);
   taken = λ tag u lt. absurd (omega arith);
-  closed = λ g r. ap (λ b. cond b ((r + c.w1) ∷ []) []) (sym (off (in_plan s c g r) (nat_lt (r + c.w1) 0) (none (r + c.w1))));
-  ended = λ g r. ap (λ b. cond b ((r + c.w1 + c.w2) ∷ []) []) (sym (off (in_plan s c g r) (nat_lt (r + c.w1 + c.w2) 0) (none (r + c.w1 + c.w2))));
+  closed = λ g r. ap (λ b. cond b ((r + c.w1) ∷ []) []) (sym (off (is_round_of these c g r) (nat_lt (r + c.w1) 0) (none (r + c.w1))));
+  ended = λ g r. ap (λ b. cond b ((r + c.w1 + c.w2) ∷ []) []) (sym (off (is_round_of these c g r) (nat_lt (r + c.w1 + c.w2) 0) (none (r + c.w1 + c.w2))));
   sent = λ u lt. absurd (omega arith);
   others = All-nil (λ e. tags_of (event_of e.line) ≡ [] → e.fate ≡ []);
   delays = All-nil (λ e. All IsDelay e.fate);

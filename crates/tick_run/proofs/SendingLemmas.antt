@@ -1,11 +1,9 @@
 -- How a run goes on by Sends, with the fates that the lanes give.
-use Rattle.std.proofs.Common.{◌≡◌, ℕ, ◌+◌, true, ◌&&◌, List, [], ◌∷◌, ◌++◌, map, refl, sym, ap, ◌∙◌, subst, append_assoc, append-nil, arith}
-use Rattle.std.specs.Prelude.{nat_lt, Some}
+use Rattle.std.proofs.Common.{◌≡◌, ℕ, ◌+◌, List, [], ◌∷◌, ◌++◌, map, refl, sym, ap, ◌∙◌, append_assoc, append-nil, arith}
+use Rattle.std.specs.Prelude.{Some}
 use Rattle.std.specs.List.{filter, All}
-use Rattle.std.proofs.lemmas.Bool.{and_from, lt-ltb}
 use Rattle.std.proofs.lemmas.List.{map-append}
 use Rattle.missing_round.specs.Masks.{Masks}
-use Rattle.group_plan.specs.Plans.{size}
 use Rattle.group_plan.specs.Tables.{ReadingsView}
 use Rattle.group_plan.specs.declared.Tag.{Tag}
 use Rattle.link_lanes.specs.declared.Post.{Post}
@@ -13,72 +11,39 @@ use Rattle.link_lanes.specs.Lanes.{Slot, after_post, after_posts, lasts, fates_a
 use Rattle.lossy_link.specs.Arrivals.{Arrival, posted}
 use Rattle.meter_frames.specs.declared.Frame.{Frame}
 use Rattle.meter_frames.specs.Frames.{spelling, IsFrame}
-use Rattle.transcript_log.specs.declared.Event.TheVariants.{Send}
 use Rattle.transcript_log.specs.declared.Line.TheVariants.{Send as SendLine}
 use Rattle.transcript_log.specs.declared.Entry.{Entry}
-use Rattle.transcript_log.specs.Schedule.{Shape, shape_of_presence}
-use Rattle.transcript_log.specs.Transcript.{Contents, frame}
-use Rattle.transcript_log.specs.Journal.{past_of, core_line, HasFramesOf}
+use Rattle.transcript_log.specs.Schedule.{Shape}
+use Rattle.transcript_log.specs.Transcript.{Contents}
 use Rattle.run_rows.specs.Ticks.{Clock, clock_of, sent_at}
 use Rattle.transcript_log.specs.Transcripts.{TranscriptView}
-use Rattle.group_book.specs.declared.answers.SendAnswer.{SendAnswer}
-use Rattle.group_book.specs.Books.{BookView, shape_of, past, knows, SendEnds}
+use Rattle.group_book.specs.Books.{BookView}
 use Rattle.tick_run.specs.Progress.{IsDelay, past_of_entries, sending}
 use Rattle.tick_run.specs.TickFrames.{IsDue}
-use Rattle.tick_run.specs.Running.{Stage, sending_at, run_contents, IsRunning}
+use Rattle.tick_run.specs.Running.{sending_at, run_contents, AreRunning}
 use Rattle.plan_meters.specs.TickFrames.{run_shape}
-use Rattle.tick_run.specs.Sending.{WritesOne, fate_by, post_by, KeepsFates, KeptFates, SendsOn, GoesOn}
+use Rattle.tick_run.specs.Sending.{fate_by, post_by, KeepsFates, KeptFates, SendsOn, GoesOn}
 use Rattle.tick_run.proofs.BatchLemmas.{fates-push}
 use Rattle.tick_run.proofs.SendLemmas.{sent_step, due_step, posts-push}
 use Rattle.tick_run.proofs.PastLemmas.{sets-append}
-use Rattle.tick_run.proofs.FrameSteps.{may_of_frame, frame-append, past_of-lines}
+use Rattle.tick_run.proofs.FrameSteps.{frame-append}
 use Rattle.tick_run.proofs.LaneLemmas.{lanes-fate, lanes-posted, lanes-retired}
-use Rattle.tick_run.proofs.PostedLemmas.{sent-only, sent-line}
 use Rattle.tick_run.proofs.StateLemmas.{sends}
 
--- a book with the same presence and lines
-pub running-same : (readings : ReadingsView) (m : Masks) (at : Stage) (book other : BookView) (script : TranscriptView) (waiting : List Arrival) → other.presence ≡ book.presence → other.journal ≡ book.journal
-    → IsRunning readings m at book script waiting → IsRunning readings m at other script waiting
-running-same readings m at book other script waiting presence journal is = record {
-  run = is.run;
-  presence = presence ∙ is.presence;
-  plan = is.plan;
-  journal = journal ∙ is.journal;
-  frames = is.frames;
-  link = is.link;
-}
-
--- the book adds the line of a frame that is due
-pub adds-due : (readings : ReadingsView) (m : Masks) (t : ℕ) (book after : BookView) (script : TranscriptView) (waiting : List Arrival) (f : Frame) (answer : SendAnswer)
-    → IsRunning readings m (sending_at t) book script waiting → IsDue (run_shape readings) (clock_of readings.plan) (run_contents readings m) (past_of_entries script.entries) t f
-    → SendEnds book f answer after → (after.presence ≡ book.presence) × (after.journal ≡ book.journal ++ SendLine f.tag (Some f) ∷ [])
-adds-due readings m t book after script waiting f answer is due ended =
-    let s : Shape = run_shape readings in
-    let w : Contents = run_contents readings m in
-    let shape : shape_of book ≡ s = ap shape_of_presence is.presence in
-    let has : HasFramesOf s w [] book.journal = subst (HasFramesOf s w []) (sym is.journal) is.frames in
-    let pasts : past book ≡ past_of_entries script.entries = ap past_of is.journal ∙ past_of-lines script.entries in
-    let here : frame s w f.tag (past book) ≡ Some f = ap (frame s w f.tag) pasts ∙ due.is in
-    let known : knows book f.tag ≡ true = ap (λ p. nat_lt f.tag.round p.plan.rounds && nat_lt f.tag.meter (size p.plan.groups f.tag.group)) is.presence
-    ∙ and_from (nat_lt f.tag.round readings.plan.rounds) (nat_lt f.tag.meter (size readings.plan.groups f.tag.group)) (lt-ltb f.tag.round readings.plan.rounds due.in_time.round) (lt-ltb f.tag.meter (size readings.plan.groups f.tag.group) due.in_time.meter) in
-    let sent = sent-only book after s w f answer shape has here known ended in
-    (sent.1.presence, sent.1.journal ∙ ap (λ l. book.journal ++ l ∷ []) (ap (λ z. core_line z book.journal (Send f.tag) (Some f)) shape ∙ sent-line s book.journal f (may_of_frame s w f.tag f (past book) here)))
-
--- the run goes on by one frame
-pub goes-one : (readings : ReadingsView) (m : Masks) (t : ℕ) (book after : BookView) (script : TranscriptView) (waiting : List Arrival) (f : Frame) (fate : List ℕ)
-    → IsRunning readings m (sending_at t) book script waiting → IsDue (run_shape readings) (clock_of readings.plan) (run_contents readings m) (past_of_entries script.entries) t f
-    → WritesOne f book after → IsFrame f → All IsDelay fate
-    → GoesOn readings m t (f ∷ []) script after (record script { entries = script.entries ++ sending t f.tag (Some f) fate ∷ [] }) (posted t (spelling f) fate waiting)
-goes-one readings m t book after script waiting f fate is due wrote framed delays =
-    let adds = adds-due readings m t book after script waiting f wrote.answer is due wrote.ends in
+-- the run goes on by one frame, whose line the book adds
+pub goes-by : (readings : ReadingsView) (m : Masks) (these : List ℕ) (t : ℕ) (book after : BookView) (script : TranscriptView) (waiting : List Arrival) (f : Frame) (fate : List ℕ)
+    → AreRunning readings m these (sending_at t) book script waiting → IsDue (run_shape readings) (clock_of readings.plan) (run_contents readings m) (past_of_entries script.entries) t f
+    → IsFrame f → All IsDelay fate → after.presence ≡ book.presence → after.journal ≡ book.journal ++ SendLine f.tag (Some f) ∷ []
+    → GoesOn readings m these t (f ∷ []) script after (record script { entries = script.entries ++ sending t f.tag (Some f) fate ∷ [] }) (posted t (spelling f) fate waiting)
+goes-by readings m these t book after script waiting f fate is due framed delays presence journal =
     let s : Shape = run_shape readings in
     let c : Clock = clock_of readings.plan in
     let w : Contents = run_contents readings m in
     record {
-      running = sends readings m t book after script (record script { entries = script.entries ++ sending t f.tag (Some f) fate ∷ [] }) waiting (posted t (spelling f) fate waiting) f fate is due framed delays adds.0 adds.1 refl refl;
+      running = sends readings m these t book after script (record script { entries = script.entries ++ sending t f.tag (Some f) fate ∷ [] }) waiting (posted t (spelling f) fate waiting) f fate is due framed delays presence journal refl refl;
       on = record {
-        sent = sent_step s c t script.entries f.tag (Some f) fate is.run;
-        due = due_step s c t script.entries f.tag (Some f) fate is.run;
+        sent = sent_step s c these t script.entries f.tag (Some f) fate is.run;
+        due = due_step s c these t script.entries f.tag (Some f) fate is.run;
         still = λ g is_due. record {
           is = frame-append s w g.tag g script.entries (sending t f.tag (Some f) fate ∷ []) is_due.is;
           in_time = is_due.in_time;
@@ -89,11 +54,11 @@ goes-one readings m t book after script waiting f fate is due wrote framed delay
       };
     }
 
-pub sends_on-none : (readings : ReadingsView) (m : Masks) (t : ℕ) (xs : List Entry) → SendsOn readings m t [] xs xs
-sends_on-none readings m t xs = record { sent = sym (append-nil (sent_at xs t)); due = refl; still = λ f is. is; sets = record { sets = λ g r announced. (announced, refl); taken = λ g r i told. told } }
+pub sends_on-none : (readings : ReadingsView) (m : Masks) (these : List ℕ) (t : ℕ) (xs : List Entry) → SendsOn readings m these t [] xs xs
+sends_on-none readings m these t xs = record { sent = sym (append-nil (sent_at xs t)); due = refl; still = λ f is. is; sets = record { sets = λ g r announced. (announced, refl); taken = λ g r i told. told } }
 
-pub sends_on-more : (readings : ReadingsView) (m : Masks) (t : ℕ) (zs ts : List Tag) (xs ys ws : List Entry) → SendsOn readings m t zs xs ys → SendsOn readings m t ts ys ws → SendsOn readings m t (zs ++ ts) xs ws
-sends_on-more readings m t zs ts xs ys ws a b = record {
+pub sends_on-more : (readings : ReadingsView) (m : Masks) (these : List ℕ) (t : ℕ) (zs ts : List Tag) (xs ys ws : List Entry) → SendsOn readings m these t zs xs ys → SendsOn readings m these t ts ys ws → SendsOn readings m these t (zs ++ ts) xs ws
+sends_on-more readings m these t zs ts xs ys ws a b = record {
   sent = b.sent ∙ ap (λ l. l ++ ts) a.sent ∙ append_assoc (sent_at xs t) zs ts;
   due = b.due ∙ a.due;
   still = λ f is. b.still f (a.still f is);

@@ -1,7 +1,7 @@
 -- How a run goes on, stage by stage.
-use Rattle.std.proofs.Common.{◌≡◌, ℕ, zero, suc, ◌+◌, ◌-◌, ◌*◌, ◌<◌, Bool, true, false, cond, not, ◌||◌, List, [], ◌∷◌, ◌++◌, length, map, refl, sym, ap, ◌∙◌, subst, arith}
+use Rattle.std.proofs.Common.{◌≡◌, ℕ, ◌+◌, ◌-◌, ◌*◌, ◌<◌, Bool, true, false, cond, not, List, [], ◌∷◌, ◌++◌, map, refl, sym, ap, ◌∙◌, subst, arith}
 use Rattle.std.specs.Prelude.{◌==◌, nat_lt, if◌then◌else◌, Some}
-use Rattle.std.specs.List.{count_by, flat_map, range_with_len, list_any, All}
+use Rattle.std.specs.List.{count_by, flat_map, All}
 use Rattle.std.proofs.lemmas.Bool.{ltb-true}
 use Rattle.std.proofs.lemmas.Bool.Decides.{nat_tests}
 use Rattle.std.proofs.lemmas.List.{map-append}
@@ -32,7 +32,7 @@ use Rattle.tick_run.specs.OnTheWay.{is_copy, IsOfSend}
 use Rattle.tick_run.specs.Progress.{IsDelay, RunsTo, IsBatch, past_of_entries, sending}
 use Rattle.plan_meters.specs.TickFrames.{was_taken, AreHeard, run_shape}
 use Rattle.tick_run.specs.TickFrames.{due_after, IsDue}
-use Rattle.tick_run.specs.Running.{Stage, starting, emptied, taken, closed, sending_at, run_contents, IsRunning, quiet, AreCopiesDue, HaveCome, KeepCopies, HaveEvents, is_due, calls_of, calls_due}
+use Rattle.tick_run.specs.Running.{Stage, starting, emptied, taken, closed, sending_at, run_contents, AreRunning, quiet, AreCopiesDue, HaveCome, KeepCopies, HaveEvents, is_due, calls_of, calls_due}
 use Rattle.tick_run.proofs.LinkLemmas.{count-posted, count-due, count-elsewhere, all-posted, all-due, all-elsewhere}
 use Rattle.plan_meters.proofs.SpellingLemmas.{frame_in-spelling}
 use Rattle.tick_run.proofs.SpellingLemmas.{of_send-append, of_send-push}
@@ -43,15 +43,15 @@ use Rattle.tick_run.proofs.SendLemmas.{at_start, run_later, send_step, tick_over
 use Rattle.tick_run.proofs.EndLemmas.{announcement_round, announcement_later}
 use Rattle.tick_run.proofs.FrameSteps.{may_of_frame, has_frames-append, has_frames-silent, past_of-lines}
 use Rattle.tick_run.proofs.DueLemmas.{due-taken}
-use Rattle.tick_run.proofs.CallLemmas.{closes-due, ends-due}
+use Rattle.tick_run.proofs.CallLemmas.{AreOnce, some-counted, closes-due, ends-due}
 
 -- ---- the first tick
 
 -- nothing is sent yet
-pub starts : (readings : ReadingsView) (m : Masks) (book : BookView) → book.presence ≡ presence_of readings → book.journal ≡ []
-    → IsRunning readings m (starting 0) book (no_entries readings.plan) []
-starts readings m book presence journal = record {
-  run = at_start (run_shape readings) (clock_of readings.plan);
+pub starts : (readings : ReadingsView) (m : Masks) (these : List ℕ) (book : BookView) → book.presence ≡ presence_of readings → book.journal ≡ []
+    → AreRunning readings m these (starting 0) book (no_entries readings.plan) []
+starts readings m these book presence journal = record {
+  run = at_start (run_shape readings) (clock_of readings.plan) these;
   presence = presence;
   plan = refl;
   journal = journal;
@@ -61,9 +61,9 @@ starts readings m book presence journal = record {
 
 -- ---- the copies of a tick
 
-empties : (readings : ReadingsView) (m : Masks) (t : ℕ) (book : BookView) (script : TranscriptView) (waiting : List Arrival)
-    → IsRunning readings m (starting t) book script waiting → IsRunning readings m (emptied t) book script (due_elsewhere t waiting)
-empties readings m t book script waiting is = record {
+empties : (readings : ReadingsView) (m : Masks) (these : List ℕ) (t : ℕ) (book : BookView) (script : TranscriptView) (waiting : List Arrival)
+    → AreRunning readings m these (starting t) book script waiting → AreRunning readings m these (emptied t) book script (due_elsewhere t waiting)
+empties readings m these t book script waiting is = record {
   run = is.run;
   presence = is.presence;
   plan = is.plan;
@@ -75,17 +75,17 @@ empties readings m t book script waiting is = record {
   };
 }
 
-copies-due : (readings : ReadingsView) (m : Masks) (t : ℕ) (book : BookView) (script : TranscriptView) (waiting : List Arrival)
-    → IsRunning readings m (starting t) book script waiting → AreCopiesDue t script.entries (tags_of (frames_in (due_at t waiting)))
-copies-due readings m t book script waiting is z = count-due z t waiting ∙ is.link.counts z t (omega arith)
+copies-due : (readings : ReadingsView) (m : Masks) (these : List ℕ) (t : ℕ) (book : BookView) (script : TranscriptView) (waiting : List Arrival)
+    → AreRunning readings m these (starting t) book script waiting → AreCopiesDue t script.entries (tags_of (frames_in (due_at t waiting)))
+copies-due readings m these t book script waiting is z = count-due z t waiting ∙ is.link.counts z t (omega arith)
 
 -- with the copies off the link, the run goes on, and these are the copies that came in
-pub emptied-of : (readings : ReadingsView) (m : Masks) (t : ℕ) (book : BookView) (script : TranscriptView) (waiting left : List Arrival) (came : List (List ℕ))
-    → IsRunning readings m (starting t) book script waiting → left ≡ due_elsewhere t waiting → came ≡ due_at t waiting → IsRunning readings m (emptied t) book script left × HaveCome t script.entries came
-emptied-of readings m t book script waiting left came is off due = (
-  subst (λ (l : List Arrival). IsRunning readings m (emptied t) book script l) (sym off) (empties readings m t book script waiting is),
+pub emptied-of : (readings : ReadingsView) (m : Masks) (these : List ℕ) (t : ℕ) (book : BookView) (script : TranscriptView) (waiting left : List Arrival) (came : List (List ℕ))
+    → AreRunning readings m these (starting t) book script waiting → left ≡ due_elsewhere t waiting → came ≡ due_at t waiting → AreRunning readings m these (emptied t) book script left × HaveCome t script.entries came
+emptied-of readings m these t book script waiting left came is off due = (
+  subst (λ (l : List Arrival). AreRunning readings m these (emptied t) book script l) (sym off) (empties readings m these t book script waiting is),
   subst (λ (l : List (List ℕ)). HaveCome t script.entries l) (sym due) (record {
-    due = copies-due readings m t book script waiting is;
+    due = copies-due readings m these t book script waiting is;
     spelled = all-due (IsOfSend script.entries) t waiting is.link.spelled;
   }),
 )
@@ -149,13 +149,13 @@ count_quiet : (test : Event → Bool) (t : ℕ) (added : List Line) → count_by
 count_quiet test t added = sum_by-map (λ (e : Entry). cond {A = ℕ} (test (event_of e.line)) 1 0) (quiet t) added
 
 -- a batch adds lines and entries, and nothing to the link
-batch_adds : (readings : ReadingsView) (m : Masks) (from to : Stage) (t k : ℕ) (book after : BookView) (script done : TranscriptView) (waiting : List Arrival) (added : List Line)
-    → k < 2 → IsRunning readings m from book script waiting → All (λ l. phase (event_of l) ≡ k) added → to.onward ≡ from.onward
+batch_adds : (readings : ReadingsView) (m : Masks) (these : List ℕ) (from to : Stage) (t k : ℕ) (book after : BookView) (script done : TranscriptView) (waiting : List Arrival) (added : List Line)
+    → k < 2 → AreRunning readings m these from book script waiting → All (λ l. phase (event_of l) ≡ k) added → to.onward ≡ from.onward
     → after.presence ≡ book.presence → after.journal ≡ book.journal ++ added → done ≡ record script { entries = script.entries ++ map (quiet t) added }
-    → RunsTo (run_shape readings) (clock_of readings.plan) to.moment to.takes to.closes to.sends (script.entries ++ map (quiet t) added)
-    → IsRunning readings m to after done waiting
-batch_adds readings m from to t k book after script done waiting added small is phases onward presence journal pushed run =
-    subst (λ d. IsRunning readings m to after d waiting) (sym pushed) (record {
+    → RunsTo (run_shape readings) (clock_of readings.plan) these to.moment to.takes to.closes to.sends (script.entries ++ map (quiet t) added)
+    → AreRunning readings m these to after done waiting
+batch_adds readings m these from to t k book after script done waiting added small is phases onward presence journal pushed run =
+    subst (λ d. AreRunning readings m these to after d waiting) (sym pushed) (record {
       run = run;
       presence = presence ∙ is.presence;
       plan = is.plan;
@@ -177,14 +177,14 @@ pub all_takes : (tags : List Tag) → All (λ e. phase e ≡ 0) (map Take tags)
 all_takes [] = All-nil (λ e. phase e ≡ 0)
 all_takes (z ∷ tags) = All-cons (λ e. phase e ≡ 0) (Take z) (map Take tags) refl (all_takes tags)
 
-pub takes : (readings : ReadingsView) (m : Masks) (t : ℕ) (book after : BookView) (script done : TranscriptView) (waiting : List Arrival) (tags : List Tag) (added : List Line)
-    → IsRunning readings m (emptied t) book script waiting → AreCopiesDue t script.entries tags → HaveEvents (map Take tags) added
+pub takes : (readings : ReadingsView) (m : Masks) (these : List ℕ) (t : ℕ) (book after : BookView) (script done : TranscriptView) (waiting : List Arrival) (tags : List Tag) (added : List Line)
+    → AreRunning readings m these (emptied t) book script waiting → AreCopiesDue t script.entries tags → HaveEvents (map Take tags) added
     → after.presence ≡ book.presence → after.journal ≡ book.journal ++ added → done ≡ record script { entries = script.entries ++ map (quiet t) added }
-    → IsRunning readings m (taken t) after done waiting
-takes readings m t book after script done waiting tags added is due have presence journal pushed =
+    → AreRunning readings m these (taken t) after done waiting
+takes readings m these t book after script done waiting tags added is due have presence journal pushed =
     let phases = phases_added 0 (map Take tags) added have (all_takes tags) in
-    batch_adds readings m (emptied t) (taken t) t 0 book after script done waiting added (omega arith) is phases refl presence journal pushed
-    (takes_step (run_shape readings) (clock_of readings.plan) t script.entries (map (quiet t) added) is.run (batch_of t 0 added phases)
+    batch_adds readings m these (emptied t) (taken t) t 0 book after script done waiting added (omega arith) is phases refl presence journal pushed
+    (takes_step (run_shape readings) (clock_of readings.plan) these t script.entries (map (quiet t) added) is.run (batch_of t 0 added phases)
     (λ z. count_quiet (is_take z.group z.round z.meter z.kind) t added ∙ have (is_take z.group z.round z.meter z.kind)
     ∙ sum_by-map (λ (e : Event). cond {A = ℕ} (is_take z.group z.round z.meter z.kind e) 1 0) Take tags ∙ due z))
 
@@ -198,90 +198,74 @@ pub takes-keep : (t : ℕ) (script done : TranscriptView) (tags : List Tag) (add
 takes-keep t script done tags added have pushed =
     subst (λ d. KeepCopies t script.entries d.entries) (sym pushed) (keeps-copies t 0 t script.entries added (omega arith) (phases_added 0 (map Take tags) added have (all_takes tags)))
 
-some_counted : (p : Tag → Bool) (zs : List Tag) → nat_lt 0 (count_by p zs) ≡ list_any p zs
-some_counted p [] = refl
-some_counted p (y ∷ zs) = ap (nat_lt 0) (sum_by-cons (λ (w : Tag). cond {A = ℕ} (p w) 1 0) y zs) ∙ step (p y) (some_counted p zs)
-  where
-    positive : (n : ℕ) → nat_lt 0 (1 + n) ≡ true
-    positive n = grind (arith, nat_tests)
-
-    plain : (n : ℕ) → nat_lt 0 (0 + n) ≡ nat_lt 0 n
-    plain n = grind (arith, nat_tests)
-
-    step : (b : Bool) → nat_lt 0 (count_by p zs) ≡ list_any p zs → nat_lt 0 (cond {A = ℕ} b 1 0 + count_by p zs) ≡ (b || list_any p zs)
-    step true later = positive (count_by p zs)
-    step false later = plain (count_by p zs) ∙ later
-
 -- the Takes of the tick are the copies that were due
-pub takes-are : (s : Shape) (c : Clock) (m b d t : ℕ) (xs : List Entry) (tags : List Tag) → RunsTo s c m (t + 1) b d xs → AreCopiesDue t xs tags → (z : Tag) → nat_lt 0 (takes_at xs z t) ≡ was_taken tags z
-takes-are s c m b d t xs tags run due z = ap (nat_lt 0) (run.taken z t (omega arith) ∙ sym (due z)) ∙ some_counted (same_tag z) tags
+pub takes-are : (s : Shape) (c : Clock) (these : List ℕ) (m b d t : ℕ) (xs : List Entry) (tags : List Tag) → RunsTo s c these m (t + 1) b d xs → AreCopiesDue t xs tags → (z : Tag) → nat_lt 0 (takes_at xs z t) ≡ was_taken tags z
+takes-are s c these m b d t xs tags run due z = ap (nat_lt 0) (run.taken z t (omega arith) ∙ sym (due z)) ∙ some-counted (same_tag z) tags
 
 -- ---- the Closes and Ends
 
-pub all_calls : (c : Clock) (t a n : ℕ) → All (λ e. phase e ≡ 1) (flat_map (calls_of c t) (range_with_len a n))
-all_calls c t a zero = All-nil (λ e. phase e ≡ 1)
-all_calls c t a (suc n) =
-    All-append (λ e. phase e ≡ 1) (calls_of c t a) (flat_map (calls_of c t) (range_with_len (a + 1) n))
-    (All-append (λ e. phase e ≡ 1) (if is_due c.rounds c.w1 t then Close a (t - c.w1) ∷ [] else []) (if is_due c.rounds (c.w1 + c.w2) t then End a (t - (c.w1 + c.w2)) ∷ [] else [])
-    (one (is_due c.rounds c.w1 t) (Close a (t - c.w1)) refl) (one (is_due c.rounds (c.w1 + c.w2) t) (End a (t - (c.w1 + c.w2))) refl))
-    (all_calls c t (a + 1) n)
+pub all_calls : (c : Clock) (t : ℕ) (these : List ℕ) → All (λ e. phase e ≡ 1) (calls_due c these t)
+all_calls c t [] = All-nil (λ e. phase e ≡ 1)
+all_calls c t (g ∷ these) =
+    All-append (λ e. phase e ≡ 1) (calls_of c t g) (calls_due c these t)
+    (All-append (λ e. phase e ≡ 1) (if is_due c.rounds c.w1 t then Close g (t - c.w1) ∷ [] else []) (if is_due c.rounds (c.w1 + c.w2) t then End g (t - (c.w1 + c.w2)) ∷ [] else [])
+    (one (is_due c.rounds c.w1 t) (Close g (t - c.w1)) refl) (one (is_due c.rounds (c.w1 + c.w2) t) (End g (t - (c.w1 + c.w2))) refl))
+    (all_calls c t these)
   where
     one : (b : Bool) (e : Event) → phase e ≡ 1 → All (λ e. phase e ≡ 1) (if b then e ∷ [] else [])
     one true e is = All-cons (λ e. phase e ≡ 1) e [] is (All-nil (λ e. phase e ≡ 1))
     one false e is = All-nil (λ e. phase e ≡ 1)
 
-pub closes : (readings : ReadingsView) (m : Masks) (t : ℕ) (book after : BookView) (script done : TranscriptView) (waiting : List Arrival) (added : List Line)
-    → IsRunning readings m (taken t) book script waiting → HaveEvents (calls_due (clock_of readings.plan) (length readings.plan.groups) t) added
+pub closes : (readings : ReadingsView) (m : Masks) (these : List ℕ) (t : ℕ) (book after : BookView) (script done : TranscriptView) (waiting : List Arrival) (added : List Line)
+    → AreOnce these → AreRunning readings m these (taken t) book script waiting → HaveEvents (calls_due (clock_of readings.plan) these t) added
     → after.presence ≡ book.presence → after.journal ≡ book.journal ++ added → done ≡ record script { entries = script.entries ++ map (quiet t) added }
-    → IsRunning readings m (closed t) after done waiting
-closes readings m t book after script done waiting added is have presence journal pushed =
+    → AreRunning readings m these (closed t) after done waiting
+closes readings m these t book after script done waiting added once is have presence journal pushed =
     let c : Clock = clock_of readings.plan in
-    let n : ℕ = length readings.plan.groups in
-    let phases = phases_added 1 (calls_due c n t) added have (all_calls c t 0 n) in
-    batch_adds readings m (taken t) (closed t) t 1 book after script done waiting added (omega arith) is phases refl presence journal pushed
-    (closes_step (run_shape readings) c t script.entries (map (quiet t) added) is.run (batch_of t 1 added phases)
-    (λ g r. count_quiet (is_close g r) t added ∙ have (is_close g r) ∙ closes-due c n t g r)
-    (λ g r. count_quiet (is_end g r) t added ∙ have (is_end g r) ∙ ends-due c n t g r))
+    let phases = phases_added 1 (calls_due c these t) added have (all_calls c t these) in
+    batch_adds readings m these (taken t) (closed t) t 1 book after script done waiting added (omega arith) is phases refl presence journal pushed
+    (closes_step (run_shape readings) c these t script.entries (map (quiet t) added) is.run (batch_of t 1 added phases)
+    (λ g r. count_quiet (is_close g r) t added ∙ have (is_close g r) ∙ closes-due c these t g r once)
+    (λ g r. count_quiet (is_end g r) t added ∙ have (is_end g r) ∙ ends-due c these t g r once))
 
-pub closes-keep : (readings : ReadingsView) (t : ℕ) (script done : TranscriptView) (added : List Line) → HaveEvents (calls_due (clock_of readings.plan) (length readings.plan.groups) t) added
+pub closes-keep : (readings : ReadingsView) (these : List ℕ) (t : ℕ) (script done : TranscriptView) (added : List Line) → HaveEvents (calls_due (clock_of readings.plan) these t) added
     → done ≡ record script { entries = script.entries ++ map (quiet t) added } → KeepCopies t script.entries done.entries
-closes-keep readings t script done added have pushed =
+closes-keep readings these t script done added have pushed =
     let c : Clock = clock_of readings.plan in
-    let n : ℕ = length readings.plan.groups in
-    subst (λ d. KeepCopies t script.entries d.entries) (sym pushed) (keeps-copies t 1 t script.entries added (omega arith) (phases_added 1 (calls_due c n t) added have (all_calls c t 0 n)))
+    subst (λ d. KeepCopies t script.entries d.entries) (sym pushed) (keeps-copies t 1 t script.entries added (omega arith) (phases_added 1 (calls_due c these t) added have (all_calls c t these)))
 
 -- ---- the Sends
 
 -- the announcements taken in this tick are heard, once the Takes of the tick are there
-pub hears-taken : (readings : ReadingsView) (moment closes t : ℕ) (xs : List Entry) (tags : List Tag)
-    → RunsTo (run_shape readings) (clock_of readings.plan) moment (t + 1) closes t xs → AreCopiesDue t xs tags → AreHeard (run_shape readings) (clock_of readings.plan) (past_of_entries xs) t tags
-hears-taken readings moment closes t xs tags run due =
+pub hears-taken : (readings : ReadingsView) (these : List ℕ) (moment closes t : ℕ) (xs : List Entry) (tags : List Tag)
+    → RunsTo (run_shape readings) (clock_of readings.plan) these moment (t + 1) closes t xs → AreCopiesDue t xs tags → AreHeard (run_shape readings) (clock_of readings.plan) (past_of_entries xs) t tags
+hears-taken readings these moment closes t xs tags run due =
     let s : Shape = run_shape readings in
     let c : Clock = clock_of readings.plan in
     let some : (g r i : ℕ) → was_taken tags (tag_of Announcement g r i) ≡ true → 0 < takes_at xs (tag_of Announcement g r i) t
-    = λ g r i told. ltb-true 0 (takes_at xs (tag_of Announcement g r i) t) (takes-are s c moment closes t t xs tags run due (tag_of Announcement g r i) ∙ told) in
+    = λ g r i told. ltb-true 0 (takes_at xs (tag_of Announcement g r i) t) (takes-are s c these moment closes t t xs tags run due (tag_of Announcement g r i) ∙ told) in
     record {
       effect = λ g r i told. run.heard g r i t (some g r i told);
-      round = λ g r i told. (announcement_round s c moment (t + 1) closes t xs run g r i t (omega arith) (some g r i told)).0;
-      early = λ g r i told. announcement_later s c moment (t + 1) closes t xs run g r i t (omega arith) (some g r i told);
-      late = λ g r i told. (announcement_round s c moment (t + 1) closes t xs run g r i t (omega arith) (some g r i told)).1;
+      round = λ g r i told. (announcement_round s c these moment (t + 1) closes t xs run g r i t (omega arith) (some g r i told)).0;
+      early = λ g r i told. announcement_later s c these moment (t + 1) closes t xs run g r i t (omega arith) (some g r i told);
+      late = λ g r i told. (announcement_round s c these moment (t + 1) closes t xs run g r i t (omega arith) (some g r i told)).1;
     }
 
-pub hears : (readings : ReadingsView) (m : Masks) (t : ℕ) (book : BookView) (script : TranscriptView) (waiting : List Arrival) (tags : List Tag)
-    → IsRunning readings m (closed t) book script waiting → AreCopiesDue t script.entries tags → AreHeard (run_shape readings) (clock_of readings.plan) (past_of_entries script.entries) t tags
-hears readings m t book script waiting tags is due = hears-taken readings (3 * t + 2) (t + 1) t script.entries tags is.run due
+pub hears : (readings : ReadingsView) (m : Masks) (these : List ℕ) (t : ℕ) (book : BookView) (script : TranscriptView) (waiting : List Arrival) (tags : List Tag)
+    → AreRunning readings m these (closed t) book script waiting → AreCopiesDue t script.entries tags → AreHeard (run_shape readings) (clock_of readings.plan) (past_of_entries script.entries) t tags
+hears readings m these t book script waiting tags is due = hears-taken readings these (3 * t + 2) (t + 1) t script.entries tags is.run due
 
 -- what is due by the entries is what is due after the copies that were taken
-pub due-now : (readings : ReadingsView) (m : Masks) (t : ℕ) (book : BookView) (script : TranscriptView) (waiting : List Arrival) (tags : List Tag)
-    → IsRunning readings m (closed t) book script waiting → AreCopiesDue t script.entries tags
+pub due-now : (readings : ReadingsView) (m : Masks) (these : List ℕ) (t : ℕ) (book : BookView) (script : TranscriptView) (waiting : List Arrival) (tags : List Tag)
+    → AreRunning readings m these (closed t) book script waiting → AreCopiesDue t script.entries tags
     → (g : ℕ) → due_of (run_shape readings) (clock_of readings.plan) script.entries t g ≡ due_after (run_shape readings) (clock_of readings.plan) (past_of_entries script.entries) tags t g
-due-now readings m t book script waiting tags is due g =
-    due-taken (run_shape readings) (clock_of readings.plan) script.entries tags t g (takes-are (run_shape readings) (clock_of readings.plan) (3 * t + 2) (t + 1) t t script.entries tags is.run due)
+due-now readings m these t book script waiting tags is due g =
+    due-taken (run_shape readings) (clock_of readings.plan) script.entries tags t g (takes-are (run_shape readings) (clock_of readings.plan) these (3 * t + 2) (t + 1) t t script.entries tags is.run due)
 
-pub sends-begin : (readings : ReadingsView) (m : Masks) (t : ℕ) (book : BookView) (script : TranscriptView) (waiting : List Arrival)
-    → IsRunning readings m (closed t) book script waiting → IsRunning readings m (sending_at t) book script waiting
-sends-begin readings m t book script waiting is = record {
-  run = run_later (run_shape readings) (clock_of readings.plan) (3 * t + 2) (3 * t + 3) (t + 1) (t + 1) t script.entries (omega arith) is.run;
+pub sends-begin : (readings : ReadingsView) (m : Masks) (these : List ℕ) (t : ℕ) (book : BookView) (script : TranscriptView) (waiting : List Arrival)
+    → AreRunning readings m these (closed t) book script waiting → AreRunning readings m these (sending_at t) book script waiting
+sends-begin readings m these t book script waiting is = record {
+  run = run_later (run_shape readings) (clock_of readings.plan) these (3 * t + 2) (3 * t + 3) (t + 1) (t + 1) t script.entries (omega arith) is.run;
   presence = is.presence;
   plan = is.plan;
   journal = is.journal;
@@ -290,12 +274,12 @@ sends-begin readings m t book script waiting is = record {
 }
 
 -- one more frame is sent
-pub sends : (readings : ReadingsView) (m : Masks) (t : ℕ) (book after : BookView) (script done : TranscriptView) (waiting left : List Arrival) (f : Frame) (fate : List ℕ)
-    → IsRunning readings m (sending_at t) book script waiting → IsDue (run_shape readings) (clock_of readings.plan) (run_contents readings m) (past_of_entries script.entries) t f
+pub sends : (readings : ReadingsView) (m : Masks) (these : List ℕ) (t : ℕ) (book after : BookView) (script done : TranscriptView) (waiting left : List Arrival) (f : Frame) (fate : List ℕ)
+    → AreRunning readings m these (sending_at t) book script waiting → IsDue (run_shape readings) (clock_of readings.plan) (run_contents readings m) (past_of_entries script.entries) t f
     → IsFrame f → All IsDelay fate → after.presence ≡ book.presence → after.journal ≡ book.journal ++ SendLine f.tag (Some f) ∷ []
     → done ≡ record script { entries = script.entries ++ sending t f.tag (Some f) fate ∷ [] } → left ≡ posted t (spelling f) fate waiting
-    → IsRunning readings m (sending_at t) after done left
-sends readings m t book after script done waiting left f fate is due framed delays presence journal pushed post =
+    → AreRunning readings m these (sending_at t) after done left
+sends readings m these t book after script done waiting left f fate is due framed delays presence journal pushed post =
     let s : Shape = run_shape readings in
     let c : Clock = clock_of readings.plan in
     let w : Contents = run_contents readings m in
@@ -303,8 +287,8 @@ sends readings m t book after script done waiting left f fate is due framed dela
     let lines : lines_of (script.entries ++ x ∷ []) ≡ lines_of script.entries ++ SendLine f.tag (Some f) ∷ [] = map-append (λ e. e.line) script.entries (x ∷ []) in
     let tag : tag_in (spelling f) ≡ f.tag = ap (λ (z : Frame). z.tag) (frame_in-spelling f framed) in
     let free = free-now s w f.tag f (lines_of script.entries) is.frames (ap (frame s w f.tag) (past_of-lines script.entries) ∙ due.is) in
-    subst (λ d. IsRunning readings m (sending_at t) after d left) (sym pushed) (record {
-      run = send_step s c t script.entries f.tag (Some f) fate is.run delays due.in_time (may_of_frame s w f.tag f (past_of_entries script.entries) due.is);
+    subst (λ d. AreRunning readings m these (sending_at t) after d left) (sym pushed) (record {
+      run = send_step s c these t script.entries f.tag (Some f) fate is.run delays due.in_time (may_of_frame s w f.tag f (past_of_entries script.entries) due.is);
       presence = presence ∙ is.presence;
       plan = is.plan;
       journal = journal ∙ ap (λ j. j ++ SendLine f.tag (Some f) ∷ []) is.journal ∙ sym lines;
@@ -321,12 +305,12 @@ sends readings m t book after script done waiting left f fate is due framed dela
     })
 
 -- the tick is over
-pub tick-over : (readings : ReadingsView) (m : Masks) (t : ℕ) (book : BookView) (script : TranscriptView) (waiting : List Arrival)
-    → IsRunning readings m (sending_at t) book script waiting
-    → sent_at script.entries t ≡ flat_map (due_of (run_shape readings) (clock_of readings.plan) script.entries t) (range_with_len 0 (length readings.plan.groups))
-    → IsRunning readings m (starting (t + 1)) book script waiting
-tick-over readings m t book script waiting is all = record {
-  run = tick_over (run_shape readings) (clock_of readings.plan) t script.entries is.run all;
+pub tick-over : (readings : ReadingsView) (m : Masks) (these : List ℕ) (t : ℕ) (book : BookView) (script : TranscriptView) (waiting : List Arrival)
+    → AreRunning readings m these (sending_at t) book script waiting
+    → sent_at script.entries t ≡ flat_map (due_of (run_shape readings) (clock_of readings.plan) script.entries t) these
+    → AreRunning readings m these (starting (t + 1)) book script waiting
+tick-over readings m these t book script waiting is all = record {
+  run = tick_over (run_shape readings) (clock_of readings.plan) these t script.entries is.run all;
   presence = is.presence;
   plan = is.plan;
   journal = is.journal;

@@ -1,9 +1,9 @@
 -- The copies that are due can be taken: each is of a frame that stands posted.
-use Rattle.std.proofs.Common.{◌≡◌, ℕ, zero, suc, ◌+◌, ◌*◌, ◌<◌, ◌≤◌, Bool, true, cond, ◌&&◌, List, [], ◌∷◌, length, get_or, sym, ap, refl, ◌∙◌, subst, arith}
+use Rattle.std.proofs.Common.{◌≡◌, ℕ, zero, suc, ◌<◌, Bool, true, cond, ◌&&◌, List, [], ◌∷◌, length, get_or, sym, ap, refl, ◌∙◌, subst, arith}
 use Rattle.std.specs.Prelude.{nat_lt}
 use Rattle.std.specs.List.{sum_by, count_by, All}
 use Rattle.std.proofs.lemmas.Bool.{false≢true, and_from, lt-ltb}
-use Rattle.std.proofs.lemmas.List.Elements.{All-head, All-tail, All-weaker, All-map}
+use Rattle.std.proofs.lemmas.List.Elements.{All-weaker, All-map}
 use Rattle.std.proofs.lemmas.List.Sums.{sum_by-cons}
 use Rattle.missing_round.specs.Masks.{Masks}
 use Rattle.group_plan.specs.Plans.{size}
@@ -19,13 +19,12 @@ use Rattle.transcript_log.specs.Journal.{past_of}
 use Rattle.group_plan.specs.declared.Kind.{Kind}
 use Rattle.group_plan.specs.declared.Kind.TheVariants.{Reading, Announcement, Answer}
 use Rattle.transcript_log.proofs.EventLemmas.{is_send-itself}
-use Rattle.run_rows.specs.Ticks.{Clock, clock_of, moment, copies}
-use Rattle.transcript_log.specs.Transcripts.{TranscriptView, last_tick_from}
+use Rattle.run_rows.specs.Ticks.{Clock, clock_of, copies}
+use Rattle.transcript_log.specs.Transcripts.{TranscriptView}
 use Rattle.group_book.specs.Books.{BookView, knows, past, posted_in}
 use Rattle.plan_meters.specs.Came.{same_tag, frame_in, tag_in, frames_in, tags_of, IsSpelling}
 use Rattle.tick_run.specs.OnTheWay.{IsOfSend}
-use Rattle.tick_run.specs.Progress.{RunsTo}
-use Rattle.tick_run.specs.Running.{Stage, run_contents, IsRunning, HaveCome}
+use Rattle.tick_run.specs.Running.{Stage, run_contents, AreRunning, HaveCome}
 use Rattle.plan_meters.specs.TickFrames.{run_shape}
 use Rattle.plan_meters.specs.Meters.{HasSet}
 use Rattle.tick_run.specs.Batches.{CanTake}
@@ -36,9 +35,9 @@ use Rattle.tick_run.proofs.PostedLemmas.{posted-frame, frame-facts}
 use Rattle.meter_frames.specs.declared.Frame.{Frame}
 
 -- bytes of which copies are due can be taken
-can-take : (readings : ReadingsView) (m : Masks) (at : Stage) (t : ℕ) (book : BookView) (script : TranscriptView) (waiting : List Arrival) (bytes : List ℕ) → IsRunning readings m at book script waiting
+can-take : (readings : ReadingsView) (m : Masks) (these : List ℕ) (at : Stage) (t : ℕ) (book : BookView) (script : TranscriptView) (waiting : List Arrival) (bytes : List ℕ) → AreRunning readings m these at book script waiting
     → IsOfSend script.entries bytes → 0 < sum_by (copies (tag_in bytes) t) script.entries → CanTake book bytes
-can-take readings m at t book script waiting bytes is of pos =
+can-take readings m these at t book script waiting bytes is of pos =
     let s : Shape = run_shape readings in
     let c : Clock = clock_of readings.plan in
     let z : Tag = tag_in bytes in
@@ -55,7 +54,8 @@ can-take readings m at t book script waiting bytes is of pos =
       posted = ap (posted_in of.frame.tag) is.journal ∙ of.posted;
     }
 
-counted : (copies : List (List ℕ)) (k : ℕ) (d : List ℕ) → k < length copies → 0 < count_by (same_tag (tag_in (get_or copies k d))) (tags_of (frames_in copies))
+-- each copy is counted by its tag
+pub counted : (copies : List (List ℕ)) (k : ℕ) (d : List ℕ) → k < length copies → 0 < count_by (same_tag (tag_in (get_or copies k d))) (tags_of (frames_in copies))
 counted [] k d lt = absurd (omega arith)
 counted (x ∷ copies) zero d lt =
     let y : Tag = tag_in x in
@@ -65,11 +65,11 @@ counted (x ∷ copies) (suc k) d lt =
     omega (arith, sum_by-cons (λ (z : Tag). cond {A = ℕ} (p z) 1 0) (tag_in x) (tags_of (frames_in copies)), counted copies k d (omega arith))
 
 -- the copies that are due at a tick can be taken
-pub all-taken : (readings : ReadingsView) (m : Masks) (at : Stage) (t : ℕ) (book : BookView) (script : TranscriptView) (waiting : List Arrival) (copies : List (List ℕ)) → IsRunning readings m at book script waiting
+pub all-taken : (readings : ReadingsView) (m : Masks) (these : List ℕ) (at : Stage) (t : ℕ) (book : BookView) (script : TranscriptView) (waiting : List Arrival) (copies : List (List ℕ)) → AreRunning readings m these at book script waiting
     → HaveCome t script.entries copies → All (CanTake book) copies
-all-taken readings m at t book script waiting copies is came k d lt =
+all-taken readings m these at t book script waiting copies is came k d lt =
     let bytes : List ℕ = get_or copies k d in
-    can-take readings m at t book script waiting bytes is (came.spelled k d lt) (subst (λ n. 0 < n) (came.due (tag_in bytes)) (counted copies k d lt))
+    can-take readings m these at t book script waiting bytes is (came.spelled k d lt) (subst (λ n. 0 < n) (came.due (tag_in bytes)) (counted copies k d lt))
 
 -- ---- what came
 
@@ -78,9 +78,9 @@ pub all-spelled : (entries : List Entry) (copies : List (List ℕ)) → All (IsO
 all-spelled entries copies all = All-weaker (IsOfSend entries) IsSpelling (λ bytes of. record { frame = of.frame; is = of.is; spelled = of.spelled }) copies all
 
 -- and an announcement among them has the missing set
-pub sets-come : (readings : ReadingsView) (m : Masks) (at : Stage) (book : BookView) (script : TranscriptView) (waiting : List Arrival) (copies : List (List ℕ)) → IsRunning readings m at book script waiting
+pub sets-come : (readings : ReadingsView) (m : Masks) (these : List ℕ) (at : Stage) (book : BookView) (script : TranscriptView) (waiting : List Arrival) (copies : List (List ℕ)) → AreRunning readings m these at book script waiting
     → All (IsOfSend script.entries) copies → All (HasSet (run_shape readings) (past book)) (frames_in copies)
-sets-come readings m at book script waiting copies is all =
+sets-come readings m these at book script waiting copies is all =
     All-map (HasSet (run_shape readings) (past book)) frame_in copies (All-weaker (IsOfSend script.entries) (λ bytes. HasSet (run_shape readings) (past book) (frame_in bytes)) (λ bytes of. one bytes of) copies all)
   where
     of_kind : (s : Shape) (k : Kind) (g r : ℕ) (p : List Event) → same_kind k Announcement ≡ true → set_sent s k g r p ≡ missing s g r p
@@ -95,13 +95,3 @@ sets-come readings m at book script waiting copies is all =
         let f : Frame = of.frame in
         let facts = frame-facts s w f.tag f (past book) (ap (frame s w f.tag) (ap past_of is.journal) ∙ posted-frame s w f.tag f (lines_of script.entries) is.frames of.posted) in
         subst (HasSet s (past book)) (sym (frame_in-is bytes f of.is of.spelled)) (λ kind. facts.set ∙ of_kind s f.tag.kind f.tag.group f.tag.round (past book) kind)
-
--- ---- ticks
-
-last_within : (from t : ℕ) (xs : List Entry) → from ≤ t → All (λ e. e.tick ≤ t) xs → last_tick_from from xs ≤ t
-last_within from t [] le all = le
-last_within from t (x ∷ xs) le all = last_within x.tick t xs (All-head (λ e. e.tick ≤ t) x xs all) (All-tail (λ e. e.tick ≤ t) x xs all)
-
--- the last tick is not later than this one
-pub last-before : (s : Shape) (c : Clock) (m a b d t : ℕ) (xs : List Entry) → RunsTo s c m a b d xs → m ≤ 3 * t + 3 → last_tick_from 0 xs ≤ t
-last-before s c m a b d t xs run le = last_within 0 t xs (omega arith) (All-weaker (λ e. moment e < m) (λ e. e.tick ≤ t) (λ e h. omega arith) xs run.before)

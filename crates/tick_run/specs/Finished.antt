@@ -2,6 +2,7 @@
 use Rattle.std.specs.Prelude.{◌≡◌, ℕ, IsTrue, List}
 use Rattle.group_plan.specs.Plans.{IsWithinLimits}
 use Rattle.group_plan.specs.Tables.{ReadingsView, IsReadingTable, reading, presence_of}
+use Rattle.missing_round.specs.Masks.{Masks}
 use Rattle.pair_keys.specs.Keys.{Keys}
 use Rattle.mask_stream.specs.KeyStreams.{streams}
 use Rattle.link_lanes.specs.Lanes.{Slot}
@@ -15,16 +16,20 @@ use Rattle.run_rows.specs.Ticks.{clock_of, HaveDelays, IsTickRun, posts_of}
 use Rattle.transcript_log.specs.Transcripts.{TranscriptView}
 use Rattle.group_book.specs.Books.{BookView, has_round, past, shape_of}
 
--- the entries are a tick run whose lines are the transcript of its events under the stream words of the keys; the book has these lines
-pub record IsFinished (readings : ReadingsView) (keys : Keys) (slots : List Slot) (book : BookView) (t : TranscriptView) : Type 0 where
+-- the entries are a tick run whose lines are the transcript of its events under these mask words; the book has these lines
+pub record IsFinishedUnder (readings : ReadingsView) (m : Masks) (slots : List Slot) (book : BookView) (t : TranscriptView) : Type 0 where
   pub limits : IsWithinLimits readings.plan
   pub table : IsReadingTable readings.plan readings.table
   pub ticks : IsTickRun (shape_of_presence (presence_of readings)) (clock_of readings.plan) slots t.entries
   pub delays : HaveDelays t.entries
-  pub lines : lines_of t.entries ≡ transcript readings.plan.groups (reading readings.table) (streams keys) (events_of t.entries)
+  pub lines : lines_of t.entries ≡ transcript readings.plan.groups (reading readings.table) m (events_of t.entries)
   pub plan : t.plan ≡ readings.plan
   pub presence : book.presence ≡ presence_of readings
   pub journal : book.journal ≡ lines_of t.entries
+
+-- so are they under the stream words of the keys
+abbrev pub IsFinished : ReadingsView → Keys → List Slot → BookView → TranscriptView → Type 0
+IsFinished readings keys slots book t = IsFinishedUnder readings (streams keys) slots book t
 
 -- the outcome of each round of a book is the row by the fates of these entries, with the totals of the book's frames
 abbrev pub HasRowsOf : List Entry → BookView → Type 0

@@ -6,6 +6,9 @@ pub mod Running
 pub mod Jobs
 pub mod Sending
 pub mod Batches
-pub mod Sides
 pub mod Recorded
 pub mod Stages
+pub mod GroupRuns
+pub mod ByGroups
+pub mod Written
+pub mod Whole

@@ -1,6 +1,6 @@
 -- How far a run by ticks has come.
-use Rattle.std.specs.Prelude.{◌≡◌, ℕ, ◌+◌, ◌<◌, ◌≤◌, nat_lt, true, ◌&&◌, List, [], length, reverse, All, sum_by, Option}
-use Rattle.std.specs.List.{flat_map, range_with_len}
+use Rattle.std.specs.Prelude.{◌≡◌, ℕ, ◌+◌, ◌<◌, ◌≤◌, ◌==◌, nat_lt, Bool, true, ◌&&◌, List, [], reverse, All, sum_by, Option}
+use Rattle.std.specs.List.{flat_map, list_any}
 use Rattle.group_plan.specs.declared.Kind.{Kind}
 use Rattle.group_plan.specs.declared.Kind.TheVariants.{Reading, Announcement, Answer}
 use Rattle.group_plan.specs.declared.Tag.{Tag}
@@ -12,7 +12,7 @@ use Rattle.transcript_log.specs.declared.Line.TheVariants.{Send as SendLine}
 use Rattle.transcript_log.specs.declared.Entry.{Entry}
 use Rattle.transcript_log.specs.Events.{event_of, events_of, is_close, is_end}
 use Rattle.transcript_log.specs.Schedule.{Shape, is_sent, is_announced, missing, is_announcement_taken}
-use Rattle.run_rows.specs.Ticks.{Clock, in_plan, phase, moment, IsOrdered, takes_at, copies, StandsOnce, tags_of, tag_of, sent_at, due_of}
+use Rattle.run_rows.specs.Ticks.{Clock, phase, moment, IsOrdered, takes_at, copies, StandsOnce, tags_of, tag_of, sent_at, due_of}
 
 -- a delay of a copy, in ticks
 abbrev pub IsDelay : ℕ → Type 0
@@ -54,15 +54,19 @@ pub record KeepSets (s : Shape) (before after : List Event) : Type 0 where
   pub sets : (g r : ℕ) → is_announced s g r before ≡ true → (is_announced s g r after ≡ true) × (missing s g r after ≡ missing s g r before)
   pub taken : (g r i : ℕ) → is_announcement_taken s g r i before ≡ true → is_announcement_taken s g r i after ≡ true
 
--- these entries are those of a tick run before moment m: all Takes of the ticks below `taken`, all Closes and Ends of the ticks
--- below `closed`, and all Sends of the ticks below `sent`
-pub record RunsTo (s : Shape) (c : Clock) (m takes closes sends : ℕ) (entries : List Entry) : Type 0 where
+-- a round of one of these groups
+abbrev pub is_round_of : List ℕ → Clock → ℕ → ℕ → Bool
+is_round_of these c g r = list_any (λ h. h == g) these && nat_lt r c.rounds
+
+-- these entries are those of a tick run of these groups before moment m: all Takes of the ticks below `taken`, all Closes and Ends
+-- of the ticks below `closed`, and all Sends of the ticks below `sent`
+pub record RunsTo (s : Shape) (c : Clock) (these : List ℕ) (m takes closes sends : ℕ) (entries : List Entry) : Type 0 where
   pub ordered : IsOrdered entries
   pub before : All (λ e. moment e < m) entries
   pub taken : (tag : Tag) (u : ℕ) → u < takes → takes_at entries tag u ≡ sum_by (copies tag u) entries
-  pub closed : (g r : ℕ) → StandsOnce (is_close g r) (in_plan s c g r && nat_lt (r + c.w1) closes) (r + c.w1) entries
-  pub ended : (g r : ℕ) → StandsOnce (is_end g r) (in_plan s c g r && nat_lt (r + c.w1 + c.w2) closes) (r + c.w1 + c.w2) entries
-  pub sent : (u : ℕ) → u < sends → sent_at entries u ≡ flat_map (due_of s c entries u) (range_with_len 0 (length s.groups))
+  pub closed : (g r : ℕ) → StandsOnce (is_close g r) (is_round_of these c g r && nat_lt (r + c.w1) closes) (r + c.w1) entries
+  pub ended : (g r : ℕ) → StandsOnce (is_end g r) (is_round_of these c g r && nat_lt (r + c.w1 + c.w2) closes) (r + c.w1 + c.w2) entries
+  pub sent : (u : ℕ) → u < sends → sent_at entries u ≡ flat_map (due_of s c entries u) these
   pub others : All (λ e. tags_of (event_of e.line) ≡ [] → e.fate ≡ []) entries
   pub delays : All (λ e. All IsDelay e.fate) entries
   pub in_time : All (λ e. IsInTime s c e.tick (event_of e.line)) entries

@@ -1,6 +1,6 @@
 -- A run that goes on: its book, its transcript and its link, stage by stage of a tick.
 use Rattle.std.specs.Prelude.{◌≡◌, ℕ, ◌+◌, ◌-◌, ◌*◌, nat_le, nat_lt, Bool, ◌&&◌, List, [], ◌∷◌, ◌++◌, All, count_by, sum_by, if◌then◌else◌}
-use Rattle.std.specs.List.{AllZip, flat_map, range_with_len}
+use Rattle.std.specs.List.{flat_map}
 use Rattle.missing_round.specs.Masks.{Masks}
 use Rattle.group_plan.specs.Tables.{ReadingsView, reading, presence_of}
 use Rattle.group_plan.specs.declared.Tag.{Tag}
@@ -16,9 +16,6 @@ use Rattle.run_rows.specs.Ticks.{Clock, clock_of, copies}
 use Rattle.transcript_log.specs.Transcripts.{TranscriptView}
 pub use Rattle.transcript_log.specs.Drafts.{quiet}
 use Rattle.group_book.specs.Books.{BookView}
-use Rattle.shared_book.specs.declared.parcel.Parcel.{Parcel}
-use Rattle.shared_book.specs.declared.parcel.Parcel.TheVariants.{Close as CloseParcel, End as EndParcel}
-use Rattle.shared_book.specs.Parcels.{Accepted, judged}
 use Rattle.plan_meters.specs.Came.{same_tag, frames_in, tags_of}
 use Rattle.tick_run.specs.OnTheWay.{IsOfSend, AreOnTheWay}
 use Rattle.tick_run.specs.Progress.{RunsTo}
@@ -56,9 +53,9 @@ sending_at t = record { moment = 3 * t + 3; takes = t + 1; closes = t + 1; sends
 abbrev pub run_contents : ReadingsView → Masks → Contents
 run_contents readings m = contents_of_tables readings.plan.groups (reading readings.table) m
 
--- the entries are those of a tick run up to this stage; the book has their lines, with the words of these readings and masks; the link has what is on its way
-pub record IsRunning (readings : ReadingsView) (m : Masks) (at : Stage) (book : BookView) (t : TranscriptView) (waiting : List Arrival) : Type 0 where
-  pub run : RunsTo (run_shape readings) (clock_of readings.plan) at.moment at.takes at.closes at.sends t.entries
+-- the entries are those of a tick run of these groups up to this stage; the book has their lines, with the words of these readings and masks; the link has what is on its way
+pub record AreRunning (readings : ReadingsView) (m : Masks) (these : List ℕ) (at : Stage) (book : BookView) (t : TranscriptView) (waiting : List Arrival) : Type 0 where
+  pub run : RunsTo (run_shape readings) (clock_of readings.plan) these at.moment at.takes at.closes at.sends t.entries
   pub presence : book.presence ≡ presence_of readings
   pub plan : t.plan ≡ readings.plan
   pub journal : book.journal ≡ lines_of t.entries
@@ -80,10 +77,6 @@ pub record HaveCome (t : ℕ) (entries : List Entry) (came : List (List ℕ)) : 
 abbrev pub KeepCopies : ℕ → List Entry → List Entry → Type 0
 KeepCopies t before after = (z : Tag) → sum_by (copies z t) after ≡ sum_by (copies z t) before
 
--- each parcel is accepted as its event
-abbrev pub Ask : BookView → List Event → List Parcel → Type 0
-Ask b events batch = AllZip (λ e p. judged b p ≡ Accepted e) events batch
-
 -- the added lines have these events, in some order
 abbrev pub HaveEvents : List Event → List Line → Type 0
 HaveEvents events added = (these : Event → Bool) → count_by (λ line. these (event_of line)) added ≡ count_by these events
@@ -92,20 +85,11 @@ HaveEvents events added = (these : Event → Bool) → count_by (λ line. these 
 abbrev pub is_due : ℕ → ℕ → ℕ → Bool
 is_due rounds window t = nat_le window t && nat_lt (t - window) rounds
 
--- the Closes and Ends due at tick t in a group, and in all n groups
+-- the Closes and Ends due at tick t in a group, and in these groups
 abbrev pub calls_of : Clock → ℕ → ℕ → List Event
 calls_of c t g =
     (if is_due c.rounds c.w1 t then Close g (t - c.w1) ∷ [] else [])
     ++ (if is_due c.rounds (c.w1 + c.w2) t then End g (t - (c.w1 + c.w2)) ∷ [] else [])
 
-abbrev pub calls_due : Clock → ℕ → ℕ → List Event
-calls_due c n t = flat_map (calls_of c t) (range_with_len 0 n)
-
--- the same as parcels
-abbrev pub parcels_of : Clock → ℕ → ℕ → List Parcel
-parcels_of c t g =
-    (if is_due c.rounds c.w1 t then CloseParcel g (t - c.w1) ∷ [] else [])
-    ++ (if is_due c.rounds (c.w1 + c.w2) t then EndParcel g (t - (c.w1 + c.w2)) ∷ [] else [])
-
-abbrev pub parcels_due : Clock → ℕ → ℕ → List Parcel
-parcels_due c n t = flat_map (parcels_of c t) (range_with_len 0 n)
+abbrev pub calls_due : Clock → List ℕ → ℕ → List Event
+calls_due c these t = flat_map (calls_of c t) these

@@ -7,21 +7,19 @@ use Rattle.link_lanes.specs.declared.Post.{Post}
 use Rattle.transcript_log.specs.Transcripts.{TranscriptView}
 use Rattle.tick_run.specs.declared.RunError.{RunError}
 use Rattle.tick_run.specs.declared.all_ticks.Stage.{Stage}
-use Rattle.tick_run.specs.Running.{IsRunning, starting}
 use Rattle.tick_run.specs.Sending.{KeptFates}
-use Rattle.plan_meters.specs.Meters.{AreMeters}
 use Rattle.tick_run.specs.Recorded.{IsRecordedUpTo}
+use Rattle.tick_run.specs.Whole.{RunsAt}
 
 -- the ticks before this one are made, and of the entries so many are recorded as the stage says
 pub record StandsAt (readings : ReadingsView) (m : Masks) (keeps : TranscriptView → Type 0) (tick : ℕ) (stage : Stage) : Type 0 where
-  pub running : IsRunning readings m (starting tick) stage.going.run.book stage.going.run.transcript stage.going.run.link
-  pub meters : AreMeters stage.going.run.book tick stage.going.meters
-  pub told : IsRecordedUpTo keeps stage.told stage.going.run.transcript
+  pub runs : RunsAt readings m tick stage.run
+  pub told : IsRecordedUpTo keeps stage.told stage.run.transcript
 
 -- the ticks from one up to another were made, with these lanes and posts before, and those after
 pub record ComesTo (readings : ReadingsView) (m : Masks) (keeps : TranscriptView → Type 0) (from to : ℕ) (stage : Stage) (lanes : List Slot) (posts : List Post) (after : Stage) (hung : List Slot) (all : List Post) : Type 0 where
   pub stands : StandsAt readings m keeps to after
-  pub fates : (first : List Slot) → KeptFates first from stage.going.run.transcript.entries lanes posts → KeptFates first to after.going.run.transcript.entries hung all
+  pub fates : (first : List Slot) → KeptFates first from stage.run.transcript.entries lanes posts → KeptFates first to after.run.transcript.entries hung all
 
 -- there is a stage, and it stands there
 abbrev pub IsHeldAt : ReadingsView → Masks → (TranscriptView → Type 0) → ℕ → Option Stage → Type 0

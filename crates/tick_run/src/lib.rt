@@ -3,18 +3,18 @@
 
 mod all_ticks;
 mod announcements;
-mod batches;
+mod by_groups;
 mod context;
 mod first_ticks;
+mod group_tick;
+mod journal;
 mod recorder;
 mod run;
 mod running;
-mod sends;
-mod sides;
 mod tick;
 
 pub use recorder::{Nobody, Recorder};
-pub use run::{Finished, run_plan};
+pub use run::{Finished, run_masked, run_plan};
 use std::alloc::AllocError;
 
 /// Why there is no run.

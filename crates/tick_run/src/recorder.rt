@@ -1,6 +1,6 @@
 //! Who is told the entries of a run while it goes on.
 
-ghost use Rattle.std.specs.Prelude.{◌≡◌, IsTrue, ⊤};
+ghost use Rattle.std.specs.Prelude.{IsTrue, ⊤};
 ghost use Rattle.transcript_log.specs.Transcripts.{TranscriptView};
 ghost use Rattle.tick_run.specs.Recorded.{Records};
 

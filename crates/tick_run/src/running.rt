@@ -1,13 +1,14 @@
 //! What a run has made so far.
 
-use group_book::Book;
-use lossy_link::Link;
-use transcript_log::Draft;
+use crate::group_tick::GroupWork;
+use group_plan::Presence;
+use transcript_log::{Draft, Lines};
 
-/// The book, the transcript and the link of a run that goes on.
+/// A run between its ticks: who is present, its groups in order, the lines of all of them, and their entries.
 #[derive(Drop)]
 pub(crate) struct Running {
-    pub book: Book,
+    pub presence: Presence,
+    pub works: Vec<GroupWork>,
+    pub journal: Lines,
     pub transcript: Draft,
-    pub link: Link,
 }

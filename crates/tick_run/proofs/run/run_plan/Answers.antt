@@ -1,41 +1,11 @@
-use Rattle.std.proofs.Common.{subst, sym, List, ◌∙◌}
-use Rattle.std.specs.Prelude.{Result, Ok, Err, IfOk}
-use Rattle.group_plan.specs.Tables.{ReadingsView, PresenceView, IsPresenceTable}
+use Rattle.std.proofs.Common.{subst}
+use Rattle.std.specs.Prelude.{IfOk}
 use Rattle.missing_round.specs.Masks.{Masks}
-use Rattle.pair_keys.specs.Keys.{Keys, table_of}
-use Rattle.link_lanes.specs.Lanes.{Slot}
-use Rattle.tick_run.specs.declared.RunError.{RunError}
-use Rattle.tick_run.specs.declared.run.Finished.{Finished}
-use Rattle.tick_run.specs.Finished.{IsFinished, HasRowsOf}
-use Rattle.plan_meters.specs.Hidden.{AreHidden}
-use Rattle.tick_run.specs.Stages.{StandsAt}
-use Rattle.tick_run.proofs.RowsOf.{rows-are}
+use Rattle.link_lanes.specs.Racks.{slots}
+use Rattle.tick_run.specs.Finished.{IsFinishedUnder}
 use Rattle.tick_run.proofs.run.run_plan.Goals as goal
 
-rows_if_made : (readings : ReadingsView) (keys : Keys) (hung : List Slot) (r : Result Finished RunError)
-    → IfOk r (λ f. IsFinished readings keys hung f.book f.transcript) → IfOk r (λ f. IsPresenceTable f.book.presence.plan f.book.presence.table)
-    → IfOk r (λ f. HasRowsOf f.transcript.entries f.book)
-rows_if_made readings keys hung (Ok f) finished members =
-    rows-are readings keys hung f.book f.transcript (subst (λ (p : PresenceView). IsPresenceTable p.plan p.table) finished.presence members) finished
-rows_if_made readings keys hung (Err e) finished members = tt
-
-pub finish-requires-clause-stands : goal.finish-requires-clause-stands
-finish-requires-clause-stands g c κs within =
-    subst (λ (m : Masks). StandsAt c.args.readings.now m (g.W.Recorder.keeps c.run_first.new.recorder) c.in_ok-stage.field-0.next c.in_ok-stage.field-0.stage) (sym c.new-masks.ensures.words) c.in_ok-stage.ensures.stands
-
-pub finish-requires-clause-known : goal.finish-requires-clause-known
-finish-requires-clause-known g c κs within = record {
-  masks = c.new-masks.ensures.plan ∙ c.requires.keys ∙ sym c.requires.readings;
-  hidden = subst (λ (m : Masks). AreHidden c.args.readings.now m c.in_ok-stage.field-0.hidden) (sym c.new-masks.ensures.words) c.in_ok-stage.ensures.hidden;
-}
-
 pub returns-clause-finished : goal.returns-clause-finished
-returns-clause-finished g c = c.finish.ensures.finished (table_of c.args.keys.now) _ c.new-masks.ensures.words c.in_ok-stage.ensures.fates
-
-pub returns-clause-posts : goal.returns-clause-posts
-returns-clause-posts g c = c.finish.ensures.posts _ c.in_ok-stage.ensures.fates
-
-pub returns-clause-report : goal.returns-clause-report
-returns-clause-report g c =
-    rows_if_made c.args.readings.now (table_of c.args.keys.now) _ c.finish.result
-    (c.finish.ensures.finished (table_of c.args.keys.now) _ c.new-masks.ensures.words c.in_ok-stage.ensures.fates) c.finish.ensures.members
+returns-clause-finished g c =
+    subst (λ (m : Masks). IfOk c.run_masked.result (λ f. IsFinishedUnder c.args.readings.now m (slots (λ b. (goal.Lane-dyn g (b.vtable, b.value)).meaning b.value) c.args.rack.now) f.book f.transcript)) c.new-masks.ensures.words
+    c.run_masked.ensures.finished

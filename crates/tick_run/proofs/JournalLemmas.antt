@@ -1,0 +1,151 @@
+-- What all groups made of a tick, as it is written down.
+use Rattle.std.proofs.Common.{◌≡◌, ℕ, ◌+◌, ◌<◌, ◌≤◌, List, [], ◌∷◌, ◌++◌, length, map, drop, get_or, refl, sym, ap, ◌∙◌, subst, append_assoc, arith}
+use Rattle.std.specs.Prelude.{Some, Result, Ok, Err, OnOk}
+use Rattle.std.specs.List.{flat_map, All}
+use Rattle.std.proofs.lemmas.List.{drop_more, map-append}
+use Rattle.std.proofs.lemmas.List.Elements.{All-head, All-tail, All-nil, All-append}
+use Rattle.group_plan.specs.Plans.{PlanView}
+use Rattle.meter_frames.specs.declared.Frame.{Frame}
+use Rattle.transcript_log.specs.declared.Line.{Line}
+use Rattle.transcript_log.specs.declared.Line.TheVariants.{Send as SendLine}
+use Rattle.transcript_log.specs.declared.Entry.{Entry}
+use Rattle.transcript_log.specs.Drafts.{quiet, Begins}
+use Rattle.transcript_log.specs.Events.{lines_of}
+use Rattle.transcript_log.specs.Transcripts.{TranscriptView, FitsLine, last_tick_from}
+use Rattle.tick_run.specs.declared.group_tick.GroupWork.{GroupWork}
+use Rattle.tick_run.specs.ByGroups.{taken_by, closed_by, sent_by}
+use Rattle.tick_run.specs.GroupRuns.{send_line, sent_with}
+use Rattle.tick_run.specs.Progress.{sending}
+use Rattle.tick_run.specs.Written.{Fits}
+
+-- ---- the lines of entries
+
+lines_append : (xs ys : List Entry) → lines_of (xs ++ ys) ≡ lines_of xs ++ lines_of ys
+lines_append xs ys = map-append (λ (e : Entry). e.line) xs ys
+
+lines_quiet : (t : ℕ) (ls : List Line) → lines_of (map (quiet t) ls) ≡ ls
+lines_quiet t [] = refl
+lines_quiet t (l ∷ ls) = ap (λ x. l ∷ x) (lines_quiet t ls)
+
+lines_sent : (t : ℕ) (frames : List Frame) (fates : List (List ℕ)) → length fates ≡ length frames → lines_of (sent_with t frames fates) ≡ map send_line frames
+lines_sent t [] fates long = refl
+lines_sent t (f ∷ frames) [] long = absurd (omega arith)
+lines_sent t (f ∷ frames) (fate ∷ fates) long = ap (λ l. send_line f ∷ l) (lines_sent t frames fates (omega arith))
+
+lines_by : (plan : PlanView) (t : ℕ) (works : List GroupWork) → All (Fits plan) works → lines_of (sent_by t works) ≡ flat_map (λ w. w.sent.items) works
+lines_by plan t [] fit = refl
+lines_by plan t (w ∷ works) fit =
+    let here = All-head (Fits plan) w works fit in
+    let own : List Entry = sent_with t w.frames.items w.fates.items in
+    lines_append own (sent_by t works)
+    ∙ ap (λ l. l ++ lines_of (sent_by t works)) (lines_sent t w.frames.items w.fates.items here.fated ∙ sym here.sends)
+    ∙ ap (λ l. w.sent.items ++ l) (lines_by plan t works (All-tail (Fits plan) w works fit))
+
+-- ---- the entries of Sends
+
+last_push : (from : ℕ) (xs : List Entry) (x : Entry) → last_tick_from from (xs ++ x ∷ []) ≡ x.tick
+last_push from [] x = refl
+last_push from (y ∷ xs) x = last_push y.tick xs x
+
+-- entries of tick t keep the last tick within it
+last_quiet : (t from : ℕ) (xs : List Entry) (ls : List Line) → last_tick_from from xs ≤ t → last_tick_from from (xs ++ map (quiet t) ls) ≤ t
+last_quiet t from [] [] le = le
+last_quiet t from [] (l ∷ ls) le = last_quiet t t [] ls (omega arith)
+last_quiet t from (x ∷ xs) ls le = last_quiet t x.tick xs ls le
+
+item_of : {X : Type 0} (k : ℕ) (xs : List X) (x : X) → x ≡ get_or xs k x → k < length xs → drop k xs ≡ x ∷ drop (k + 1) xs
+item_of k xs x at lt = drop_more xs k x lt ∙ ap (λ y. y ∷ drop (k + 1) xs) (sym at)
+
+-- of a group, the first k Sends have their entries
+pub record Stamping (t k : ℕ) (frames : List Frame) (fates : List (List ℕ)) (script now : TranscriptView) : Type 0 where
+  pub plan : now.plan ≡ script.plan
+  pub later : last_tick_from 0 now.entries ≤ t
+  pub entries : now.entries ++ sent_with t (drop k frames) (drop k fates) ≡ script.entries ++ sent_with t frames fates
+
+next_stamp : (t k : ℕ) (frames : List Frame) (fates : List (List ℕ)) (f : Frame) (fate : List ℕ) → f ≡ get_or frames k f → k < length frames → fate ≡ get_or fates k fate → k < length fates
+    → sent_with t (drop k frames) (drop k fates) ≡ sending t f.tag (Some f) fate ∷ sent_with t (drop (k + 1) frames) (drop (k + 1) fates)
+next_stamp t k frames fates f fate at lt with_fate in_fates =
+    ap (λ (fs : List Frame). sent_with t fs (drop k fates)) (item_of k frames f at lt) ∙ ap (λ (es : List (List ℕ)). sent_with t (f ∷ drop (k + 1) frames) es) (item_of k fates fate with_fate in_fates)
+
+pub stamping-next : (t k : ℕ) (frames : List Frame) (fates : List (List ℕ)) (f : Frame) (fate : List ℕ) (script now next : TranscriptView) → f ≡ get_or frames k f → k < length frames → fate ≡ get_or fates k fate → k < length fates
+    → Stamping t k frames fates script now → next ≡ record now { entries = now.entries ++ sending t f.tag (Some f) fate ∷ [] } → Stamping t (k + 1) frames fates script next
+stamping-next t k frames fates f fate script now next at lt with_fate in_fates so_far is =
+    let x : Entry = sending t f.tag (Some f) fate in
+    let last : last_tick_from 0 next.entries ≡ t = ap (λ (z : TranscriptView). last_tick_from 0 z.entries) is ∙ last_push 0 now.entries x in
+    record {
+      plan = ap (λ (z : TranscriptView). z.plan) is ∙ so_far.plan;
+      later = omega arith;
+      entries = ap (λ (z : TranscriptView). z.entries ++ sent_with t (drop (k + 1) frames) (drop (k + 1) fates)) is
+          ∙ append_assoc now.entries (x ∷ []) (sent_with t (drop (k + 1) frames) (drop (k + 1) fates))
+          ∙ ap (λ (es : List Entry). now.entries ++ es) (sym (next_stamp t k frames fates f fate at lt with_fate in_fates)) ∙ so_far.entries;
+    }
+
+-- the journal has the line of the next one
+pub stamp-begins : (t k : ℕ) (frames : List Frame) (fates : List (List ℕ)) (f : Frame) (fate : List ℕ) (script now : TranscriptView) (journal : List Line) → f ≡ get_or frames k f → k < length frames → fate ≡ get_or fates k fate → k < length fates
+    → Stamping t k frames fates script now → Begins journal (lines_of (script.entries ++ sent_with t frames fates)) → Begins journal (lines_of now.entries ++ SendLine f.tag (Some f) ∷ [])
+stamp-begins t k frames fates f fate script now journal at lt with_fate in_fates so_far begins =
+    let x : Entry = sending t f.tag (Some f) fate in
+    let ys : List Entry = sent_with t (drop (k + 1) frames) (drop (k + 1) fates) in
+    let entries : script.entries ++ sent_with t frames fates ≡ now.entries ++ x ∷ ys = sym so_far.entries ∙ ap (λ (es : List Entry). now.entries ++ es) (next_stamp t k frames fates f fate at lt with_fate in_fates) in
+    record {
+      rest = lines_of ys ++ begins.rest;
+      is = begins.is ∙ ap (λ (es : List Entry). lines_of es ++ begins.rest) entries ∙ ap (λ (l : List Line). l ++ begins.rest) (lines_append now.entries (x ∷ ys))
+          ∙ append_assoc (lines_of now.entries) (SendLine f.tag (Some f) ∷ lines_of ys) begins.rest
+          ∙ sym (append_assoc (lines_of now.entries) (SendLine f.tag (Some f) ∷ []) (lines_of ys ++ begins.rest));
+    }
+
+-- ---- those of one group after another
+
+-- the Sends of the first k groups have their entries
+pub record StampingAll (t k : ℕ) (works : List GroupWork) (script now : TranscriptView) : Type 0 where
+  pub plan : now.plan ≡ script.plan
+  pub later : last_tick_from 0 now.entries ≤ t
+  pub entries : now.entries ++ sent_by t (drop k works) ≡ script.entries ++ sent_by t works
+
+-- ---- a tick
+
+pub on_ok : {A E P Q : Type 0} (r : Result A E) → (P → Q) → OnOk r P → OnOk r Q
+on_ok (Ok x) f h = f h
+on_ok (Err e) f h = tt
+
+-- what the journal has beyond the lines of some entries
+beyond : (xs : List Entry) (more : List Line) → drop (length xs) (lines_of xs ++ more) ≡ more
+beyond [] more = refl
+beyond (x ∷ xs) more = beyond xs more
+
+all_flat : (P : Line → Type 0) (F : GroupWork → List Line) (works : List GroupWork) → All (λ w. All P (F w)) works → All P (flat_map F works)
+all_flat P F [] all = All-nil P
+all_flat P F (w ∷ works) all = All-append P (F w) (flat_map F works) (All-head (λ w. All P (F w)) w works all) (all_flat P F works (All-tail (λ w. All P (F w)) w works all))
+
+module _ (t : ℕ) (script : TranscriptView) (works : List GroupWork) (old mid journal : List Line) (is : old ≡ lines_of script.entries) (first : mid ≡ old ++ taken_by works) (then : journal ≡ mid ++ closed_by works) where
+  -- the journal has the Takes, Closes and Ends behind the lines of the entries
+  behind : journal ≡ lines_of script.entries ++ (taken_by works ++ closed_by works)
+  behind = then ∙ ap (λ l. l ++ closed_by works) (first ∙ ap (λ l. l ++ taken_by works) is) ∙ append_assoc (lines_of script.entries) (taken_by works) (closed_by works)
+
+  quiet_beyond : drop (length script.entries) journal ≡ taken_by works ++ closed_by works
+  quiet_beyond = ap (drop (length script.entries)) behind ∙ beyond script.entries (taken_by works ++ closed_by works)
+
+  pub quiet-fits : All (Fits script.plan) works → All (FitsLine script.plan []) (drop (length script.entries) journal)
+  quiet-fits fits =
+      let P : Line → Type 0 = FitsLine script.plan [] in
+      subst (All P) (sym quiet_beyond)
+      (All-append P (taken_by works) (closed_by works)
+      (all_flat P (λ w. w.taken.items) works (λ k d lt. (fits k d lt).taken))
+      (all_flat P (λ w. w.closed.items) works (λ k d lt. (fits k d lt).closed)))
+
+  -- once they have their entries
+  module _ (done : TranscriptView) (made : done ≡ record script { entries = script.entries ++ map (quiet t) (drop (length script.entries) journal) }) where
+    pub done-later : last_tick_from 0 script.entries ≤ t → last_tick_from 0 done.entries ≤ t
+    done-later le =
+        subst (λ (z : TranscriptView). last_tick_from 0 z.entries ≤ t) (sym made) (last_quiet t 0 script.entries (drop (length script.entries) journal) le)
+
+    -- the journal with the Sends has just the lines of all entries
+    pub sent-lines : (last : List Line) → last ≡ journal ++ flat_map (λ w. w.sent.items) works → All (Fits script.plan) works → last ≡ lines_of (done.entries ++ sent_by t works)
+    sent-lines last with_sent fits =
+        let so_far : lines_of done.entries ≡ journal
+        = ap (λ (z : TranscriptView). lines_of z.entries) made ∙ lines_append script.entries (map (quiet t) (drop (length script.entries) journal))
+        ∙ ap (λ l. lines_of script.entries ++ l) (lines_quiet t (drop (length script.entries) journal) ∙ quiet_beyond) ∙ sym behind in
+        with_sent ∙ ap (λ l. l ++ flat_map (λ w. w.sent.items) works) (sym so_far) ∙ ap (λ l. lines_of done.entries ++ l) (sym (lines_by script.plan t works fits)) ∙ sym (lines_append done.entries (sent_by t works))
+
+    pub whole-lines : (last : List Line) (after : TranscriptView) → last ≡ lines_of (done.entries ++ sent_by t works) → after ≡ record done { entries = done.entries ++ sent_by t works } → last ≡ lines_of after.entries
+    whole-lines last after is_all wrote = is_all ∙ sym (ap (λ (z : TranscriptView). lines_of z.entries) wrote)

@@ -1,0 +1,163 @@
+-- A tick of a run, from the ticks of its groups and the fates that their frames met.
+use Rattle.std.proofs.Common.{◌≡◌, ℕ, zero, suc, ◌+◌, ◌*◌, ◌<◌, ◌≤◌, List, [], ◌∷◌, ◌++◌, length, map, refl, sym, ap, ◌∙◌, subst, append_assoc, append-nil, arith}
+use Rattle.std.specs.Prelude.{Some, Result, Ok, Err, OnOk}
+use Rattle.std.specs.List.{AllZip, flat_map, range_with_len, All}
+use Rattle.std.proofs.lemmas.List.Elements.{All-head, All-tail, All-weaker, All-nil, All-cons, All-append}
+use Rattle.missing_round.specs.Masks.{Masks}
+use Rattle.group_plan.specs.Plans.{PlanView}
+use Rattle.group_plan.specs.Tables.{ReadingsView, presence_of}
+use Rattle.link_lanes.specs.declared.Post.{Post}
+use Rattle.link_lanes.specs.Lanes.{Slot}
+use Rattle.meter_frames.specs.declared.Frame.{Frame}
+use Rattle.transcript_log.specs.declared.Line.{Line}
+use Rattle.transcript_log.specs.declared.Entry.{Entry}
+use Rattle.transcript_log.specs.Drafts.{quiet}
+use Rattle.transcript_log.specs.Events.{event_of, lines_of}
+use Rattle.transcript_log.specs.Transcripts.{TranscriptView, last_tick_from}
+use Rattle.run_rows.specs.ByGroup.{entries_in}
+use Rattle.run_rows.specs.Ticks.{moment, phase, posts_of}
+use Rattle.plan_meters.proofs.RangeLemmas.{range_long}
+use Rattle.tick_run.specs.declared.group_tick.GroupWork.{GroupWork}
+use Rattle.tick_run.specs.declared.running.Running.{Running}
+use Rattle.tick_run.specs.GroupRuns.{GroupTicks, sent_with}
+use Rattle.tick_run.specs.ByGroups.{AllStand, AllTick, AreWhole, Passes, Fated, IsButFates, frames_by, fates_by, taken_by, closed_by, sent_by, whole_then}
+use Rattle.tick_run.specs.Progress.{sending}
+use Rattle.tick_run.specs.Recorded.{Extends}
+use Rattle.tick_run.specs.Sending.{KeepsFates, KeptFates}
+use Rattle.tick_run.specs.Whole.{RunsAt}
+use Rattle.tick_run.specs.Written.{Fits}
+use Rattle.tick_run.proofs.BatchLemmas.{posts-append, posts-silent, silent-batch}
+use Rattle.tick_run.proofs.ByGroupsLemmas.{all-stand, whole-then}
+use Rattle.tick_run.proofs.GroupTickLemmas.{ticks-noted}
+use Rattle.tick_run.proofs.PassLemmas.{keeps-met}
+use Rattle.tick_run.proofs.SendingLemmas.{kept-next}
+use Rattle.tick_run.proofs.StateLemmas.{batch_of}
+
+-- ---- the last tick
+
+last_within : (from t : ℕ) (xs : List Entry) → from ≤ t → All (λ e. e.tick ≤ t) xs → last_tick_from from xs ≤ t
+last_within from t [] le all = le
+last_within from t (x ∷ xs) le all = last_within x.tick t xs (All-head (λ e. e.tick ≤ t) x xs all) (All-tail (λ e. e.tick ≤ t) x xs all)
+
+-- the entries before tick t have none later than it
+pub last-whole : (n t : ℕ) (xs : List Entry) → AreWhole n t xs → last_tick_from 0 xs ≤ t
+last-whole n t xs whole = last_within 0 t xs (omega arith) (All-weaker (λ e. moment e < 3 * t) (λ e. e.tick ≤ t) (λ e h. omega arith) xs whole.before)
+
+-- ---- the groups with the fates of their frames
+
+abbrev AllTickFrom : ReadingsView → Masks → ℕ → List Entry → ℕ → ℕ → List GroupWork → Type 0
+AllTickFrom readings m t entries a n works = AllZip (λ g work. GroupTicks readings m t (entries_in g entries) g work) (range_with_len a n) works
+
+ticks_passed : (readings : ReadingsView) (m : Masks) (t : ℕ) (entries : List Entry) (a n : ℕ) (before after : List GroupWork) → AllTickFrom readings m t entries a n before → AllZip IsButFates before after → AllTickFrom readings m t entries a n after
+ticks_passed readings m t entries a zero [] [] all same = tt
+ticks_passed readings m t entries a zero [] (y ∷ after) all same = absurd same
+ticks_passed readings m t entries a zero (x ∷ before) after all same = absurd all
+ticks_passed readings m t entries a (suc n) [] after all same = absurd all
+ticks_passed readings m t entries a (suc n) (x ∷ before) [] all same = absurd same
+ticks_passed readings m t entries a (suc n) (x ∷ before) (y ∷ after) all same = (
+  subst (GroupTicks readings m t (entries_in a entries) a) (sym same.0) (ticks-noted readings m t (entries_in a entries) a x y.fates x.failed all.0),
+  ticks_passed readings m t entries (a + 1) n before after all.1 same.1,
+)
+
+frames_same : (before after : List GroupWork) → AllZip IsButFates before after → frames_by after ≡ frames_by before
+frames_same [] [] same = refl
+frames_same [] (y ∷ after) same = absurd same
+frames_same (x ∷ before) [] same = absurd same
+frames_same (x ∷ before) (y ∷ after) same = ap (λ (w : GroupWork). w.frames.items ++ frames_by after) same.0 ∙ ap (λ fs. x.frames.items ++ fs) (frames_same before after same.1)
+
+sent_append : (t : ℕ) (frames : List Frame) (fates : List (List ℕ)) (frames' : List Frame) (fates' : List (List ℕ)) → length fates ≡ length frames → sent_with t (frames ++ frames') (fates ++ fates') ≡ sent_with t frames fates ++ sent_with t frames' fates'
+sent_append t [] [] frames' fates' long = refl
+sent_append t [] (e ∷ fates) frames' fates' long = absurd (omega arith)
+sent_append t (f ∷ frames) [] frames' fates' long = absurd (omega arith)
+sent_append t (f ∷ frames) (e ∷ fates) frames' fates' long = ap (λ l. sending t f.tag (Some f) e ∷ l) (sent_append t frames fates frames' fates' (omega arith))
+
+-- the Sends of all groups are those of all their frames
+sent_all : (t : ℕ) (works : List GroupWork) → All Fated works → sent_by t works ≡ sent_with t (frames_by works) (fates_by works)
+sent_all t [] fated = refl
+sent_all t (w ∷ works) fated =
+    let here = All-head Fated w works fated in
+    ap (λ l. sent_with t w.frames.items w.fates.items ++ l) (sent_all t works (All-tail Fated w works fated)) ∙ sym (sent_append t w.frames.items w.fates.items (frames_by works) (fates_by works) here.long)
+
+all_fit : (readings : ReadingsView) (m : Masks) (t : ℕ) (entries : List Entry) (a n : ℕ) (works : List GroupWork) → AllTickFrom readings m t entries a n works → All Fated works → All (Fits readings.plan) works
+all_fit readings m t entries a zero [] all fated = All-nil (Fits readings.plan)
+all_fit readings m t entries a zero (w ∷ works) all fated = absurd all
+all_fit readings m t entries a (suc n) [] all fated = absurd all
+all_fit readings m t entries a (suc n) (w ∷ works) all fated =
+    let here = All-head Fated w works fated in
+    All-cons (Fits readings.plan) w works (record { taken = all.0.fit_taken; closed = all.0.fit_closed; frames = all.0.fit_sent; sends = all.0.sends; fated = here.long })
+    (all_fit readings m t entries (a + 1) n works all.1 (All-tail Fated w works fated))
+
+-- ---- their lines make no posts
+
+all_lines : (readings : ReadingsView) (m : Masks) (t : ℕ) (entries : List Entry) (P : Line → Type 0) (F : GroupWork → List Line) (a n : ℕ) (works : List GroupWork)
+    → ((g : ℕ) (w : GroupWork) → GroupTicks readings m t (entries_in g entries) g w → All P (F w)) → AllTickFrom readings m t entries a n works → All P (flat_map F works)
+all_lines readings m t entries P F a zero [] each all = All-nil P
+all_lines readings m t entries P F a zero (w ∷ works) each all = absurd all
+all_lines readings m t entries P F a (suc n) [] each all = absurd all
+all_lines readings m t entries P F a (suc n) (w ∷ works) each all = All-append P (F w) (flat_map F works) (each a w all.0) (all_lines readings m t entries P F (a + 1) n works each all.1)
+
+keeps_quiet : (slots : List Slot) (t k : ℕ) (xs : List Entry) (added : List Line) (lanes : List Slot) (posts : List Post) → k < 2 → All (λ l. phase (event_of l) ≡ k) added
+    → KeepsFates slots t xs lanes posts → KeepsFates slots t (xs ++ map (quiet t) added) lanes posts
+keeps_quiet slots t k xs added lanes posts small phases keeps =
+    let none : posts_of (map (quiet t) added) ≡ [] = posts-silent (map (quiet t) added) (silent-batch t k (map (quiet t) added) small (batch_of t k added phases)) in
+    record {
+      posts_are = keeps.posts_are ∙ sym (posts-append xs (map (quiet t) added) ∙ ap (λ l. posts_of xs ++ l) none ∙ append-nil (posts_of xs));
+      fates = keeps.fates;
+      lanes_are = keeps.lanes_are;
+    }
+
+-- ---- the tick
+
+pub on_both : {A E P Q R : Type 0} (r : Result A E) → (P → Q → R) → OnOk r P → OnOk r Q → OnOk r R
+on_both (Ok x) f p q = f p q
+on_both (Err e) f p q = tt
+
+module _ (readings : ReadingsView) (m : Masks) (t : ℕ) (script : TranscriptView) (before after : List GroupWork) (ticks : AllTick readings m t script.entries before) (same : AllZip IsButFates before after) (fated : All Fated after) where
+  ticked : AllTick readings m t script.entries after
+  ticked = ticks_passed readings m t script.entries 0 (length readings.plan.groups) before after ticks same
+
+  pub all-fit : script.plan ≡ readings.plan → All (Fits script.plan) after
+  all-fit plan = subst (λ (p : PlanView). All (Fits p) after) (sym plan) (all_fit readings m t script.entries 0 (length readings.plan.groups) after ticked fated)
+
+  -- the run stands before the next tick
+  pub run-ticked : (run : Running) → run.presence ≡ presence_of readings → script.plan ≡ readings.plan → AreWhole (length readings.plan.groups) t script.entries → run.works.items ≡ after
+      → run.transcript ≡ record script { entries = whole_then t script.entries after } → run.journal.items ≡ lines_of run.transcript.entries → RunsAt readings m (t + 1) run
+  run-ticked run presence plan whole works is journal =
+      let n : ℕ = length readings.plan.groups in
+      let long : length after ≡ n = range_long (λ g work. GroupTicks readings m t (entries_in g script.entries) g work) 0 n after ticked in
+      let entries : run.transcript.entries ≡ whole_then t script.entries after = ap (λ (z : TranscriptView). z.entries) is in
+      record {
+        presence = presence;
+        plan = ap (λ (z : TranscriptView). z.plan) is ∙ plan;
+        journal = journal;
+        whole = subst (AreWhole n (t + 1)) (sym entries) (whole-then readings m t script.entries after whole ticked fated long);
+        stand = subst (λ ws. AllStand readings m (t + 1) run.transcript.entries ws) (sym works)
+            (subst (λ es. AllStand readings m (t + 1) es after) (sym entries) (all-stand readings m t script.entries after ticked fated long));
+      }
+
+  -- the fates are those of the lanes
+  pub fates-ticked : (made : List GroupWork) (done : TranscriptView) (slots lanes hung : List Slot) (posts all : List Post) → after ≡ made → done ≡ record script { entries = whole_then t script.entries after } → KeepsFates slots t script.entries lanes posts
+      → Passes t (frames_by before) lanes hung posts all (fates_by made) → KeptFates slots (t + 1) done.entries hung all
+  fates-ticked made done slots lanes hung posts all same_works is keeps by_lanes =
+      let n : ℕ = length readings.plan.groups in
+      let passes : Passes t (frames_by before) lanes hung posts all (fates_by after) = subst (λ (ws : List GroupWork). Passes t (frames_by before) lanes hung posts all (fates_by ws)) (sym same_works) by_lanes in
+      let quiets : List Entry = (script.entries ++ map (quiet t) (taken_by after)) ++ map (quiet t) (closed_by after) in
+      let takes : All (λ l. phase (event_of l) ≡ 0) (taken_by after) = all_lines readings m t script.entries (λ l. phase (event_of l) ≡ 0) (λ w. w.taken.items) 0 n after (λ g w tick. tick.takes) ticked in
+      let closes : All (λ l. phase (event_of l) ≡ 1) (closed_by after) = all_lines readings m t script.entries (λ l. phase (event_of l) ≡ 1) (λ w. w.closed.items) 0 n after (λ g w tick. tick.closes) ticked in
+      let kept : KeepsFates slots t quiets lanes posts
+      = keeps_quiet slots t 1 (script.entries ++ map (quiet t) (taken_by after)) (closed_by after) lanes posts (omega arith) closes
+      (keeps_quiet slots t 0 script.entries (taken_by after) lanes posts (omega arith) takes keeps) in
+      let met : KeepsFates slots t (quiets ++ sent_with t (frames_by before) (fates_by after)) hung all = keeps-met slots t (frames_by before) (fates_by after) quiets lanes hung posts all kept passes in
+      let sent : sent_with t (frames_by before) (fates_by after) ≡ sent_by t after = ap (λ fs. sent_with t fs (fates_by after)) (sym (frames_same before after same)) ∙ sym (sent_all t after fated) in
+      kept-next slots t done.entries hung all
+      (subst (λ (z : TranscriptView). KeepsFates slots t z.entries hung all) (sym is) (subst (λ es. KeepsFates slots t (quiets ++ es) hung all) sent met))
+
+-- a tick adds entries
+pub extends-whole : (t : ℕ) (script done : TranscriptView) (works : List GroupWork) → done ≡ record script { entries = whole_then t script.entries works } → Extends script done
+extends-whole t script done works is =
+    let taken : List Entry = map (quiet t) (taken_by works) in
+    let closed : List Entry = map (quiet t) (closed_by works) in
+    record {
+      more = taken ++ (closed ++ sent_by t works);
+      is = is ∙ ap (λ (es : List Entry). record script { entries = es }) (append_assoc (script.entries ++ taken) closed (sent_by t works) ∙ append_assoc script.entries taken (closed ++ sent_by t works));
+    }
