@@ -13,7 +13,7 @@ long : (f : ℕ → ℕ → ℕ) (xs ys : List ℕ) → length xs ≡ 8 → leng
 long f xs ys a b = length-zip2 f xs ys (a ∙ sym b) ∙ a
 
 -- a vector with one number in each lane
-in_splat : (x j : ℕ) → j < 8 → get_or (replicate 8 x) j 0 ≡ x
+pub in_splat : (x j : ℕ) → j < 8 → get_or (replicate 8 x) j 0 ≡ x
 in_splat x j h = get_or-replicate 8 j x 0 h
 
 -- shifted to the left, and what falls out taken from a shift to the right

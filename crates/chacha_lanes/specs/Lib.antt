@@ -1,3 +1,4 @@
+pub mod Blocks
 pub mod Stream
 pub mod Rows
 pub mod Keys

@@ -33,7 +33,7 @@ fn word_of_keys(keys: &[[u8; 32]; 8], at: usize) -> u32x8
 
 // Eight keys, one in each lane.
 #[inline(always)]
-fn key_in_each_lane(keys: &[[u8; 32]; 8]) -> Keys
+pub(crate) fn key_in_each_lane(keys: &[[u8; 32]; 8]) -> Keys
     ensures { (j : ℕ) → j < 8 → key_lane j result ≡ key_of (slice_index_or keys.now j []) }
 {
     [
@@ -85,7 +85,7 @@ fn rounds_from(first: u32) -> u32x8
 
 // The states of the first blocks of these keys, each in the stream that its round numbers.
 #[inline(always)]
-fn first_states(keys: Keys, rounds: u32x8) -> States
+pub(crate) fn first_states(keys: Keys, rounds: u32x8) -> States
     ensures { (j : ℕ) → j < 8 → slice_index rounds j < 2 ^ 32 → lane j result ≡ initial_state (key_lane j keys) 0 (slice_index rounds j) }
 {
     [
@@ -110,7 +110,7 @@ fn first_states(keys: Keys, rounds: u32x8) -> States
 
 // The states after all twenty rounds. The last two stand apart, so that what no caller reads of them is not computed.
 #[inline(always)]
-fn last_states(first: States) -> States
+pub(crate) fn last_states(first: States) -> States
     ensures { (j : ℕ) → j < 8 → lane j result ≡ double_rounds 10 (lane j first) }
 {
     let mut x = first;
@@ -122,7 +122,7 @@ fn last_states(first: States) -> States
 
 // The sums of the lanes of two vectors, modulo 2^32.
 #[inline(always)]
-fn sums(a: u32x8, b: u32x8) -> [u32; 8]
+pub(crate) fn sums(a: u32x8, b: u32x8) -> [u32; 8]
     ensures { (j : ℕ) → j < 8 → slice_index result j ≡ add32 (slice_index a j) (slice_index b j) }
 {
     (a + b).to_array()
@@ -130,7 +130,7 @@ fn sums(a: u32x8, b: u32x8) -> [u32; 8]
 
 // A word of its two halves.
 #[inline(always)]
-fn joined(low: u32, high: u32) -> u64
+pub(crate) fn joined(low: u32, high: u32) -> u64
     ensures { result ≡ low + 2 ^ 32 * high }
 {
     u64::from(low) | (u64::from(high) << 32)

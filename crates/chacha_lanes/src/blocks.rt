@@ -1,0 +1,58 @@
+//! All words of the first blocks of eight keys.
+ghost use Rattle.std.specs.Prelude.{◌≡◌, ℕ, ◌<◌, [], slice_index_or};
+ghost use Rattle.rand_chacha.specs.Block.{add32};
+ghost use Rattle.rand_chacha.specs.Lanes.{lane_at};
+ghost use Rattle.chacha_lanes.specs.Blocks.{lane_words};
+ghost use Rattle.chacha_lanes.specs.Stream.{words_of_block};
+
+use crate::rounds::States;
+use crate::words::{first_states, joined, key_in_each_lane, last_states, sums};
+use std::simd::u32x8;
+
+/// The halves of the words in eight lanes, one row for each place of a block.
+type Halves = [[u32; 8]; 16];
+
+// The words of the blocks: each state's last words, added to its first ones.
+#[inline(always)]
+fn halves(last: States, first: States) -> Halves
+    ensures { (j k : ℕ) → j < 8 → k < 16 → lane_at result k j ≡ add32 (lane_at last k j) (lane_at first k j) }
+{
+    let mut halves = [[0; 8]; 16];
+    for place in 0..16usize {
+        halves[place] = sums(last[place], first[place]);
+    }
+    halves
+}
+
+// The words of 64 bits in a lane.
+#[inline(always)]
+fn words_in_lane(halves: &Halves, lane: usize) -> [u64; 8]
+    requires { lane < 8 }
+    ensures { result ≡ lane_words halves.now lane }
+{
+    [
+        joined(halves[0][lane], halves[1][lane]),
+        joined(halves[2][lane], halves[3][lane]),
+        joined(halves[4][lane], halves[5][lane]),
+        joined(halves[6][lane], halves[7][lane]),
+        joined(halves[8][lane], halves[9][lane]),
+        joined(halves[10][lane], halves[11][lane]),
+        joined(halves[12][lane], halves[13][lane]),
+        joined(halves[14][lane], halves[15][lane]),
+    ]
+}
+
+/// The eight words of the first block of each of these keys in a round, all eight keys at once. Word 0 is the mask word.
+#[inline(never)]
+pub fn stream_blocks(keys: &[[u8; 32]; 8], round: u32) -> [[u64; 8]; 8]
+    ensures { (j : ℕ) → j < 8 → slice_index_or result j [] ≡ words_of_block (slice_index_or keys.now j []) round }
+{
+    let first = first_states(key_in_each_lane(keys), u32x8::splat(round));
+    let last = last_states(first);
+    let halves = halves(last, first);
+    let mut words = [[0; 8]; 8];
+    for lane in 0..8usize {
+        words[lane] = words_in_lane(&halves, lane);
+    }
+    words
+}
