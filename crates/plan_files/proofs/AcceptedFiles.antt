@@ -32,7 +32,7 @@ use Rattle.plan_files.specs.MissingKeys.{first_missing, plan_keys}
 use Rattle.plan_files.specs.PlanFiles.{Opened, PlanFileView, completed, opened_from, plan_from, plan_of, stated_plan, unless_missing, with_entries}
 use Rattle.plan_files.specs.PlanForms.{entries_from, groups_from, head_of}
 use Rattle.plan_files.specs.PlanRows.{group_row, has_fields, name_in, number_in, starts_with, text}
-use Rattle.plan_files.specs.Readings.{reading_at, reading_in, reading_of, reading_or_none, readings_by, readings_of, rows_fault, within_range}
+use Rattle.plan_files.specs.Readings.{Says, reading_at, reading_in, reading_of, reading_or_none, readings_by, readings_of, rows_fault, within_range}
 use Rattle.plan_files.specs.Rows.{file_rows}
 use Rattle.plan_files.specs.declared.entry.Entry.{Entry}
 use Rattle.plan_files.specs.declared.fault.FileCause.{FileCause}
@@ -87,10 +87,13 @@ read_member member field h = by_tests (length field == 0) member h
     by_tests false true h = refl
     by_tests false false h = absurd cc
 
-table_read : (plan : PlanView) (rows : List (List (List ℕ))) → IsReadingTable plan (table_of plan (reading_at plan rows))
+-- what fields say that are read so is a reading table, whatever they say: below 2^40, and of members alone
+pub table_read : (says : Says) → ((member : Bool) (field : List ℕ) (v : ℕ) → reading_or_none (says member field) ≡ Some v → v < 2 ^ 40)
+    → ((member : Bool) (field : List ℕ) → is_some (reading_or_none (says member field)) ≡ true → member ≡ true)
+    → (plan : PlanView) (rows : List (List (List ℕ))) → IsReadingTable plan (table_of plan (reading_at says plan rows))
 unfolding reading_in
-table_read plan rows =
-    let f = reading_at plan rows in
+table_read says small_said member_said plan rows =
+    let f = reading_at says plan rows in
     let shape = is_table-table_of plan f in
     record {
       shape = shape;
@@ -98,25 +101,25 @@ table_read plan rows =
       of_members = λ g r i is. member g r i (is_place plan g r i) refl is;
     }
   where
-    small : (g r i : ℕ) (t : Bool) → is_place plan g r i ≡ t → (v : ℕ) → reading (table_of plan (reading_at plan rows)) g r i ≡ Some v → v < 2 ^ 40
+    small : (g r i : ℕ) (t : Bool) → is_place plan g r i ≡ t → (v : ℕ) → reading (table_of plan (reading_at says plan rows)) g r i ≡ Some v → v < 2 ^ 40
     small g r i true place v is =
-        read_small (is_member plan.groups g r i) _ v (sym (entry-table_of plan (reading_at plan rows) None g r i place) ∙ is)
+        small_said (is_member plan.groups g r i) _ v (sym (entry-table_of plan (reading_at says plan rows) None g r i place) ∙ is)
     small g r i false place v is =
-        let none = entry_outside plan (table_of plan (reading_at plan rows)) (is_table-table_of plan (reading_at plan rows)) None g r i place in
+        let none = entry_outside plan (table_of plan (reading_at says plan rows)) (is_table-table_of plan (reading_at says plan rows)) None g r i place in
         absurd cc
 
-    member : (g r i : ℕ) (t : Bool) → is_place plan g r i ≡ t → is_some (reading (table_of plan (reading_at plan rows)) g r i) ≡ true → is_member plan.groups g r i ≡ true
+    member : (g r i : ℕ) (t : Bool) → is_place plan g r i ≡ t → is_some (reading (table_of plan (reading_at says plan rows)) g r i) ≡ true → is_member plan.groups g r i ≡ true
     member g r i true place is =
-        read_member (is_member plan.groups g r i) _ (ap is_some (sym (entry-table_of plan (reading_at plan rows) None g r i place)) ∙ is)
+        member_said (is_member plan.groups g r i) _ (ap is_some (sym (entry-table_of plan (reading_at says plan rows) None g r i place)) ∙ is)
     member g r i false place is =
-        let none = ap is_some (entry_outside plan (table_of plan (reading_at plan rows)) (is_table-table_of plan (reading_at plan rows)) None g r i place) in
+        let none = ap is_some (entry_outside plan (table_of plan (reading_at says plan rows)) (is_table-table_of plan (reading_at says plan rows)) None g r i place) in
         absurd cc
 
 pub accepted_readings : AcceptedReadingsAreTables
 unfolding readings_of
 accepted_readings plan bytes readings is =
-    let same = no_fault (rows_fault plan 0 (file_rows bytes)) (readings_by plan (file_rows bytes)) readings is in
-    subst (AreReadingsOf plan) same (record { same_plan = refl; table = table_read plan (file_rows bytes) })
+    let same = no_fault (rows_fault reading_of plan 0 (file_rows bytes)) (readings_by reading_of plan (file_rows bytes)) readings is in
+    subst (AreReadingsOf plan) same (record { same_plan = refl; table = table_read reading_of read_small read_member plan (file_rows bytes) })
 
 -- ---- groups
 

@@ -20,7 +20,6 @@ use Rattle.hex.specs.declared.error.FromHexError.TheVariants.{OddLength, Invalid
 use Rattle.plan_files.specs.Fields.{behind_fields, cut_text_with, first_field}
 use Rattle.plan_files.specs.KeptRows.{IsBegun, KeepsField, fields_in, fields_or_none, goes_on, is_at_comma, kept_of, kept_with, most_bytes, most_fields, next_row, rows_in, starts_row}
 use Rattle.plan_files.specs.PlanRows.{arg_in, has_fields}
-use Rattle.plan_files.specs.Readings.{reading_of}
 use Rattle.plan_files.specs.declared.fault.FileCause.TheVariants as cause
 use Rattle.plan_files.specs.declared.kept_row.Row.{Row}
 use Rattle.plan_files.proofs.FieldLemmas.{behind_comma, behind_found, behind_row, row_begins, row_goes_on}
@@ -106,7 +105,7 @@ pub cut_twice : (most : ℕ) (text : List ℕ) → take most (take most text) �
 cut_twice most text = take_all most (take most text) (let l = length-take most text in omega (arith, l))
 
 -- what holds of what is kept of a long text and of the whole holds of both
-same_if_long : {A : Type 0} (f : List ℕ → A) (x : A) (text : List ℕ) → ((t : List ℕ) → most_bytes ≤ length t → f t ≡ x) → f (take most_bytes text) ≡ f text
+pub same_if_long : {A : Type 0} (f : List ℕ → A) (x : A) (text : List ℕ) → ((t : List ℕ) → most_bytes ≤ length t → f t ≡ x) → f (take most_bytes text) ≡ f text
 same_if_long f x text h = elim (cases_lt (length text) most_bytes) [
   | inl short ↦ ap f (take_all most_bytes text (omega (arith, short)))
   | inr long ↦ h (take most_bytes text) (let l = length-take most_bytes text in omega (arith, l)) ∙ sym (h text (omega arith))
@@ -152,15 +151,6 @@ long_key text long =
 
 pub same_key : (text : List ℕ) → result_ok (decode_sized (take most_bytes text) 32) ≡ result_ok (decode_sized text 32)
 same_key text = same_if_long (λ t. result_ok (decode_sized t 32)) None text long_key
-
--- a reading
-pub same_reading : (is_member : Bool) (text : List ℕ) → reading_of is_member (take most_bytes text) ≡ reading_of is_member text
-unfolding reading_of
-same_reading is_member [] = refl
-same_reading is_member (c ∷ cs) =
-    let kept : (length (take most_bytes (c ∷ cs)) == 0) ≡ false = grind (arith, nat_tests) in
-    let whole : (length (c ∷ cs) == 0) ≡ false = grind (arith, nat_tests) in
-    rw (kept, whole, same_number (c ∷ cs)) refl
 
 -- the first row of a plan
 pub two_words : (fields : List (List ℕ)) (a b : List ℕ) → pointwise bytes_eq fields (a ∷ b ∷ []) ≡ ((length fields == 2) && bytes_eq (get_or fields 0 []) a && bytes_eq (get_or fields 1 []) b)

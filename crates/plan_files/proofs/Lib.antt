@@ -12,6 +12,7 @@ pub mod PlainRowLemmas
 pub mod PlainTexts
 pub mod PlanLemmas
 pub mod ReadingLemmas
+pub mod RegisterLemmas
 pub mod RowLemmas
 pub mod RowsLeft
 pub mod SoundPlans
@@ -20,4 +21,5 @@ pub mod SpelledKeys
 pub mod SpelledPlan
 pub mod SpelledReadings
 pub mod SpelledSpans
+pub mod TableLemmas
 pub mod WrittenRows

@@ -74,7 +74,7 @@ field_read plan table is g r i = reading_read (is_member plan.groups g r i) (rea
 
 -- ---- a row
 
-no_fault : (plan : PlanView) (table : Table (Option ℕ)) → IsReadingTable plan table → (g r a n : ℕ) → fields_fault plan g r a (map (λ i. reading_field (reading table g r i)) (range_with_len a n)) ≡ None
+no_fault : (plan : PlanView) (table : Table (Option ℕ)) → IsReadingTable plan table → (g r a n : ℕ) → fields_fault reading_of plan g r a (map (λ i. reading_field (reading table g r i)) (range_with_len a n)) ≡ None
 unfolding fields_fault
 no_fault plan table is g r a zero = refl
 no_fault plan table is g r a (suc n) = rw (field_read plan table is g r a) (no_fault plan table is g r (a + 1) n)
@@ -82,7 +82,7 @@ no_fault plan table is g r a (suc n) = rw (field_read plan table is g r a) (no_f
 same_bytes : (name : List ℕ) → bytes_eq name name ≡ true
 same_bytes name = grind (arith, bytes_eq-Decides)
 
-row_right : (plan : PlanView) (table : Table (Option ℕ)) → IsReadingTable plan table → (g r : ℕ) → r < 2 ^ 32 → row_fault plan g r (readings_row plan table g r) ≡ None
+row_right : (plan : PlanView) (table : Table (Option ℕ)) → IsReadingTable plan table → (g r : ℕ) → r < 2 ^ 32 → row_fault reading_of plan g r (readings_row plan table g r) ≡ None
 unfolding row_fault is_row_of
 row_right plan table is g r small =
     let number : is_number r (within 0 (2 ^ 32) (number_of (decimal r))) ≡ true = ap (is_number r) (within_again 0 (2 ^ 32) r (omega arith) small (omega arith)) ∙ (let e : (r == r) ≡ true = grind (arith, nat_tests) in e) in
@@ -110,16 +110,16 @@ quotient k n m lt some =
     (grind (arith, lt, some), grind (arith, some), omega (arith, parts, turn))
 
 row_at_right : (readings : ReadingsView) → IsWithinLimits readings.plan → IsReadingTable readings.plan readings.table → (k : ℕ) → k < rows_due readings.plan
-    → row_fault readings.plan (k / readings.plan.rounds) (k % readings.plan.rounds) (get_or (readings_rows readings) k []) ≡ None
+    → row_fault reading_of readings.plan (k / readings.plan.rounds) (k % readings.plan.rounds) (get_or (readings_rows readings) k []) ≡ None
 row_at_right readings limits is k lt =
     let plan = readings.plan in
     let q = quotient k (length plan.groups) plan.rounds lt limits.some_round in
     let few = limits.rounds in
     let row = ap (λ p. get_or (readings_rows readings) p []) q.2 ∙ rows_at readings (k / plan.rounds) (k % plan.rounds) q.0 q.1 in
-    ap (row_fault plan (k / plan.rounds) (k % plan.rounds)) row ∙ row_right plan readings.table is (k / plan.rounds) (k % plan.rounds) (let small = q.1 in omega (arith, small, few))
+    ap (row_fault reading_of plan (k / plan.rounds) (k % plan.rounds)) row ∙ row_right plan readings.table is (k / plan.rounds) (k % plan.rounds) (let small = q.1 in omega (arith, small, few))
 
 right_from : (readings : ReadingsView) → IsWithinLimits readings.plan → IsReadingTable readings.plan readings.table → (j k : ℕ) → k + j ≡ rows_due readings.plan
-    → rows_fault readings.plan k (drop k (readings_rows readings)) ≡ None
+    → rows_fault reading_of readings.plan k (drop k (readings_rows readings)) ≡ None
 unfolding rows_fault
 right_from readings limits is zero k all =
     let long = rows_long readings in
@@ -129,16 +129,16 @@ right_from readings limits is zero k all =
 right_from readings limits is (suc j) k all =
     let long = rows_long readings in
     let lt : k < rows_due readings.plan = omega (arith, all) in
-    rows_more readings.plan (readings_rows readings) k (omega (arith, lt, long)) lt (row_at_right readings limits is k lt)
+    rows_more reading_of readings.plan (readings_rows readings) k (omega (arith, lt, long)) lt (row_at_right readings limits is k lt)
     ∙ right_from readings limits is j (k + 1) (omega (arith, all))
 
-rows_right : (readings : ReadingsView) → IsWithinLimits readings.plan → IsReadingTable readings.plan readings.table → rows_fault readings.plan 0 (readings_rows readings) ≡ None
+rows_right : (readings : ReadingsView) → IsWithinLimits readings.plan → IsReadingTable readings.plan readings.table → rows_fault reading_of readings.plan 0 (readings_rows readings) ≡ None
 rows_right readings limits is = right_from readings limits is (rows_due readings.plan) 0 (omega arith)
 
 -- ---- the table
 
 read_at : (readings : ReadingsView) → IsReadingTable readings.plan readings.table → (g r i : ℕ) → is_place readings.plan g r i ≡ true
-    → reading_at readings.plan (readings_rows readings) g r i ≡ reading readings.table g r i
+    → reading_at reading_of readings.plan (readings_rows readings) g r i ≡ reading readings.table g r i
 unfolding reading_in
 read_at readings is g r i place =
     let plan = readings.plan in
@@ -152,10 +152,10 @@ read_at readings is g r i place =
     ∙ (ap (λ (t : List ℕ). reading_or_none (reading_of (is_member plan.groups g r i) t)) field
     ∙ ap reading_or_none (field_read plan readings.table is g r i))
 
-table_again : (readings : ReadingsView) → IsReadingTable readings.plan readings.table → table_of readings.plan (reading_at readings.plan (readings_rows readings)) ≡ readings.table
+table_again : (readings : ReadingsView) → IsReadingTable readings.plan readings.table → table_of readings.plan (reading_at reading_of readings.plan (readings_rows readings)) ≡ readings.table
 table_again readings is =
     let plan = readings.plan in
-    let f = reading_at plan (readings_rows readings) in
+    let f = reading_at reading_of plan (readings_rows readings) in
     same_tables plan None (table_of plan f) readings.table (is_table-table_of plan f) is.shape
     (λ g r i place. entry-table_of plan f None g r i place ∙ read_at readings is g r i place)
 
@@ -192,5 +192,5 @@ spelled_readings readings limits is =
     let rows = readings_rows readings in
     let read : file_rows (file_text rows) ≡ rows = plain_rows rows (all_plain readings limits is) in
     let made : Table (Option ℕ) → ReadingsView = λ t. record { plan = plan; table = t } in
-    ap (λ (r : List (List (List ℕ))). unless (rows_fault plan 0 r) (readings_by plan r)) read
+    ap (λ (r : List (List (List ℕ))). unless (rows_fault reading_of plan 0 r) (readings_by reading_of plan r)) read
     ∙ rw (rows_right readings limits is) (ap (λ t. Ok (made t)) (table_again readings is))

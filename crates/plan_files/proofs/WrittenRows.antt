@@ -7,7 +7,7 @@ use Rattle.std.proofs.lemmas.List.{append-nil}
 use Rattle.std.proofs.lemmas.List.Folds.{flat_map-map}
 use Rattle.group_plan.specs.Plans.{PlanView, IsWithinLimits, size, name_of}
 use Rattle.group_plan.specs.Tables.{ReadingsView, Table, reading, IsReadingTable}
-use Rattle.plan_files.specs.PlainRows.{rest_text, row_text, file_text}
+use Rattle.plan_files.specs.PlainRows.{rest_text, row_text}
 use Rattle.plan_files.specs.Readings.{readings_of}
 use Rattle.plan_files.specs.Spelling.{reading_field, readings_row, readings_rows, readings_text}
 use Rattle.plan_files.proofs.SpelledReadings.{spelled_readings}

@@ -15,7 +15,7 @@ most_fields = 259
 
 -- how many bytes of a field are kept: one more than a right one has that is no argument
 abbrev pub most_bytes : ℕ
-most_bytes = 65
+most_bytes = 168
 
 -- what is kept of fields
 abbrev pub kept_of : List (List ℕ) → List (List ℕ)

@@ -11,6 +11,8 @@ pub mod PlanFiles
 pub mod PlanForms
 pub mod PlanRows
 pub mod Readings
+pub mod RegisterParts
+pub mod Registers
 pub mod Rows
 pub mod RowsLeft
 pub mod SpelledFiles

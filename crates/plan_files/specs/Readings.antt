@@ -21,11 +21,15 @@ unfoldable pub reading_of : Bool → List ℕ → Result (Option ℕ) FileCause
 reading_of member text =
     if length text == 0 then Ok None else if member then within_range (number_of text) else Err cause.NotMember
 
+-- what a field says, by whether its meter is a member of the round: its reading or none, or what is wrong with it
+abbrev pub Says : Type 0
+Says = Bool → List ℕ → Result (Option ℕ) FileCause
+
 -- the first fault among the fields of group g in round r, of which the first is meter i's
-unfoldable pub fields_fault : PlanView → (g r i : ℕ) → List (List ℕ) → Option FileCause
-fields_fault plan g r i [] = None
-fields_fault plan g r i (text ∷ texts) =
-    option_or (result_err (reading_of (is_member plan.groups g r i) text)) (fields_fault plan g r (i + 1) texts)
+unfoldable pub fields_fault : Says → PlanView → (g r i : ℕ) → List (List ℕ) → Option FileCause
+fields_fault says plan g r i [] = None
+fields_fault says plan g r i (text ∷ texts) =
+    option_or (result_err (says (is_member plan.groups g r i) text)) (fields_fault says plan g r (i + 1) texts)
 
 -- whether the number is there, and is n
 abbrev pub is_number : ℕ → Option ℕ → Bool
@@ -38,22 +42,22 @@ is_row_of plan g r fields =
     bytes_eq (slice_index_or fields 0 []) (name_of plan.groups g) && is_number r (within 0 (2 ^ 32) (number_of (slice_index_or fields 1 [])))
 
 -- the first fault of the row that should be group g's in round r
-unfoldable pub row_fault : PlanView → (g r : ℕ) → List (List ℕ) → Option FileCause
-row_fault plan g r fields =
+unfoldable pub row_fault : Says → PlanView → (g r : ℕ) → List (List ℕ) → Option FileCause
+row_fault says plan g r fields =
     if not (is_row_of plan g r fields) then Some cause.Row else
     if not (length fields == 2 + size plan.groups g) then Some cause.Fields else
-    fields_fault plan g r 0 (drop 2 fields)
+    fields_fault says plan g r 0 (drop 2 fields)
 
 -- how many rows the file of a plan has
 abbrev pub rows_due : PlanView → ℕ
 rows_due plan = length plan.groups * plan.rounds
 
 -- the first fault of the rows that come after k others
-unfoldable pub rows_fault : PlanView → ℕ → List (List (List ℕ)) → Option FileError
-rows_fault plan k [] = if nat_lt k (rows_due plan) then Some (in_row (k + 1) cause.Short) else None
-rows_fault plan k (row ∷ rows) =
+unfoldable pub rows_fault : Says → PlanView → ℕ → List (List (List ℕ)) → Option FileError
+rows_fault says plan k [] = if nat_lt k (rows_due plan) then Some (in_row (k + 1) cause.Short) else None
+rows_fault says plan k (row ∷ rows) =
     if nat_lt k (rows_due plan)
-    then option_or (option_map (in_row (k + 1)) (row_fault plan (k / plan.rounds) (k % plan.rounds) row)) (rows_fault plan (k + 1) rows)
+    then option_or (option_map (in_row (k + 1)) (row_fault says plan (k / plan.rounds) (k % plan.rounds) row)) (rows_fault says plan (k + 1) rows)
     else Some (in_row (k + 1) cause.Extra)
 
 -- the reading that a field without fault says
@@ -62,20 +66,20 @@ reading_or_none (Ok value) = value
 reading_or_none (Err what) = None
 
 -- the reading of meter i in the row of group g in round r
-unfoldable pub reading_in : PlanView → (g r : ℕ) → List (List ℕ) → ℕ → Option ℕ
-reading_in plan g r fields i = reading_or_none (reading_of (is_member plan.groups g r i) (slice_index_or fields (2 + i) []))
+unfoldable pub reading_in : Says → PlanView → (g r : ℕ) → List (List ℕ) → ℕ → Option ℕ
+reading_in says plan g r fields i = reading_or_none (says (is_member plan.groups g r i) (slice_index_or fields (2 + i) []))
 
 -- the reading of meter i of group g in round r among the rows of a file
-abbrev pub reading_at : PlanView → List (List (List ℕ)) → (g r i : ℕ) → Option ℕ
-reading_at plan rows g r i = reading_in plan g r (slice_index_or rows (g * plan.rounds + r) []) i
+abbrev pub reading_at : Says → PlanView → List (List (List ℕ)) → (g r i : ℕ) → Option ℕ
+reading_at says plan rows g r i = reading_in says plan g r (slice_index_or rows (g * plan.rounds + r) []) i
 
 -- the readings that the rows say
-abbrev pub readings_by : PlanView → List (List (List ℕ)) → ReadingsView
-readings_by plan rows = record { plan = plan; table = table_of plan (reading_at plan rows) }
+abbrev pub readings_by : Says → PlanView → List (List (List ℕ)) → ReadingsView
+readings_by says plan rows = record { plan = plan; table = table_of plan (reading_at says plan rows) }
 
 -- the readings that the bytes of a file say of a plan, or its first fault
 unfoldable pub readings_of : PlanView → List ℕ → Result ReadingsView FileError
-readings_of plan bytes = unless (rows_fault plan 0 (file_rows bytes)) (readings_by plan (file_rows bytes))
+readings_of plan bytes = unless (rows_fault reading_of plan 0 (file_rows bytes)) (readings_by reading_of plan (file_rows bytes))
 
 -- how the reading of a readings file ends
 abbrev pub ReadingsEnd : PlanView → List ℕ → Result ReadingsView FileError → Type 0

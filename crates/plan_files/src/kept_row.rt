@@ -12,7 +12,7 @@ use std::alloc::{AllocError, Global};
 const MOST_FIELDS: usize = 259;
 
 /// How many bytes of a field are kept: one more than a right one has that is no argument of a lane.
-const MOST_BYTES: usize = 65;
+const MOST_BYTES: usize = 168;
 
 /// A row, of any length: the first of its fields, and the first bytes of each.
 #[derive(Drop)]

@@ -1,20 +1,21 @@
-//! The readings file: one row for each group and round of a plan.
-ghost use Rattle.std.specs.Prelude.{◌≡◌, ◌<◌, ◌≤◌, ◌+◌, ◌^◌, IfErr, IfOk, OnOk, None, Some, drop, length};
+//! The readings file: one row for each group and round of a plan, and in each field a number for each register.
+ghost use Rattle.std.specs.Prelude.{◌≡◌, ◌<◌, ◌≤◌, ◌+◌, ◌^◌, Err, IfErr, IfOk, IfSome, IsTrue, None, Ok, OnOk, Some, drop, length, replicate};
 ghost use Rattle.std.specs.Result.{result_err};
-ghost use Rattle.group_plan.specs.Plans.{size};
+ghost use Rattle.group_plan.specs.Plans.{is_place, is_member, size};
 ghost use Rattle.group_plan.specs.Tables.{absent};
 ghost use Rattle.plan_files.specs.Faults.{ButMemory};
 ghost use Rattle.plan_files.specs.KeptRows.{IsKept, fields_in};
-ghost use Rattle.plan_files.specs.Readings.{ReadingsEnd, fields_fault, is_row_of, readings_by, row_fault, rows_due, rows_fault};
+ghost use Rattle.plan_files.specs.Readings.{ReadingsEnd, fields_fault, is_row_of, row_fault, rows_due, rows_fault};
+ghost use Rattle.plan_files.specs.RegisterParts.{AreOfPlan, AreReadings, AreTables, FillsTables, PutsEach, of_register};
+ghost use Rattle.plan_files.specs.Registers.{register_of, registers_by, tables_of};
 ghost use Rattle.plan_files.specs.RowsLeft.{IsSound, rows_left};
-ghost use Rattle.plan_files.specs.Filling.{FillsRow};
 
 use crate::fault::{FileCause, FileError, NO_MEMORY};
 use crate::kept_row::Row;
-use crate::row::{is_long, is_word, number_field, reading_field};
+use crate::row::{Numbers, is_long, is_word, number_field, readings_field};
 use crate::row_reader::RowReader;
 use group_plan::{Plan, Readings};
-use std::alloc::Global;
+use std::alloc::{AllocError, Global};
 
 /// Whether the row starts with the group's name and the round.
 #[tactic(auto, unfolding(crate::specs::Readings::is_row_of, crate::specs::PlanRows::number_in))]
@@ -33,46 +34,84 @@ fn is_row_of(plan: &Plan, group: u16, round: u32, row: &Row<'_>) -> bool
     }
 }
 
+// The reading of a register among those of a field.
+fn of_register(values: &Option<Numbers>, register: usize) -> Option<u64>
+    requires { IfSome values.now (λ numbers. register < length numbers.items) }
+    ensures { result ≡ of_register values.now register }
+{
+    match values {
+        None => None,
+        Some(numbers) => Some(numbers[register]),
+    }
+}
+
+/// Puts the readings of a meter, in each table that of its register.
+fn put_each(
+    plan: &Plan,
+    tables: &mut [Readings],
+    group: u16,
+    round: u32,
+    meter: u8,
+    values: &Option<Numbers>,
+)
+    requires of_plan { AreOfPlan plan.now tables.old }
+    requires place { IsTrue (is_place plan.now group round meter) }
+    requires values { AreReadings (length tables.old) (is_member plan.now.groups group round meter) values.now }
+    ensures { PutsEach plan.now tables.old group round meter values.now tables.new }
+{
+    for register in 0..tables.len() {
+        tables[register].put(group, round, meter, of_register(values, register));
+    }
+}
+
 /// Puts the readings of a row's fields, up to the first fault.
 fn put_fields(
-    readings: &mut Readings,
+    plan: &Plan,
+    tables: &mut [Readings],
     group: u16,
     round: u32,
     row: &Row<'_>,
 ) -> Result<(), FileCause>
     requires kept { IsKept row.now }
-    requires round { round < readings.old.plan.rounds }
-    requires long { length (fields_in row.now) ≡ 2 + size readings.old.plan.groups group }
-    ensures plan { readings.new.plan ≡ readings.old.plan }
-    ensures fault { fields_fault readings.old.plan group round 0 (drop 2 (fields_in row.now)) ≡ result_err result }
-    ensures filled { IfOk result (λ _. FillsRow readings.old.plan group round (fields_in row.now) (size readings.old.plan.groups group) readings.old.table readings.new.table) }
+    requires count { (1 ≤ length tables.old) × (length tables.old ≤ 8) }
+    requires of_plan { AreOfPlan plan.now tables.old }
+    requires round { round < plan.now.rounds }
+    requires long { length (fields_in row.now) ≡ 2 + size plan.now.groups group }
+    ensures fault { fields_fault (register_of (length tables.old) 0) plan.now group round 0 (drop 2 (fields_in row.now)) ≡ result_err result }
+    ensures filled { OnOk result (FillsTables plan.now group round (fields_in row.now) (size plan.now.groups group) tables.old tables.new) }
 {
-    let meters = readings.plan().meters(group);
-    for meter in 0..meters {
-        let is_member = readings.plan().is_member(group, round, meter as u8);
-        let value = reading_field(row, 2 + meter as usize, is_member)?;
-        readings.put(group, round, meter as u8, value);
+    for meter in 0..plan.meters(group) {
+        let is_member = plan.is_member(group, round, meter as u8);
+        let values = readings_field(row, 2 + meter as usize, tables.len(), is_member)?;
+        put_each(plan, tables, group, round, meter as u8, &values);
     }
     Ok(())
 }
 
 /// Puts the readings of a row, up to its first fault.
 #[tactic(auto, unfolding(crate::specs::Readings::row_fault))]
-fn put_row(readings: &mut Readings, group: u16, round: u32, row: &Row<'_>) -> Result<(), FileCause>
+fn put_row(
+    plan: &Plan,
+    tables: &mut [Readings],
+    group: u16,
+    round: u32,
+    row: &Row<'_>,
+) -> Result<(), FileCause>
     requires kept { IsKept row.now }
-    requires group { group < length readings.old.plan.groups }
-    requires round { round < readings.old.plan.rounds }
-    ensures plan { readings.new.plan ≡ readings.old.plan }
-    ensures fault { row_fault readings.old.plan group round (fields_in row.now) ≡ result_err result }
-    ensures filled { IfOk result (λ _. FillsRow readings.old.plan group round (fields_in row.now) (size readings.old.plan.groups group) readings.old.table readings.new.table) }
+    requires count { (1 ≤ length tables.old) × (length tables.old ≤ 8) }
+    requires of_plan { AreOfPlan plan.now tables.old }
+    requires group { group < length plan.now.groups }
+    requires round { round < plan.now.rounds }
+    ensures fault { row_fault (register_of (length tables.old) 0) plan.now group round (fields_in row.now) ≡ result_err result }
+    ensures filled { OnOk result (FillsTables plan.now group round (fields_in row.now) (size plan.now.groups group) tables.old tables.new) }
 {
-    if !is_row_of(readings.plan(), group, round, row) {
+    if !is_row_of(plan, group, round, row) {
         return Err(FileCause::Row);
     }
-    if !is_long(row, 2 + readings.plan().meters(group) as usize) {
+    if !is_long(row, 2 + plan.meters(group) as usize) {
         return Err(FileCause::Fields);
     }
-    put_fields(readings, group, round, row)
+    put_fields(plan, tables, group, round, row)
 }
 
 /// How many rows the file of a plan has.
@@ -84,16 +123,17 @@ fn rows_due(plan: &Plan) -> usize
 }
 
 /// Puts the readings of all rows, up to the first fault.
-fn put_rows(readings: &mut Readings, rows: &mut RowReader<'_>) -> Result<(), FileError>
-    requires new { readings.old ≡ absent readings.old.plan }
+fn put_rows(plan: &Plan, tables: &mut [Readings], rows: &mut RowReader<'_>) -> Result<(), FileError>
+    requires new { tables.old ≡ replicate (length tables.old) (absent plan.now) }
+    requires count { (1 ≤ length tables.old) × (length tables.old ≤ 8) }
     requires sound { IsSound rows.old }
     requires few { length (rows_left rows.old) ≤ 2 ^ 28 + 1 }
-    ensures fault { IfErr result (λ fault. ButMemory fault.cause (rows_fault readings.old.plan 0 (rows_left rows.old) ≡ Some fault)) }
-    ensures none { OnOk result (rows_fault readings.old.plan 0 (rows_left rows.old) ≡ None) }
-    ensures filled { OnOk result (readings.new ≡ readings_by readings.old.plan (rows_left rows.old)) }
+    ensures fault { IfErr result (λ fault. ButMemory fault.cause (rows_fault (register_of (length tables.old) 0) plan.now 0 (rows_left rows.old) ≡ Some fault)) }
+    ensures none { OnOk result (rows_fault (register_of (length tables.old) 0) plan.now 0 (rows_left rows.old) ≡ None) }
+    ensures filled { OnOk result (tables.new ≡ registers_by plan.now (length tables.old) (rows_left rows.old)) }
 {
-    let rounds = readings.plan().rounds();
-    let due = rows_due(readings.plan());
+    let rounds = plan.rounds();
+    let due = rows_due(plan);
     let mut at = 0;
     while let Some(row) = rows.current() {
         let number = at as u32 + 1;
@@ -105,31 +145,71 @@ fn put_rows(readings: &mut Readings, rows: &mut RowReader<'_>) -> Result<(), Fil
         }
         let group = (at as u32 / rounds) as u16;
         let round = at as u32 % rounds;
-        if let Err(cause) = put_row(readings, group, round, row) {
+        if let Err(cause) = put_row(plan, tables, group, round, row) {
             return Err(FileError { row: number, cause });
         }
         at += 1;
         rows.advance()?;
     }
-    if at < rows_due(readings.plan()) {
+    if at < due {
         return Err(FileError {
             row: at as u32 + 1,
             cause: FileCause::Short,
         });
     }
+    are_tables(tables);
     Ok(())
 }
 
+// A table without a reading for each of so many registers.
+fn no_readings(alloc: Global, plan: &Plan, count: usize) -> Result<Vec<Readings>, AllocError>
+    ensures { IfOk result (λ tables. tables.items ≡ replicate count (absent plan.now)) }
+{
+    let mut tables = Vec::new(alloc);
+    for _register in 0..count {
+        tables.push(Readings::new(alloc, plan)?)?;
+    }
+    Ok(tables)
+}
+
+// Learns that tables are reading tables.
+fn are_tables(tables: &[Readings])
+    ensures { AreTables tables.now }
+{
+    for at in 0..tables.len() {
+        let _plan = tables[at].plan();
+    }
+}
+
+/// The readings of each of so many registers that the bytes of a readings file say of a plan, or the first fault.
+#[tactic(auto, unfolding(crate::specs::Registers::tables_of))]
+pub(crate) fn read_tables(
+    alloc: Global,
+    plan: &Plan,
+    count: usize,
+    bytes: &[u8],
+) -> Result<Vec<Readings>, FileError>
+    requires count { (1 ≤ count) × (count ≤ 8) }
+    requires few { length bytes.now ≤ 2 ^ 28 }
+    ensures read { IfOk result (λ tables. tables_of plan.now count bytes.now ≡ Ok tables.items) }
+    ensures fault { IfErr result (λ fault. ButMemory fault.cause (tables_of plan.now count bytes.now ≡ Err fault)) }
+{
+    let mut rows = RowReader::new(alloc, bytes)?;
+    let Ok(mut tables) = no_readings(alloc, plan, count) else {
+        return Err(NO_MEMORY);
+    };
+    put_rows(plan, tables.as_mut_slice(), &mut rows)?;
+    Ok(tables)
+}
+
 /// The readings that the bytes of a readings file say of a plan, or the first fault.
-#[tactic(auto, unfolding(crate::specs::Readings::readings_of))]
 pub fn read_readings(alloc: Global, plan: &Plan, bytes: &[u8]) -> Result<Readings, FileError>
     requires { length bytes.now ≤ 2 ^ 28 }
     ensures { ReadingsEnd plan.now bytes.now result }
 {
-    let mut rows = RowReader::new(alloc, bytes)?;
-    let Ok(mut readings) = Readings::new(alloc, plan) else {
-        return Err(NO_MEMORY);
-    };
-    put_rows(&mut readings, &mut rows)?;
-    Ok(readings)
+    let mut tables = read_tables(alloc, plan, 1, bytes)?;
+    match tables.pop() {
+        Some(readings) => Ok(readings),
+        None => Err(NO_MEMORY),
+    }
 }

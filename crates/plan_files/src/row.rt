@@ -1,17 +1,22 @@
 //! What the fields of a row may hold.
-ghost use Rattle.std.specs.Prelude.{◌≡◌, ◌<◌, ◌==◌, ◌^◌, IfOk, IfSome, IsSome, IsTrue, [], bytes_eq, length, slice_index_or, take};
+ghost use Rattle.std.specs.Prelude.{◌≡◌, ◌<◌, ◌≤◌, ◌==◌, ◌^◌, [], bytes_eq, length, nat_lt, slice_index_or, take};
+ghost use Rattle.std.specs.List.{list_all};
 ghost use Rattle.plan_files.specs.KeptRows.{IsKept, fields_in, most_bytes, most_fields};
-ghost use Rattle.plan_files.specs.Readings.{reading_of};
+ghost use Rattle.plan_files.specs.RegisterParts.{ReadsField, ReadsNumbers};
 ghost use Rattle.plan_files.specs.PlanRows.{has_fields, key_in, name_in, number_in};
 
 use crate::fault::FileCause;
 use crate::kept_row::Row;
 use crate::key::read_key;
-use field_texts::{read_number, read_number_within};
+use arrayvec::ArrayVec;
+use field_texts::{cut, read_number, read_number_within};
 use group_plan::Name;
 
 /// The largest reading, in watt-hours.
 const MOST_READING: u64 = (1 << 40) - 1;
+
+/// The numbers of a field, one for each register.
+pub type Numbers = ArrayVec<u64, 8>;
 
 /// The bound of all numbers but readings.
 const NUMBER_BOUND: u64 = 1 << 32;
@@ -100,12 +105,47 @@ pub fn name_field(row: &Row<'_>, place: usize) -> Result<Name, FileCause>
     }
 }
 
-/// The reading that a field says, of a member of the round or of a meter that is none.
-#[tactic(auto, unfolding(crate::specs::Readings::reading_of))]
-fn reading(text: &[u8], is_member: bool) -> Result<Option<u64>, FileCause>
-    ensures read { result ≡ reading_of is_member text.now }
-    ensures small { IfOk result (λ reading. IfSome reading (λ n. n < 2 ^ 40)) }
-    ensures member { IfOk result (λ reading. IsSome reading → IsTrue is_member) }
+// The numbers below 2^64 that a text writes, joined by `+`, where there are so many.
+fn read_numbers(text: &[u8], count: usize) -> Option<Numbers>
+    requires { (1 ≤ count) × (count ≤ 8) }
+    ensures { ReadsNumbers count text.now result }
+{
+    let mut numbers = Numbers::new();
+    let mut rest = text;
+    for _done in 0..count - 1 {
+        let Some((part, after)) = cut(b'+', rest) else {
+            return None;
+        };
+        let Some(number) = read_number(part) else {
+            return None;
+        };
+        numbers.push(number);
+        rest = after;
+    }
+    let Some(number) = read_number(rest) else {
+        return None;
+    };
+    numbers.push(number);
+    Some(numbers)
+}
+
+// Whether each of them is a reading.
+fn are_readings(numbers: &[u64]) -> bool
+    ensures { result ≡ list_all (λ n. nat_lt n (2 ^ 40)) numbers.now }
+{
+    for number in numbers {
+        if *number > MOST_READING {
+            return false;
+        }
+    }
+    true
+}
+
+// The readings that a field says, one for each of so many registers, of a member of the round or of a meter that is none.
+#[tactic(auto, using(crate::proofs::RegisterLemmas::field_absent, crate::proofs::RegisterLemmas::field_alien, crate::proofs::RegisterLemmas::field_bad, crate::proofs::RegisterLemmas::field_far, crate::proofs::RegisterLemmas::reads_numbers))]
+fn readings(text: &[u8], count: usize, is_member: bool) -> Result<Option<Numbers>, FileCause>
+    requires { (1 ≤ count) × (count ≤ 8) }
+    ensures { ReadsField count is_member text.now result }
 {
     if text.is_empty() {
         return Ok(None);
@@ -113,20 +153,24 @@ fn reading(text: &[u8], is_member: bool) -> Result<Option<u64>, FileCause>
     if !is_member {
         return Err(FileCause::NotMember);
     }
-    match read_number(text) {
+    match read_numbers(text, count) {
         None => Err(FileCause::Number),
-        Some(reading) if reading > MOST_READING => Err(FileCause::Range),
-        Some(reading) => Ok(Some(reading)),
+        Some(numbers) if are_readings(&numbers) => Ok(Some(numbers)),
+        Some(_) => Err(FileCause::Range),
     }
 }
 
-/// The reading that the field at a place says, of a member of the round or of a meter that is none.
-pub fn reading_field(row: &Row<'_>, place: usize, is_member: bool) -> Result<Option<u64>, FileCause>
+/// The readings that the field at a place says, one for each of so many registers, of a member of the round or of a meter that is none.
+pub fn readings_field(
+    row: &Row<'_>,
+    place: usize,
+    count: usize,
+    is_member: bool,
+) -> Result<Option<Numbers>, FileCause>
     requires kept { IsKept row.now }
     requires place { place < most_fields }
-    ensures read { result ≡ reading_of is_member (slice_index_or (fields_in row.now) place []) }
-    ensures small { IfOk result (λ reading. IfSome reading (λ n. n < 2 ^ 40)) }
-    ensures member { IfOk result (λ reading. IsSome reading → IsTrue is_member) }
+    requires count { (1 ≤ count) × (count ≤ 8) }
+    ensures { ReadsField count is_member (slice_index_or (fields_in row.now) place []) result }
 {
-    reading(kept_field(row, place), is_member)
+    readings(kept_field(row, place), count, is_member)
 }

@@ -1,6 +1,4 @@
-use Rattle.std.proofs.Common.{ℕ, ◌++◌, ◌∙◌, ap, sym, arith}
-use Rattle.std.proofs.lemmas.List.Folds.{flat_map-map}
-use Rattle.std.specs.List.{flat_map, range_with_len}
+use Rattle.std.proofs.Common.{◌++◌, ◌∙◌, ap, arith}
 use Rattle.group_plan.specs.Plans.{PlanView}
 use Rattle.plan_files.specs.PlainRows.{row_text}
 use Rattle.plan_files.specs.Spelling.{readings_row}

@@ -1,4 +1,4 @@
-use Rattle.std.proofs.Common.{ℕ, ◌∷◌, ◌++◌, ◌∙◌, ap}
+use Rattle.std.proofs.Common.{◌∷◌, ◌++◌, ◌∙◌, ap}
 use Rattle.group_plan.specs.Tables.{reading}
 use Rattle.plan_files.specs.Spelling.{reading_field}
 use Rattle.plan_files.proofs.WrittenRows.{written_more}

@@ -1,13 +1,11 @@
-use Rattle.std.proofs.Common.{◌≡◌, ℕ, map, refl, ap, sym, ◌∙◌, arith}
+use Rattle.std.proofs.Common.{map, refl, ap, ◌∙◌, arith}
 use Rattle.std.specs.Prelude.{length}
 use Rattle.std.specs.List.{flat_map, range_with_len}
 use Rattle.std.proofs.lemmas.List.{length-map}
 use Rattle.group_plan.specs.NewPlans.{stated}
 use Rattle.group_plan.specs.Plans.{PlanView}
 use Rattle.plan_files.specs.PlainRows.{row_text}
-use Rattle.plan_files.specs.Readings.{readings_of}
-use Rattle.plan_files.specs.Spelling.{readings_row, readings_text}
-use Rattle.plan_files.proofs.SpelledReadings.{spelled_readings}
+use Rattle.plan_files.specs.Spelling.{readings_row}
 use Rattle.plan_files.proofs.WrittenRows.{groups_written, all_written, read_again}
 use Rattle.plan_files.proofs.writing.write_readings.Goals as goal
 

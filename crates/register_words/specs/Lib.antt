@@ -1,0 +1,11 @@
+pub mod Blocks
+pub mod Hidden
+pub mod MaskTables
+pub mod ReportParts
+pub mod SideReports
+pub mod SideText
+pub mod SideParts
+pub mod Sides
+pub mod Statements
+pub mod Words
+pub mod Worlds
