@@ -6,17 +6,23 @@ use Rattle.load_maker.specs.Sizes.{is_within}
 use Rattle.command_words.specs.declared.words.Size.{Size as KeptSize}
 use Rattle.command_words.specs.declared.words.TwinFiles.{TwinFiles}
 use Rattle.command_words.specs.declared.words.BillFiles.{BillFiles}
+use Rattle.command_words.specs.declared.words.RegisterFiles.{RegisterFiles}
 use Rattle.command_words.specs.declared.words.HideFiles.{HideFiles}
 use Rattle.command_words.specs.declared.words.InspectFiles.{InspectFiles}
 use Rattle.command_words.specs.declared.words.Command.{Command as Kept}
 use Rattle.command_words.specs.declared.words.Command.TheVariants as kept
 use Rattle.command_words.specs.Known.{IsKnown, known_in}
-use Rattle.command_words.specs.Words.{TwinNames, Size, Command, Run, Audit, Twin, Pooled, Make, Load, Convert, Public, Help, Version, names_of, Bill, Hide, BillNames, HideNames, Inspect, InspectNames}
+use Rattle.command_words.specs.Words.{TwinNames, Size, Command, Run, Registers, RegisterNames, Audit, Twin, Pooled, Make, Load, Convert, Public, Help, Version, names_of, Bill, Hide, BillNames, HideNames, Inspect, InspectNames}
 
 -- the names of the files of `twin`
 abbrev pub twin_names_of : TwinFiles → TwinNames
 twin_names_of files =
     record { plan = files.plan.now; readings = files.readings.now; other = files.other.now; transcript = files.transcript.now; masks = files.masks.now }
+
+-- the names of the files of `registers`
+abbrev pub register_names_of : RegisterFiles → RegisterNames
+register_names_of files =
+    record { plan = files.plan.now; readings = files.readings.now; report = files.report.now; transcript = files.transcript.now; words = files.words.now }
 
 -- the names of the files of `bill`
 abbrev pub bill_names_of : BillFiles → BillNames
@@ -41,6 +47,7 @@ name_in name = option_map (λ n. n.now) name
 -- the command that is meant
 abbrev pub asked : Kept → Command
 asked (kept.Run words) = Run (names_of words.files) words.workers
+asked (kept.Registers words) = Registers words.registers (register_names_of words.files) words.workers
 asked (kept.Audit files) = Audit files.transcript.now files.report.now
 asked (kept.Twin files) = Twin (twin_names_of files)
 asked (kept.Pooled words) = Pooled (known_in words.known.now) (twin_names_of words.files)
@@ -61,6 +68,7 @@ IsSize size = is_within size.groups size.meters size.rounds ≡ true
 -- the command's numbers are within their limits, and KNOWN names meters
 abbrev pub IsWithin : Kept → Type 0
 IsWithin (kept.Run words) = (1 ≤ words.workers) × (words.workers ≤ 16)
+IsWithin (kept.Registers words) = (2 ≤ words.registers) × (words.registers ≤ 8) × (1 ≤ words.workers) × (words.workers ≤ 16)
 IsWithin (kept.Pooled words) = IsKnown words.known.now
 IsWithin (kept.Make words) = IsSize words.size
 IsWithin (kept.Load words) = IsSize words.size × (1 ≤ words.workers) × (words.workers ≤ 16)

@@ -16,6 +16,14 @@ pub record RunNames : Type 0 where
   pub report : List ℕ
   pub transcript : List ℕ
 
+-- the names of the files of `registers`
+pub record RegisterNames : Type 0 where
+  pub plan : List ℕ
+  pub readings : List ℕ
+  pub report : List ℕ
+  pub transcript : List ℕ
+  pub words : List ℕ
+
 -- the names of the files of `twin`, and of those of `pooled`
 pub record TwinNames : Type 0 where
   pub plan : List ℕ
@@ -53,6 +61,7 @@ pub record HideNames : Type 0 where
 -- what the words ask for
 pub data Command : Type 0 where
   Run : (names : RunNames) (workers : ℕ) → Command
+  Registers : (count : ℕ) (names : RegisterNames) (workers : ℕ) → Command
   Audit : (transcript report : List ℕ) → Command
   Twin : (names : TwinNames) → Command
   Pooled : (known : List KnownMeter) (names : TwinNames) → Command
@@ -122,6 +131,24 @@ abbrev pub run_of : List (List ℕ) → Option Command
 run_of (plan ∷ readings ∷ report ∷ transcript ∷ []) = run_with plan readings report transcript 4
 run_of (plan ∷ readings ∷ report ∷ transcript ∷ workers ∷ []) = with_number (workers_of workers) (run_with plan readings report transcript)
 run_of _ = None
+
+-- 2 to 8 registers
+abbrev pub registers_of_word : List ℕ → Option ℕ
+registers_of_word word = within 2 9 (number_of word)
+
+-- `registers` with these files, where they are names, so many registers and so many workers
+unfoldable pub registers_with : RegisterNames → (count workers : ℕ) → Option Command
+registers_with names count workers =
+    if are_names (names.plan ∷ names.readings ∷ names.report ∷ names.transcript ∷ names.words ∷ []) then Some (Registers count names workers) else None
+
+-- `registers K PLAN READINGS REPORT TRANSCRIPT WORDS [WORKERS]`; 4 workers where no number is given
+abbrev pub registers_of : List (List ℕ) → Option Command
+registers_of (count ∷ plan ∷ readings ∷ report ∷ transcript ∷ words ∷ []) =
+    with_number (registers_of_word count) (λ count. registers_with (record { plan = plan; readings = readings; report = report; transcript = transcript; words = words }) count 4)
+registers_of (count ∷ plan ∷ readings ∷ report ∷ transcript ∷ words ∷ workers ∷ []) =
+    with_number (registers_of_word count) (λ count. with_number (workers_of workers)
+    (registers_with (record { plan = plan; readings = readings; report = report; transcript = transcript; words = words }) count))
+registers_of _ = None
 
 -- `audit TRANSCRIPT REPORT`
 unfoldable pub audit_with : (transcript report : List ℕ) → Option Command
@@ -282,6 +309,7 @@ asks_version verb = bytes_eq verb (codes "version") || bytes_eq verb (codes "--v
 unfoldable pub command_by : List ℕ → List (List ℕ) → Option Command
 command_by verb words =
     if bytes_eq verb (codes "run") then run_of words
+    else if bytes_eq verb (codes "registers") then registers_of words
     else if bytes_eq verb (codes "audit") then audit_of words
     else if bytes_eq verb (codes "twin") then twin_of words
     else if bytes_eq verb (codes "pooled") then pooled_of words

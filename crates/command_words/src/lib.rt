@@ -13,6 +13,6 @@ pub use outcome::Outcome;
 pub use usage::{USAGE, VERSION};
 pub use words::{
     AuditFiles, BillFiles, BillWords, Command, ConvertFiles, HideFiles, HideWords, InspectFiles,
-    LoadWords, MakeWords, Period, Place, PooledWords, PublicFiles, RunFiles, RunWords, Size,
-    TwinFiles, parse,
+    LoadWords, MakeWords, Period, Place, PooledWords, PublicFiles, RegisterFiles, RegisterWords,
+    RunFiles, RunWords, Size, TwinFiles, parse,
 };

@@ -6,6 +6,9 @@ pub const USAGE: &str = "meteragg: the total of each group of smart meters, from
 Commands
   run PLAN READINGS REPORT TRANSCRIPT [WORKERS]
       run the plan on the readings; write the report and the transcript
+  registers K PLAN READINGS REPORT TRANSCRIPT WORDS [WORKERS]
+      run the plan on readings of K registers, as day and night; write the report
+      with a total of each, the transcript, and the words of the further registers
   audit TRANSCRIPT REPORT
       check the report against the transcript alone, with no key and no reading
   twin PLAN READINGS OTHER TRANSCRIPT MASKS
@@ -38,7 +41,9 @@ Commands
       print the name and the version
 
 Words
-  WORKERS  1 to 16 threads that collect; run has 4 where it is left out
+  K        2 to 8 registers
+  WORKERS  1 to 16 threads that make the ticks of the groups, one for about 1000
+           meters and no more than groups; 4 where it may be left out and is
   KNOWN    - for nobody, or meters joined by +, as 0.1+0.4+2.0: each a group and a
            meter with a point between them, below 256, ascending, each once
   SEED     0 to 18446744073709551615

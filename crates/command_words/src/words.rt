@@ -1,8 +1,8 @@
 //! The words of the command line.
 
 ghost use Rattle.std.specs.Prelude.{◌≡◌, ◌≤◌, ℕ, List, None, Some, IfSome, MatchOption, map, string_bytes};
-ghost use Rattle.command_words.specs.Words.{has_name, are_names, workers_of, run_with, run_of, size_of, audit_of, twin_with, twin_of, pooled_with, pooled_of, make_of, load_with, load_of, convert_of, public_of, inspect_with, inspect_of, alone, asks_help, asks_version, command_by, command_of, period_of, place_of, bill_with, bill_of, hide_with, hide_of};
-ghost use Rattle.command_words.specs.Commands.{size_in, name_in, asked, IsSize, IsWithin, twin_names_of, hide_names_of};
+ghost use Rattle.command_words.specs.Words.{has_name, are_names, workers_of, run_with, run_of, registers_of_word, registers_with, registers_of, size_of, audit_of, twin_with, twin_of, pooled_with, pooled_of, make_of, load_with, load_of, convert_of, public_of, inspect_with, inspect_of, alone, asks_help, asks_version, command_by, command_of, period_of, place_of, bill_with, bill_of, hide_with, hide_of};
+ghost use Rattle.command_words.specs.Commands.{size_in, name_in, asked, IsSize, IsWithin, twin_names_of, register_names_of, hide_names_of};
 ghost use Rattle.command_words.specs.Known.{IsKnown, known_in};
 
 use crate::known::names_meters;
@@ -14,6 +14,9 @@ const USUAL_WORKERS: u32 = 4;
 
 /// The greatest number of workers.
 const MOST_WORKERS: u64 = 16;
+
+/// The most registers.
+const MOST_REGISTERS: u64 = 8;
 
 /// The most rounds that a plan can have.
 const MOST_ROUNDS: u64 = 4096;
@@ -34,6 +37,26 @@ pub struct RunFiles<'a> {
 #[derive(Clone, Copy)]
 pub struct RunWords<'a> {
     pub files: RunFiles<'a>,
+    /// 1 to 16.
+    pub workers: u32,
+}
+
+/// The names of the files of `registers`.
+#[derive(Clone, Copy)]
+pub struct RegisterFiles<'a> {
+    pub plan: &'a str,
+    pub readings: &'a str,
+    pub report: &'a str,
+    pub transcript: &'a str,
+    pub words: &'a str,
+}
+
+/// `registers K PLAN READINGS REPORT TRANSCRIPT WORDS [WORKERS]`.
+#[derive(Clone, Copy)]
+pub struct RegisterWords<'a> {
+    pub files: RegisterFiles<'a>,
+    /// 2 to 8.
+    pub registers: u8,
     /// 1 to 16.
     pub workers: u32,
 }
@@ -170,6 +193,8 @@ pub struct HideWords<'a> {
 pub enum Command<'a> {
     /// Runs the values of the plan file and the readings file.
     Run(RunWords<'a>),
+    /// Runs the values of the plan file and of a readings file with several registers.
+    Registers(RegisterWords<'a>),
     /// Checks a report against a transcript.
     Audit(AuditFiles<'a>),
     /// Shows the mask words under which other readings give the same transcript.
@@ -265,6 +290,74 @@ fn run_words(words: &[String]) -> Option<Command<'_>>
         [plan, readings, report, transcript, number] => {
             let workers = workers(number)?;
             run_with(plan, readings, report, transcript, workers)
+        }
+        _ => None,
+    }
+}
+
+// A number of registers.
+fn registers(word: &str) -> Option<u8>
+    ensures value { result ≡ registers_of_word word.now }
+    ensures few { IfSome result (λ n. (2 ≤ n) × (n ≤ 8)) }
+{
+    let registers = read_number_within(word.as_bytes(), 2, MOST_REGISTERS + 1)?;
+    Some(registers as u8)
+}
+
+// `registers` with these files, so many registers and so many workers, where the words are names.
+#[tactic(auto, unfolding(crate::specs::Words::registers_with))]
+fn registers_with<'a>(files: RegisterFiles<'a>, registers: u8, workers: u32) -> Option<Command<'a>>
+    requires registers { (2 ≤ registers) × (registers ≤ 8) }
+    requires workers { (1 ≤ workers) × (workers ≤ 16) }
+    ensures command { MatchOption result (registers_with (register_names_of files.entry) registers workers ≡ None)
+        (λ command. registers_with (register_names_of files.entry) registers workers ≡ Some (asked command)) }
+    ensures within { IfSome result (λ command. IsWithin command) }
+{
+    if are_names(&[
+        files.plan,
+        files.readings,
+        files.report,
+        files.transcript,
+        files.words,
+    ]) {
+        Some(Command::Registers(RegisterWords {
+            files,
+            registers,
+            workers,
+        }))
+    } else {
+        None
+    }
+}
+
+// `registers` by the words behind the verb.
+fn register_words(words: &[String]) -> Option<Command<'_>>
+    ensures command { MatchOption result (registers_of (map string_bytes words.now) ≡ None) (λ command. registers_of (map string_bytes words.now) ≡ Some (asked command)) }
+    ensures within { IfSome result (λ command. IsWithin command) }
+{
+    match words {
+        [count, plan, readings, report, transcript, words] => {
+            let registers = registers(count)?;
+            let files = RegisterFiles {
+                plan,
+                readings,
+                report,
+                transcript,
+                words,
+            };
+            registers_with(files, registers, USUAL_WORKERS)
+        }
+        [count, plan, readings, report, transcript, words, number] => {
+            let registers = registers(count)?;
+            let workers = workers(number)?;
+            let files = RegisterFiles {
+                plan,
+                readings,
+                report,
+                transcript,
+                words,
+            };
+            registers_with(files, registers, workers)
         }
         _ => None,
     }
@@ -673,6 +766,8 @@ fn command_by<'a>(verb: &str, words: &'a [String]) -> Option<Command<'a>>
 {
     if verb == "run" {
         run_words(words)
+    } else if verb == "registers" {
+        register_words(words)
     } else if verb == "audit" {
         audit_words(words)
     } else if verb == "twin" {

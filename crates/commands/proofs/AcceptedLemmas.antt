@@ -41,12 +41,15 @@ use Rattle.command_words.specs.declared.outcome.Outcome.{Outcome}
 use Rattle.command_words.specs.declared.outcome.Outcome.TheVariants.{Done, NoMemory, BadWords, CannotRead, TooLong, CannotWrite, CannotPrint, BadPlan, BadReadings, BadTranscript, BadReport, Impossible, NotInTime, OtherRow, OtherPlan, OtherLine, OtherPresence, OtherKnown, OtherTotal, BadLane, NoPartner}
 use Rattle.command_words.specs.declared.known.KnownMeter.{KnownMeter}
 use Rattle.command_words.specs.Known.{is_known, are_in_plan}
-use Rattle.command_words.specs.Words.{RunNames, TwinNames, Size, Command, Run, Audit, Twin, Pooled, Make, Load, Convert, Public, Help, Version, BillNames, HideNames, Bill, Hide, InspectNames, Inspect}
+use Rattle.command_words.specs.Words.{RunNames, TwinNames, Size, Command, Run, Audit, Twin, Pooled, Make, Load, Convert, Public, Help, Version, BillNames, HideNames, Bill, Hide, InspectNames, Inspect, Registers, RegisterNames}
 use Rattle.commands.specs.Calls.{most_bytes, EndsAtFetch, IsRead, after_fetches, Unread, Putting, putting, PutsEnd, names_of, Unwritable}
 use Rattle.transcript_text.specs.Spelling.{transcript_text}
-use Rattle.commands.specs.Ends.{fetched_by, put_by, converted_line, RefusesLane, RefusesReadings, RunRefuses, RunEnds, audited_line, AuditCommandEnds, compared_by, moved_line, TwinCommandEnds, counted_line, PooledCommandEnds, made_plan_text, made_readings_text, made_line, MakeEnds, put_where, LoadRefuses, LoadEnds, ConvertRefuses, ConvertEnds, public_line, PublicRefuses, PublicEnds, Ends}
+use Rattle.commands.specs.Ends.{fetched_by, put_by, converted_line, RefusesReadings, RunRefuses, RunEnds, audited_line, AuditCommandEnds, compared_by, moved_line, TwinCommandEnds, counted_line, PooledCommandEnds, made_plan_text, made_readings_text, made_line, MakeEnds, put_where, LoadRefuses, LoadEnds, ConvertRefuses, ConvertEnds, public_line, PublicRefuses, PublicEnds, Ends}
+use Rattle.commands.specs.Runs.{RefusesLane}
 use Rattle.command_words.specs.Outcomes.{status_of, IsFault}
-use Rattle.commands.specs.Accepted.{HoldsFile, RunAccepts, AuditAccepts, TwinAccepts, PooledAccepts, LoadAccepts, ConvertAccepts, PublicAccepts, InspectAccepts, Accepts, AcceptedIsDone, BillAccepts, HideAccepts}
+use Rattle.commands.specs.Accepted.{HoldsFile, RunAccepts, AuditAccepts, TwinAccepts, PooledAccepts, LoadAccepts, ConvertAccepts, PublicAccepts, InspectAccepts, Accepts, AcceptedIsDone, BillAccepts, HideAccepts, RegistersAccept}
+use Rattle.commands.specs.RegisterEnds.{RefusesTables, RegistersEnds, RegistersRefuse, registers_fetched, registers_put}
+use Rattle.plan_files.specs.Registers.{tables_of}
 use Rattle.command_words.specs.declared.words.Period.{Period}
 use Rattle.command_words.specs.declared.words.Place.{Place}
 use Rattle.group_plan.specs.Plans.{PlanView}
@@ -202,6 +205,57 @@ run_calm cupboard names v w outcome good (inr (p, r, p_read, r_read, inr (inl (v
     unwritable_calm (putting names.transcript [] ∷ putting names.report [] ∷ []) (after_fetches (fetched_by names) v) w outcome ends
 run_calm cupboard names v w outcome good (inr (p, r, p_read, r_read, inr (inr (texts, made, only, ends)))) =
     puts_calm (put_by names texts) texts.summary (after_fetches (fetched_by names) v) w outcome ends
+
+-- ---- `registers`
+
+registers_plan_is : (cupboard : List Meaning) (count : ℕ) (names : RegisterNames) (v : View) (good : RegistersAccept cupboard count names v) (p : List ℕ) → IsRead (v.held names.plan) p → plan_of p ≡ Ok good.values.file
+registers_plan_is cupboard count names v good p is = ap plan_of (sym (read_is v names.plan good.plan_bytes p good.plan is)) ∙ good.of_bytes.plan
+
+registers_lanes_are_right : (cupboard : List Meaning) (count : ℕ) (names : RegisterNames) (v : View) (good : RegistersAccept cupboard count names v) (p : List ℕ) (fault : RackError)
+    → IsRead (v.held names.plan) p → RefusesLane cupboard p fault → ⊥
+registers_lanes_are_right cupboard count names v good p fault is bad =
+    let same : good.values.file ≡ bad.0 = ok_same _ _ _ (registers_plan_is cupboard count names v good p is) bad.1 in
+    ok_or_err _ _ _ (ap (λ file. hung_by cupboard file.lanes) (sym same) ∙ good.of_bytes.lanes) bad.2
+
+tables_are_right : (cupboard : List Meaning) (count : ℕ) (names : RegisterNames) (v : View) (good : RegistersAccept cupboard count names v) (p r : List ℕ) (fault : FileError)
+    → IsRead (v.held names.plan) p → IsRead (v.held names.readings) r → RefusesTables cupboard count p r fault → ⊥
+tables_are_right cupboard count names v good p r fault plan_read readings_read bad =
+    let file : good.values.file ≡ bad.0 = ok_same _ _ _ (registers_plan_is cupboard count names v good p plan_read) bad.2 in
+    let same : good.readings_bytes ≡ r = read_is v names.readings good.readings_bytes r good.readings readings_read in
+    ok_or_err _ _ _ (ap (λ f. tables_of f.plan count r) (sym file) ∙ ap (tables_of good.values.file.plan count) (sym same) ∙ good.of_bytes.tables) bad.4
+
+registers_not_refused : (cupboard : List Meaning) (count : ℕ) (names : RegisterNames) (v : View) (p r : List ℕ) (outcome : Outcome) → RegistersAccept cupboard count names v
+    → IsRead (v.held names.plan) p → IsRead (v.held names.readings) r → RegistersRefuse cupboard count names p r outcome → IsCalm outcome
+registers_not_refused cupboard count names v p r Done good p_read r_read ends = absurd ends
+registers_not_refused cupboard count names v p r NoMemory good p_read r_read ends = inr (inr refl)
+registers_not_refused cupboard count names v p r BadWords good p_read r_read ends = absurd ends
+registers_not_refused cupboard count names v p r (CannotRead name) good p_read r_read ends = absurd ends
+registers_not_refused cupboard count names v p r (TooLong name) good p_read r_read ends = absurd ends
+registers_not_refused cupboard count names v p r (CannotWrite name) good p_read r_read ends = absurd ends
+registers_not_refused cupboard count names v p r CannotPrint good p_read r_read ends = absurd ends
+registers_not_refused cupboard count names v p r (BadPlan name fault) good p_read r_read ends = absurd (ok_or_err _ _ _ (registers_plan_is cupboard count names v good p p_read) ends.1)
+registers_not_refused cupboard count names v p r (BadReadings name fault) good p_read r_read ends = absurd (tables_are_right cupboard count names v good p r fault p_read r_read ends.1)
+registers_not_refused cupboard count names v p r (BadTranscript name fault) good p_read r_read ends = absurd ends
+registers_not_refused cupboard count names v p r (BadReport name line) good p_read r_read ends = absurd ends
+registers_not_refused cupboard count names v p r (Impossible name line) good p_read r_read ends = absurd ends
+registers_not_refused cupboard count names v p r (NotInTime name line) good p_read r_read ends = absurd ends
+registers_not_refused cupboard count names v p r (OtherRow at from_frames reported) good p_read r_read ends = absurd ends
+registers_not_refused cupboard count names v p r (OtherPlan name) good p_read r_read ends = absurd ends
+registers_not_refused cupboard count names v p r (OtherLine name line expected) good p_read r_read ends = absurd ends
+registers_not_refused cupboard count names v p r (OtherPresence group round meter) good p_read r_read ends = absurd ends
+registers_not_refused cupboard count names v p r (OtherKnown group round meter) good p_read r_read ends = absurd ends
+registers_not_refused cupboard count names v p r (OtherTotal group round first second) good p_read r_read ends = absurd ends
+registers_not_refused cupboard count names v p r (BadLane fault) good p_read r_read ends = absurd (registers_lanes_are_right cupboard count names v good p fault p_read ends)
+registers_not_refused cupboard count names v p r (NoPartner group round meter) good p_read r_read ends = absurd ends
+
+registers_calm : (cupboard : List Meaning) (count : ℕ) (names : RegisterNames) (v w : View) (outcome : Outcome) → RegistersAccept cupboard count names v → RegistersEnds cupboard count names v w outcome → IsCalm outcome
+registers_calm cupboard count names v w outcome good (inl unread) =
+    unread_calm (registers_fetched names) v w outcome (two_are_short v w names.plan names.readings good.plan_bytes good.readings_bytes good.plan good.readings) unread
+registers_calm cupboard count names v w outcome good (inr (p, r, p_read, r_read, inl refused)) = registers_not_refused cupboard count names v p r outcome good p_read r_read refused.0
+registers_calm cupboard count names v w outcome good (inr (p, r, p_read, r_read, inr (inl (values, ends)))) =
+    unwritable_calm (putting names.transcript [] ∷ putting names.words [] ∷ putting names.report [] ∷ []) (after_fetches (registers_fetched names) v) w outcome ends
+registers_calm cupboard count names v w outcome good (inr (p, r, p_read, r_read, inr (inr (texts, make, ends)))) =
+    puts_calm (registers_put names texts) texts.summary (after_fetches (registers_fetched names) v) w outcome ends
 
 -- ---- `audit`
 
@@ -708,6 +762,7 @@ hide_calm names period place v w outcome good (inr (bytes, read, inr (p, y, of, 
 
 command_calm : (cupboard : List Meaning) (command : Command) (v w : View) (outcome : Outcome) → Accepts cupboard command v → Ends cupboard (Some command) v w outcome → IsCalm outcome
 command_calm cupboard (Run names workers) v w outcome good ends = run_calm cupboard names v w outcome good ends
+command_calm cupboard (Registers count names workers) v w outcome good ends = registers_calm cupboard count names v w outcome good ends
 command_calm cupboard (Audit transcript report) v w outcome good ends = audit_calm transcript report v w outcome good ends
 command_calm cupboard (Twin names) v w outcome good ends = twin_calm names v w outcome good ends
 command_calm cupboard (Pooled known names) v w outcome good ends = pooled_calm known names v w outcome good ends

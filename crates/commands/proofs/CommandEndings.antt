@@ -23,7 +23,7 @@ use Rattle.commands.specs.Pooled.{PooledCompared, PooledRefuses}
 use Rattle.command_words.specs.declared.known.KnownMeter.{KnownMeter}
 use Rattle.command_words.specs.Words.{RunNames, TwinNames, Size}
 use Rattle.commands.specs.Calls.{most_bytes, HasFetched, EndsAtFetch, Unread, IsRead, after_fetches, Putting, putting, HasPut, names_of, Unwritable, PutsEnd}
-use Rattle.commands.specs.Ends.{fetched_by, put_by, RunEnds, RefusesLane, RefusesReadings, audited_line, AuditCommandEnds, compared_by, counted_line, PooledEndsAs, made_file_of, made_plan_text, made_readings_text, IsMade, put_where, LoadEnds, converted_line, ConvertEnds}
+use Rattle.commands.specs.Ends.{fetched_by, put_by, RunEnds, RefusesReadings, audited_line, AuditCommandEnds, compared_by, counted_line, PooledEndsAs, made_file_of, made_plan_text, made_readings_text, IsMade, put_where, LoadEnds, converted_line, ConvertEnds}
 use Rattle.audit_check.specs.declared.answers.AuditCounts.{AuditCounts}
 use Rattle.plan_files.specs.declared.fault.FileError.{FileError}
 use Rattle.plan_files.specs.PlanFiles.{plan_of}
@@ -31,7 +31,7 @@ use Rattle.plan_files.specs.Readings.{readings_of}
 use Rattle.load_maker.specs.Made.{made_plan, made_file, made_readings}
 use Rattle.load_maker.specs.MadeFiles.{AreRead}
 use Rattle.commands.specs.Audits.{Audited, ReportRefuses, AuditRefuses}
-use Rattle.commands.specs.Runs.{HasValues, Texts, Makes}
+use Rattle.commands.specs.Runs.{HasValues, Texts, Makes, RefusesLane}
 use Rattle.commands.proofs.RunLemmas.{is_only}
 
 -- ---- fetches

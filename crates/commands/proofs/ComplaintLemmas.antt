@@ -5,7 +5,7 @@ use Rattle.desk_outside.specs.Desk.{View}
 use Rattle.link_lanes.specs.Lanes.{Meaning}
 use Rattle.command_words.specs.declared.outcome.Outcome.{Outcome}
 use Rattle.command_words.specs.declared.outcome.Outcome.TheVariants.{Done, NoMemory, BadWords, CannotRead, TooLong, CannotWrite, CannotPrint, BadPlan, BadReadings, BadTranscript, BadReport, Impossible, NotInTime, OtherRow, OtherPlan, OtherLine, OtherPresence, OtherKnown, OtherTotal, BadLane, NoPartner}
-use Rattle.command_words.specs.Words.{Command, Run, Audit, Twin, Pooled, Make, Load, Convert, Public, Inspect, Help, Version, Bill, Hide}
+use Rattle.command_words.specs.Words.{Command, Run, Audit, Twin, Pooled, Make, Load, Convert, Public, Inspect, Help, Version, Bill, Hide, Registers}
 use Rattle.command_words.specs.Outcomes.{HasComplaint}
 use Rattle.commands.specs.Ends.{Ends}
 
@@ -39,6 +39,10 @@ of_line cupboard (Run names workers) v w name line expected (inl unread) = absur
 of_line cupboard (Run names workers) v w name line expected (inr (p, r, p_read, r_read, inl refused)) = absurd refused.0
 of_line cupboard (Run names workers) v w name line expected (inr (p, r, p_read, r_read, inr (inl (values, ends)))) = absurd ends
 of_line cupboard (Run names workers) v w name line expected (inr (p, r, p_read, r_read, inr (inr (texts, made, only, ends)))) = absurd ends
+of_line cupboard (Registers count names workers) v w name line expected (inl unread) = absurd unread
+of_line cupboard (Registers count names workers) v w name line expected (inr (p, r, p_read, r_read, inl refused)) = absurd refused.0
+of_line cupboard (Registers count names workers) v w name line expected (inr (p, r, p_read, r_read, inr (inl (values, ends)))) = absurd ends
+of_line cupboard (Registers count names workers) v w name line expected (inr (p, r, p_read, r_read, inr (inr (texts, make, ends)))) = absurd ends
 of_line cupboard (Audit transcript report) v w name line expected (inl unread) = absurd unread
 of_line cupboard (Audit transcript report) v w name line expected (inr (tb, rb, t_read, r_read, inl refused)) = absurd refused.0
 of_line cupboard (Audit transcript report) v w name line expected (inr (tb, rb, t_read, r_read, inr (counts, audited, ends))) = absurd ends

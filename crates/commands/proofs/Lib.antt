@@ -8,8 +8,10 @@ pub mod InspectedRuns
 mod InspectLemmas
 mod MadePlanLemmas
 mod PublicLemmas
+pub mod RegisterLemmas
 pub mod RunLemmas
 pub mod StoredLemmas
 mod StreamLemmas
 mod TwinLemmas
+mod CommitLemmas
 pub mod ComplaintLemmas

@@ -15,10 +15,11 @@ use Rattle.load_maker.proofs.MadeReads.{made_files}
 use Rattle.command_words.specs.declared.outcome.Outcome.{Outcome}
 use Rattle.command_words.specs.declared.outcome.Outcome.TheVariants.{Done, NoMemory, BadWords, CannotRead, TooLong, CannotWrite, CannotPrint, BadPlan, BadReadings, BadTranscript, BadReport, Impossible, NotInTime, OtherRow, OtherPlan, OtherLine, OtherPresence, OtherKnown, OtherTotal, BadLane, NoPartner}
 use Rattle.command_words.specs.Outcomes.{status_of}
-use Rattle.command_words.specs.Words.{RunNames, Size, Command, Run, Audit, Twin, Pooled, Make, Load, Convert, Public, Inspect, Bill, Hide, Help, Version}
+use Rattle.command_words.specs.Words.{RunNames, Size, Command, Run, Audit, Twin, Pooled, Make, Load, Convert, Public, Inspect, Bill, Hide, Help, Version, Registers}
 use Rattle.commands.specs.Accepted.{HoldsFile, RunAccepts, Accepts, AcceptedIsDone}
 use Rattle.commands.specs.Cupboard.{full_cupboard, IsMade, RunsMadePlan, MadePlansGetLanes, RunsMadeFiles, MadeFilesAreDone}
-use Rattle.commands.specs.Ends.{made_file_of, made_plan_text, made_readings_text, RefusesLane, Ends}
+use Rattle.commands.specs.Ends.{made_file_of, made_plan_text, made_readings_text, Ends}
+use Rattle.commands.specs.Runs.{RefusesLane}
 use Rattle.commands.specs.Promise.{EndsAndTells}
 use Rattle.commands.proofs.AcceptedLemmas.{read_is}
 
@@ -61,6 +62,7 @@ run_accepted size is names v plan readings =
 made_accepted : (command : Command) (v : View) → RunsMadeFiles command v → Accepts full_cupboard command v
 made_accepted (Load size workers transcript) v is = let hung = made_hung size is in record { slots = hung.0; lanes = hung.1 }
 made_accepted (Run names workers) v (size, is, plan, readings) = run_accepted size is names v plan readings
+made_accepted (Registers count names workers) v is = absurd is
 made_accepted (Audit transcript report) v is = absurd is
 made_accepted (Twin names) v is = absurd is
 made_accepted (Pooled known names) v is = absurd is
@@ -125,6 +127,12 @@ no_lane (Run names workers) v w fault (size, is, held) (inr (p, r, p_read, r_rea
     run_hung size is fault (subst (λ bytes. RefusesLane full_cupboard bytes fault) (sym same) refused.0)
 no_lane (Run names workers) v w fault is (inr (p, r, p_read, r_read, inr (inl (values, ends)))) = ends
 no_lane (Run names workers) v w fault is (inr (p, r, p_read, r_read, inr (inr (texts, made, only, ends)))) = ends
+no_lane (Registers count names workers) v w fault is (inl unread) = unread
+no_lane (Registers count names workers) v w fault (size, is, held) (inr (p, r, p_read, r_read, inl refused)) =
+    let same = read_is v names.plan (made_plan_text size) p (plan_held size is names.plan v held) p_read in
+    run_hung size is fault (subst (λ bytes. RefusesLane full_cupboard bytes fault) (sym same) refused.0)
+no_lane (Registers count names workers) v w fault is (inr (p, r, p_read, r_read, inr (inl (values, ends)))) = ends
+no_lane (Registers count names workers) v w fault is (inr (p, r, p_read, r_read, inr (inr (texts, make, ends)))) = ends
 no_lane (Audit transcript report) v w fault is ends = absurd is
 no_lane (Twin names) v w fault is ends = absurd is
 no_lane (Pooled known names) v w fault is ends = absurd is

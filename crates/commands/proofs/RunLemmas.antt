@@ -38,7 +38,7 @@ use Rattle.plan_files.specs.declared.fault.FileCause.TheVariants as cause
 use Rattle.plan_files.specs.Faults.{unless, ButMemory}
 use Rattle.link_lanes.specs.declared.row.LaneRow.{LaneRow}
 use Rattle.plan_files.specs.Rows.{file_rows}
-use Rattle.plan_files.specs.Readings.{ReadingsEnd, readings_of, readings_by, rows_fault}
+use Rattle.plan_files.specs.Readings.{ReadingsEnd, readings_of, readings_by, rows_fault, Says, reading_of}
 use Rattle.plan_files.specs.PlanFiles.{PlanFileView, plan_of}
 use Rattle.group_book.specs.Books.{BookView}
 use Rattle.transcript_log.specs.Transcripts.{TranscriptView, IsTranscript}
@@ -196,16 +196,16 @@ good readings keys slots book t finished =
 -- ---- from the files to the texts
 
 -- the readings of a file are of the plan that they are read for
-plan_of_value : (o : Option FileError) (plan : PlanView) (rows : List (List (List ℕ))) (readings : ReadingsView) → unless o (readings_by plan rows) ≡ Ok readings → readings.plan ≡ plan
-plan_of_value None plan rows readings is = let e : readings_by plan rows ≡ readings = cc in sym (ap (λ r. r.plan) e)
-plan_of_value (Some fault) plan rows readings is = absurd cc
+plan_of_value : (o : Option FileError) (says : Says) (plan : PlanView) (rows : List (List (List ℕ))) (readings : ReadingsView) → unless o (readings_by says plan rows) ≡ Ok readings → readings.plan ≡ plan
+plan_of_value None says plan rows readings is = let e : readings_by says plan rows ≡ readings = cc in sym (ap (λ r. r.plan) e)
+plan_of_value (Some fault) says plan rows readings is = absurd cc
 
 pub plan_of_readings : (plan : PlanView) (bytes : List ℕ) (readings : ReadingsView) → readings_of plan bytes ≡ Ok readings → readings.plan ≡ plan
 unfolding readings_of
-plan_of_readings plan bytes readings is = plan_of_value (rows_fault plan 0 (file_rows bytes)) plan (file_rows bytes) readings is
+plan_of_readings plan bytes readings is = plan_of_value (rows_fault reading_of plan 0 (file_rows bytes)) reading_of plan (file_rows bytes) readings is
 
 -- the values with this plan in place of the file's
-with_plan : PlanFileView → List Slot → ReadingsView → PlanView → Values
+unfoldable pub with_plan : PlanFileView → List Slot → ReadingsView → PlanView → Values
 with_plan file slots readings plan = record { file = record file { plan = plan }; slots = slots; readings = readings }
 
 -- the run of a finished run
@@ -272,7 +272,7 @@ summary_is readings file slots book t is finished well =
     ∙ sym (ap (summary_of_posts s c (plain_sum x)) well.posts))
 
 -- the texts of a finished run of the values of the files are those that the files make
-made : (file : PlanFileView) (slots : List Slot) (readings : ReadingsView) (book : BookView) (t : TranscriptView) (texts : Texts)
+pub made : (file : PlanFileView) (slots : List Slot) (readings : ReadingsView) (book : BookView) (t : TranscriptView) (texts : Texts)
     → IsFinished readings file.keys slots book t → AreTextsOf book t texts
     → AreSound (with_plan file slots readings readings.plan) × IsRunOf (with_plan file slots readings readings.plan) t.entries × AreTexts (with_plan file slots readings readings.plan) t.entries texts
 unfolding with_plan told_rows told_summary book_row book_summary

@@ -21,7 +21,7 @@ use Rattle.plan_files.specs.PlanFiles.{PlanFileView, plan_of, public_of}
 use Rattle.run_course.specs.Beginnings.{IsSomeRun}
 use Rattle.command_words.specs.declared.known.KnownMeter.{KnownMeter}
 use Rattle.command_words.specs.Known.{is_known, are_in_plan}
-use Rattle.command_words.specs.Words.{RunNames, TwinNames, Size, Command, Run, Audit, Twin, Pooled, Make, Load, Convert, Public, Help, Version, BillNames, HideNames, Bill, Hide, InspectNames, Inspect}
+use Rattle.command_words.specs.Words.{RunNames, TwinNames, Size, Command, Run, Audit, Twin, Pooled, Make, Load, Convert, Public, Help, Version, BillNames, HideNames, Bill, Hide, InspectNames, Inspect, Registers, RegisterNames}
 use Rattle.command_words.specs.declared.words.Period.{Period}
 use Rattle.command_words.specs.declared.words.Place.{Place}
 use Rattle.billing_read.specs.declared.partners.Partner.{Partner}
@@ -32,6 +32,7 @@ use Rattle.commands.specs.Calls.{most_bytes}
 use Rattle.commands.specs.Ends.{made_file_of}
 use Rattle.commands.specs.Inspecting.{InspectBytes}
 use Rattle.commands.specs.Twins.{TwinBytes, TwinValues, AreTwinValues}
+use Rattle.commands.specs.RegisterRuns.{RegisterValues, AreRegisterValues}
 use Rattle.commands.specs.Runs.{Values, AreValues}
 
 -- the desk tells that the name holds these bytes, and they are not too many
@@ -47,6 +48,15 @@ pub record RunAccepts (cupboard : List Meaning) (names : RunNames) (v : View) : 
   pub readings : HoldsFile v names.readings readings_bytes
   pub values : Values
   pub of_bytes : AreValues cupboard plan_bytes readings_bytes values
+
+-- the two files of `registers` have values, for which the cupboard has the lanes
+pub record RegistersAccept (cupboard : List Meaning) (count : ℕ) (names : RegisterNames) (v : View) : Type 0 where
+  pub plan_bytes : List ℕ
+  pub readings_bytes : List ℕ
+  pub plan : HoldsFile v names.plan plan_bytes
+  pub readings : HoldsFile v names.readings readings_bytes
+  pub values : RegisterValues
+  pub of_bytes : AreRegisterValues cupboard count plan_bytes readings_bytes values
 
 -- both files of `audit` have texts that are read, the lines of the transcript are possible, and the rows of the report are those that the frames give
 pub record AuditAccepts (transcript report : List ℕ) (v : View) : Type 0 where
@@ -151,6 +161,7 @@ pub record HideAccepts (names : HideNames) (period : Period) (place : Place) (v 
 -- the files that a command fetches are accepted
 abbrev pub Accepts : List Meaning → Command → View → Type 0
 Accepts cupboard (Run names workers) v = RunAccepts cupboard names v
+Accepts cupboard (Registers count names workers) v = RegistersAccept cupboard count names v
 Accepts cupboard (Audit transcript report) v = AuditAccepts transcript report v
 Accepts cupboard (Twin names) v = TwinAccepts names v
 Accepts cupboard (Pooled known names) v = PooledAccepts known names v

@@ -103,6 +103,14 @@ PutsEnd files line v w (CannotWrite name) = EndsAtPut files v w name.now ⊎ Non
 PutsEnd files line v w CannotPrint = (front : List ℕ) × IsPrefixOf front line × (w ≡ after_step (after_puts files v) (Said front true))
 PutsEnd files line v w _ = ⊥
 
+-- the same, once all bytes of the files are on the disk: each is put, or the first that can't take its name ends the command
+abbrev pub CommitsEnd : List Putting → List ℕ → View → View → Outcome → Type 0
+CommitsEnd files line v w Done = w ≡ after_step (after_puts files v) (Said line false)
+CommitsEnd files line v w NoMemory = HasPut files v w
+CommitsEnd files line v w (CannotWrite name) = EndsAtPut files v w name.now
+CommitsEnd files line v w CannotPrint = (front : List ℕ) × IsPrefixOf front line × (w ≡ after_step (after_puts files v) (Said front true))
+CommitsEnd files line v w _ = ⊥
+
 -- a begun file was committed, or that ends the command
 abbrev pub Committed : (has : List ℕ → Type 0) (has_failed : Bool) (name : List ℕ) → View → View → Result (Unit {0}) Outcome → Type 0
 Committed has has_failed name v w (Ok done) = (has_failed ≡ false) × ((bytes : List ℕ) → has bytes → w ≡ after_step v (Stored name bytes))

@@ -1,7 +1,6 @@
 -- What a command does to the desk, by its outcome.
 use Rattle.std.specs.Prelude.{◌≡◌, ◌⊎◌, ◌*◌, ℕ, List, [], ◌∷◌, ◌++◌, length, Option, Some, None, Ok, Err, codes, decimal, ⊤}
 use Rattle.desk_outside.specs.Desk.{View}
-use Rattle.link_lanes.specs.declared.cupboard.RackError.{RackError}
 use Rattle.link_lanes.specs.Lanes.{Meaning, Slot}
 use Rattle.link_lanes.specs.Fits.{hung_by}
 use Rattle.plan_files.specs.declared.fault.FileError.{FileError}
@@ -16,7 +15,7 @@ use Rattle.command_words.specs.declared.usage.TheConstants.{USAGE, VERSION}
 use Rattle.command_words.specs.declared.outcome.Outcome.{Outcome}
 use Rattle.command_words.specs.declared.outcome.Outcome.TheVariants.{NoMemory, BadWords, BadPlan, BadReadings, BadTranscript, BadLane}
 use Rattle.command_words.specs.declared.known.KnownMeter.{KnownMeter}
-use Rattle.command_words.specs.Words.{RunNames, TwinNames, Size, Command, Run, Audit, Twin, Pooled, Make, Load, Convert, Public, Help, Version, Bill, Hide, Inspect}
+use Rattle.command_words.specs.Words.{RunNames, TwinNames, Size, Command, Run, Registers, Audit, Twin, Pooled, Make, Load, Convert, Public, Help, Version, Bill, Hide, Inspect}
 use Rattle.commands.specs.Calls.{IsRead, after_fetches, Unread, Putting, putting, PutsEnd, Unwritable}
 use Rattle.plan_files.specs.PlanFiles.{public_of}
 use Rattle.plan_files.specs.Spelling.{plan_text, public_text, readings_text}
@@ -28,7 +27,8 @@ use Rattle.twin_worlds.specs.declared.rows.MovedRow.{MovedRow}
 use Rattle.twin_worlds.specs.MasksText.{masks_text}
 use Rattle.commands.specs.Twins.{TwinBytes, AreReadBy, Compared, TwinRefuses}
 use Rattle.commands.specs.Pooled.{PooledCompared, PooledRefuses}
-use Rattle.commands.specs.Runs.{Texts, Makes, IsOnly, HasValues}
+use Rattle.commands.specs.RegisterEnds.{RegistersEnds}
+use Rattle.commands.specs.Runs.{Texts, Makes, IsOnly, HasValues, RefusesLane}
 use Rattle.commands.specs.BillingEnds.{BillEnds, HideEnds}
 use Rattle.commands.specs.Inspecting.{InspectCommandEnds}
 
@@ -41,10 +41,6 @@ fetched_by names = names.plan ∷ names.readings ∷ []
 -- the files that it puts, in order
 abbrev pub put_by : RunNames → Texts → List Putting
 put_by names texts = putting names.transcript texts.transcript ∷ putting names.report texts.report ∷ []
-
--- the plan file has a value, and a lane row of it is refused so
-abbrev pub RefusesLane : List Meaning → List ℕ → RackError → Type 0
-RefusesLane cupboard plan_bytes fault = (file : PlanFileView) × (plan_of plan_bytes ≡ Ok file) × (hung_by cupboard file.lanes ≡ Err fault)
 
 -- the plan file has a value and its lane rows get their lanes, and the readings file has this fault
 abbrev pub RefusesReadings : List Meaning → List ℕ → List ℕ → FileError → Type 0
@@ -259,6 +255,7 @@ PublicEnds plan public v w outcome =
 abbrev pub Ends : List Meaning → Option Command → View → View → Outcome → Type 0
 Ends cupboard None v w outcome = (outcome ≡ BadWords) × (w ≡ v)
 Ends cupboard (Some (Run names workers)) v w outcome = RunEnds cupboard names v w outcome
+Ends cupboard (Some (Registers count names workers)) v w outcome = RegistersEnds cupboard count names v w outcome
 Ends cupboard (Some (Audit transcript report)) v w outcome = AuditCommandEnds transcript report v w outcome
 Ends cupboard (Some (Twin names)) v w outcome = TwinCommandEnds names v w outcome
 Ends cupboard (Some (Pooled known names)) v w outcome = PooledCommandEnds known names v w outcome

@@ -4,6 +4,8 @@ pub mod Calls
 pub mod Sources
 pub mod Runs
 pub mod RunTexts
+pub mod RegisterRuns
+pub mod RegisterEnds
 pub mod Audits
 pub mod Twins
 pub mod TwinTexts

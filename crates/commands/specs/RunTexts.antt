@@ -13,8 +13,8 @@ use Rattle.totals_report.specs.Reports.{report_rows, report_text, summary_text}
 use Rattle.commands.specs.declared.texts.RunTexts.{RunTexts}
 use Rattle.commands.specs.declared.texts.Refusal.{Refusal}
 use Rattle.commands.specs.declared.texts.Refusal.TheVariants.{Plan, Lane, Readings, Unwritable, Memory}
-use Rattle.commands.specs.Runs.{HasValues, Texts, Makes}
-use Rattle.commands.specs.Ends.{RefusesLane, RefusesReadings}
+use Rattle.commands.specs.Runs.{HasValues, Texts, Makes, RefusesLane}
+use Rattle.commands.specs.Ends.{RefusesReadings}
 
 -- the texts that are kept, that of the transcript as its value
 abbrev pub texts_of : RunTexts → Texts

@@ -1,7 +1,8 @@
 -- What `run` makes of the bytes of its two files: the values of the files, a run by ticks, and three texts.
-use Rattle.std.specs.Prelude.{◌≡◌, ℕ, ◌<◌, List, length, reverse, Ok}
+use Rattle.std.specs.Prelude.{◌≡◌, ℕ, ◌<◌, List, length, reverse, Ok, Err}
 use Rattle.group_plan.specs.Plans.{PlanView, IsWithinLimits}
 use Rattle.group_plan.specs.Tables.{ReadingsView, reading, IsReadingTable}
+use Rattle.link_lanes.specs.declared.cupboard.RackError.{RackError}
 use Rattle.link_lanes.specs.Lanes.{Meaning, Slot}
 use Rattle.link_lanes.specs.Fits.{hung_by}
 use Rattle.mask_stream.specs.KeyStreams.{streams}
@@ -62,6 +63,10 @@ pub record AreValues (cupboard : List Meaning) (plan_bytes readings_bytes : List
 -- the bytes have values, for which the cupboard has the lanes
 abbrev pub HasValues : List Meaning → (plan_bytes readings_bytes : List ℕ) → Type 0
 HasValues cupboard plan_bytes readings_bytes = (v : Values) × AreValues cupboard plan_bytes readings_bytes v
+
+-- the plan file has a value, and a lane row of it is refused so
+abbrev pub RefusesLane : List Meaning → List ℕ → RackError → Type 0
+RefusesLane cupboard plan_bytes fault = (file : PlanFileView) × (plan_of plan_bytes ≡ Ok file) × (hung_by cupboard file.lanes ≡ Err fault)
 
 -- what all such values are: a plan within its limits, and readings below 2^40 of members alone
 pub record AreSound (v : Values) : Type 0 where

@@ -1,12 +1,12 @@
 //! The calls of a command on the desk: fetches at its beginning, puts and a said line at its end.
 
-ghost use Rattle.std.specs.Prelude.{◌≡◌, ◌≤◌, ◌⊎◌, ◌++◌, ℕ, List, [], ◌∷◌, true, IfOk, IfErr};
+ghost use Rattle.std.specs.Prelude.{◌≡◌, ◌≤◌, ◌⊎◌, ◌||◌, ◌++◌, ℕ, List, [], ◌∷◌, true, IfOk, IfErr};
 ghost use Rattle.desk_outside.specs.Desk.{Rose};
-ghost use Rattle.commands.specs.Calls.{OneFetched, TwoFetched, putting, PutsEnd, Committed, IsAmong, Unwritable};
+ghost use Rattle.commands.specs.Calls.{OneFetched, TwoFetched, putting, PutsEnd, CommitsEnd, Committed, IsAmong, Unwritable};
 ghost use Rattle.command_words.specs.Outcomes.{IsFault};
 ghost use Rattle.commands.specs.Sources.{source_bytes};
 
-use crate::source::{Source, TranscriptPieces};
+use crate::source::{Source, TranscriptPieces, WordsPieces, WordsStage};
 use command_words::Outcome;
 use desk_outside::{BegunFile, Desk, DeskError, FetchError, Pieces, Readers, Slice};
 use std::alloc::{AllocError, Global};
@@ -109,6 +109,11 @@ impl<B: BegunFile + Drop> Begun<'_, B> {
                 };
                 self.append(&mut pieces);
             }
+            Source::Words(words) => self.append(&mut WordsPieces {
+                alloc,
+                words,
+                stage: WordsStage::Head,
+            }),
         }
     }
 
@@ -214,6 +219,134 @@ pub fn commit_two<'a, R: Threads + Sync, B: BegunFile + Drop, D: Desk<Begun = B>
     }
     match commit(first, desk) {
         Ok(()) => commit_one(second, line, desk),
+        Err(outcome) => outcome,
+    }
+}
+
+/// Commits two files, one after the other, and then says a line.
+fn commit_then<'a, B: BegunFile + Drop, D: Desk<Begun = B>>(
+    first: Begun<'a, B>,
+    second: Begun<'a, B>,
+    line: &[u8],
+    desk: &mut D,
+) -> Outcome<'a>
+    ensures ends { (one two : List ℕ) → B.has first.entry.file one → B.has second.entry.file two
+        → CommitsEnd (putting first.entry.name.now one ∷ putting second.entry.name.now two ∷ []) line.now (D.view desk.old) (D.view desk.new) result }
+    ensures later { D.faults desk.old ≤ D.faults desk.new }
+    ensures cause { IsFault result → Rose (D.faults desk.old) (D.faults desk.new) }
+{
+    match commit(first, desk) {
+        Ok(()) => commit_one(second, line, desk),
+        Err(outcome) => outcome,
+    }
+}
+
+/// Three files that the desk has begun, in the order in which they are put.
+#[derive(Drop)]
+pub struct ThreeBegun<'a, B: BegunFile + Drop> {
+    pub first: Begun<'a, B>,
+    pub second: Begun<'a, B>,
+    pub third: Begun<'a, B>,
+}
+
+impl<B: BegunFile + Drop> ThreeBegun<'_, B> {
+    /// Whether one of them has failed.
+    pub fn has_failed(&self) -> bool
+        ensures { result ≡ (B.failed self.now.first.file || (B.failed self.now.second.file || B.failed self.now.third.file)) }
+    {
+        self.first.file.has_failed()
+            || self.second.file.has_failed()
+            || self.third.file.has_failed()
+    }
+}
+
+/// Where the bytes of three new files come from.
+#[derive(Clone, Copy)]
+pub struct ThreeSources<'b> {
+    pub first: Source<'b>,
+    pub second: Source<'b>,
+    pub third: Source<'b>,
+}
+
+/// Begins three files for a command.
+pub fn begin_three<'a, B: BegunFile + Drop, D: Desk<Begun = B>>(
+    first: &'a str,
+    second: &'a str,
+    third: &'a str,
+    desk: &mut D,
+) -> Result<ThreeBegun<'a, B>, AllocError>
+    ensures same_view { D.view desk.new ≡ D.view desk.old }
+    ensures same_faults { D.faults desk.new ≡ D.faults desk.old }
+    ensures first { IfOk result (λ begun. (begun.first.name.now ≡ first.now) × B.has begun.first.file []) }
+    ensures second { IfOk result (λ begun. (begun.second.name.now ≡ second.now) × B.has begun.second.file []) }
+    ensures third { IfOk result (λ begun. (begun.third.name.now ≡ third.now) × B.has begun.third.file []) }
+{
+    Ok(ThreeBegun {
+        first: begin(first, Readers::Any, desk)?,
+        second: begin(second, Readers::Any, desk)?,
+        third: begin(third, Readers::Any, desk)?,
+    })
+}
+
+/// Says which of three files has failed, the first one before the others, and can't be written.
+pub fn first_of_three<'a, B: BegunFile + Drop, D: Desk<Begun = B>>(
+    begun: ThreeBegun<'a, B>,
+    desk: &mut D,
+) -> Outcome<'a>
+    requires { (B.failed begun.first.file || (B.failed begun.second.file || B.failed begun.third.file)) ≡ true }
+    ensures ends { Unwritable (begun.entry.first.name.now ∷ begun.entry.second.name.now ∷ begun.entry.third.name.now ∷ []) (D.view desk.old) (D.view desk.new) result }
+    ensures later { D.faults desk.old ≤ D.faults desk.new }
+    ensures cause { IsFault result → Rose (D.faults desk.old) (D.faults desk.new) }
+{
+    let ThreeBegun {
+        first,
+        second,
+        third,
+    } = begun;
+    if first.file.has_failed() {
+        commit_failed(first, desk)
+    } else if second.file.has_failed() {
+        commit_failed(second, desk)
+    } else {
+        commit_failed(third, desk)
+    }
+}
+
+/// Appends the bytes of three sources to three files, commits these, one after the other, once all are on the disk, and then says a line.
+/// Where one of them has failed, none is committed.
+pub fn commit_three<'a, R: Threads + Sync, B: BegunFile + Drop, D: Desk<Begun = B>>(
+    rt: &R,
+    alloc: Global,
+    begun: ThreeBegun<'a, B>,
+    sources: ThreeSources<'_>,
+    line: &[u8],
+    desk: &mut D,
+) -> Outcome<'a>
+    ensures ends { B.has begun.entry.first.file [] → B.has begun.entry.second.file [] → B.has begun.entry.third.file []
+        → PutsEnd (putting begun.entry.first.name.now (source_bytes sources.entry.first) ∷ putting begun.entry.second.name.now (source_bytes sources.entry.second) ∷ putting begun.entry.third.name.now (source_bytes sources.entry.third) ∷ [])
+        line.now (D.view desk.old) (D.view desk.new) result }
+    ensures later { D.faults desk.old ≤ D.faults desk.new }
+    ensures cause { IsFault result → Rose (D.faults desk.old) (D.faults desk.new) }
+{
+    let ThreeBegun {
+        first: mut front,
+        second: mut middle,
+        third: mut last,
+    } = begun;
+    front.append_source(rt, alloc, sources.first);
+    if front.fails_to_flush() {
+        return commit_failed(front, desk);
+    }
+    middle.append_source(rt, alloc, sources.second);
+    if middle.fails_to_flush() {
+        return commit_failed(middle, desk);
+    }
+    last.append_source(rt, alloc, sources.third);
+    if last.fails_to_flush() {
+        return commit_failed(last, desk);
+    }
+    match commit(front, desk) {
+        Ok(()) => commit_then(middle, last, line, desk),
         Err(outcome) => outcome,
     }
 }

@@ -15,6 +15,8 @@ mod metered;
 mod parts;
 mod program;
 mod public;
+mod register_texts;
+mod registers;
 mod run;
 mod run_ahead;
 mod source;

@@ -20,6 +20,7 @@ use crate::inspect::inspect;
 use crate::load::load;
 use crate::make::make;
 use crate::public::public;
+use crate::registers::registers;
 use crate::run::run;
 use crate::twin::{pooled, twin};
 use collector_workers::Gate;
@@ -46,6 +47,7 @@ fn perform<'a, R: Threads + Wait + Sync, D: Desk, G: Gate>(
     match parse(words) {
         None => Outcome::BadWords,
         Some(Command::Run(words)) => run(rt, alloc, words, desk, cupboard, gate),
+        Some(Command::Registers(words)) => registers(rt, alloc, words, desk, cupboard, gate),
         Some(Command::Audit(files)) => audit(alloc, files, desk),
         Some(Command::Twin(files)) => twin(rt, alloc, files, desk),
         Some(Command::Pooled(words)) => pooled(rt, alloc, words, desk),

@@ -51,9 +51,9 @@ pub enum Refusal {
     Memory,
 }
 
-// The texts of a finished run. Once the book has told what it came to, it gives the transcript its lines.
+/// The texts of a finished run. Once the book has told what it came to, it gives the transcript its lines.
 #[tactic(auto, using(crate::proofs::RunLemmas::text_is_read))]
-fn finished_texts(alloc: Global, finished: Finished) -> Result<RunTexts, AllocError>
+pub(crate) fn finished_texts(alloc: Global, finished: Finished) -> Result<RunTexts, AllocError>
     requires { finished.book.journal ≡ lines_of finished.transcript.entries }
     ensures transcript { IfOk result (λ kept. kept.transcript ≡ finished.transcript) }
     ensures texts { IfOk result (λ kept. AreTextsOf finished.book finished.transcript (texts_of kept)) }

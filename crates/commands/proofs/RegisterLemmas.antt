@@ -1,0 +1,378 @@
+-- From what the crates below say of a run of several registers to what the program says of it.
+use Rattle.std.proofs.Common.{◌≡◌, ◌∙◌, ℕ, ◌+◌, ◌-◌, ◌*◌, ◌<◌, ◌≤◌, ◌&&◌, Bool, true, false, not, if◌then◌else◌, zero, suc, List, [], ◌∷◌, ◌++◌, length, map, reverse, All, Option, Some, None, sum_by, refl, sym, ap, subst, inl, inr, arith, Ok, Err}
+use Rattle.std.specs.Borrow.{Bor}
+use Rattle.std.specs.List.{filter, flat_map, range_with_len}
+use Rattle.std.proofs.lemmas.List.Elements.{All-cons, All-nil}
+use Rattle.std.specs.Prelude.{slice_range}
+use Rattle.std.proofs.Common.{append-nil, append_assoc, drop, drop-drop, length-append, length-drop, length-take, take}
+use Rattle.std.proofs.lemmas.Grind.{flat_map-append}
+use Rattle.std.proofs.lemmas.List.{take-append-drop}
+use Rattle.std.proofs.lemmas.List.Concat.{length-flat_map}
+use Rattle.std.proofs.lemmas.List.Sums.{sum_by-cons}
+use Rattle.std.proofs.lemmas.List.FromFn.{length-map-range_with_len, length-range_with_len}
+use mathlib.Core.Path.{fun_ext}
+use Rattle.desk_outside.specs.Desk.{View}
+use Rattle.chacha_lanes.proofs.BlockLemmas.{map_range}
+use Rattle.group_plan.specs.Plans.{PlanView, members, size}
+use Rattle.meter_frames.specs.declared.Frame.{Frame}
+use Rattle.missing_round.specs.Sets.{is_member, less}
+use Rattle.missing_round.proofs.SetLemmas.{is_member-filter, same_filter}
+use Rattle.group_plan.specs.Tables.{PresenceView, ReadingsView, reading}
+use Rattle.group_book.specs.Books.{BookView}
+use Rattle.ideal_masks.specs.Isolation.{Isolated}
+use Rattle.link_lanes.specs.declared.cupboard.RackError.{RackError}
+use Rattle.link_lanes.specs.declared.row.LaneRow.{LaneRow}
+use Rattle.link_lanes.specs.Fits.{hung_by}
+use Rattle.link_lanes.specs.Lanes.{Meaning, Slot}
+use Rattle.mask_stream.specs.KeyStreams.{streams}
+use Rattle.plan_files.specs.declared.fault.FileError.{FileError}
+use Rattle.plan_files.specs.declared.fault.FileCause.TheVariants as cause
+use Rattle.plan_files.specs.PlanFiles.{PlanFileView, plan_of}
+use Rattle.plan_files.specs.Registers.{AreRegisters, RegistersEnd, RegistersView, table, tables_of}
+use Rattle.register_words.specs.SideReports.{register_report, side_total, words_in}
+use Rattle.register_words.specs.Sides.{and_rows, rows_of, side_frame, side_row, side_rows}
+use Rattle.register_words.specs.declared.row.SideRow.{SideRow}
+use Rattle.register_words.specs.SideText.{row_text, rows_text, side_end, side_head, side_text}
+use Rattle.register_words.specs.Statements.{first_lines}
+use Rattle.register_words.specs.Words.{register_streams}
+use Rattle.register_words.specs.Worlds.{row_words, sent_words}
+use Rattle.register_words.proofs.TotalLemmas.{side_totals_are_plain}
+use Rattle.register_words.proofs.WorldLemmas.{each_isolated, side_words_are_world}
+use Rattle.run_rows.specs.Report.{Row, TotalRow, outcome_row, row_of}
+use Rattle.tick_run.specs.Finished.{IsFinished}
+use Rattle.pair_keys.specs.Keys.{Keys}
+use Rattle.totals_report.specs.Books.{row_in as book_row}
+use Rattle.totals_report.specs.declared.row.ReportRow.{ReportRow}
+use Rattle.totals_report.specs.Reports.{group_rows, report_row, report_rows}
+use Rattle.totals_report.specs.Reading.{rows_of_text}
+use Rattle.transcript_log.specs.declared.Entry.{Entry}
+use Rattle.transcript_log.specs.Events.{events_of, lines_of}
+use Rattle.transcript_log.specs.declared.Event.{Event}
+use Rattle.transcript_log.specs.declared.Line.{Line}
+use Rattle.transcript_log.specs.Schedule.{EndedThin, Published, Running, Shape, Unpublished, all_taken, is_announced, is_ended, is_opened, is_published, is_reading_taken, lacking, survivors}
+use Rattle.transcript_log.proofs.ListLemmas.{and_first}
+use Rattle.transcript_log.specs.Tables.{Readings, plain_sum}
+use Rattle.transcript_log.specs.Transcript.{shape_of_readings, transcript}
+use Rattle.transcript_log.specs.Transcripts.{TranscriptView}
+use Rattle.transcript_text.specs.EntryLines.{entry_line}
+use Rattle.transcript_text.specs.Spelling.{ended, transcript_text}
+use Rattle.command_words.specs.declared.outcome.Outcome.{Outcome}
+use Rattle.command_words.specs.declared.outcome.Outcome.TheVariants.{BadPlan, BadReadings, BadLane}
+use Rattle.command_words.specs.Words.{RegisterNames}
+use Rattle.commands.specs.declared.register_texts.RegisterTexts.{RegisterTexts as Kept}
+use Rattle.commands.specs.declared.texts.Refusal.{Refusal}
+use Rattle.commands.specs.declared.texts.Refusal.TheVariants as refusal
+use Rattle.commands.specs.Calls.{IsRead, after_fetches, putting, PutsEnd, Unwritable}
+use Rattle.commands.specs.RegisterEnds.{AreWordsOf, RefusesTables, RegisterTextsEnd, RegistersEnds, register_texts_of, registers_fetched, registers_named, registers_put}
+use Rattle.commands.specs.RegisterRuns.{HasPlainSums, HasRegisterValues, HasRowTotals, IsWorld, RegisterValues, RegistersMake, first_values, side_rows_in}
+use Rattle.commands.specs.declared.source.WordsStage.{WordsStage}
+use Rattle.commands.specs.declared.source.WordsStage.TheVariants.{Head, Rows}
+use Rattle.commands.specs.RunTexts.{AreTextsOf}
+use Rattle.commands.specs.Sources.{words_after}
+use Rattle.commands.specs.Runs.{AreSound, AreTexts, IsRunOf, RefusesLane, Texts, readings_in, row_in, shape_in}
+use Rattle.commands.proofs.RunLemmas.{but_memory, made, with_plan}
+
+-- ---- how many rows a report has
+
+same_sum : (k : ℕ) (xs : List ℕ) → sum_by (λ (_ : ℕ). k) xs ≡ length xs * k
+same_sum k [] = omega arith
+same_sum k (x ∷ xs) = sum_by-cons (λ (_ : ℕ). k) x xs ∙ (ap (λ z. k + z) (same_sum k xs) ∙ omega arith)
+
+pub rows_long : (plan : PlanView) (row_at : ℕ → ℕ → Row) → length (report_rows plan row_at) ≡ length plan.groups * plan.rounds
+unfolding report_rows
+rows_long plan row_at =
+    length-flat_map (group_rows plan row_at) (range_with_len 0 (length plan.groups))
+    ∙ ap (λ h. sum_by h (range_with_len 0 (length plan.groups))) (fun_ext (λ g. length-map-range_with_len (λ r. report_row plan g r (row_at g r)) 0 plan.rounds))
+    ∙ same_sum plan.rounds (range_with_len 0 (length plan.groups)) ∙ ap (λ n. n * plan.rounds) (length-range_with_len 0 (length plan.groups))
+
+-- the rows of a finished run's report, of which there is one for each group and round
+pub rows_fit : (readings : ReadingsView) (keys : Keys) (slots : List Slot) (book : BookView) (t : TranscriptView) (first : Texts) → IsFinished readings keys slots book t → AreTextsOf book t first
+    → (rows : List ReportRow) × (rows_of_text first.report ≡ Ok rows) × (length rows ≤ length t.plan.groups * t.plan.rounds)
+rows_fit readings keys slots book t first finished written =
+    let plan : t.plan ≡ book.presence.plan = finished.plan ∙ sym (ap (λ (p : PresenceView). p.plan) finished.presence) in
+    let rows = report_rows book.presence.plan (book_row book) in
+    let long : length rows ≡ length book.presence.plan.groups * book.presence.plan.rounds = rows_long book.presence.plan (book_row book) in
+    (rows, written.rows_back, subst (λ (p : PlanView). length rows ≤ length p.groups * p.rounds) (sym plan) (omega (arith, long)))
+
+-- ---- the words and the totals
+
+-- the lines of the run are the transcript of register 0
+lines_are : (v : RegisterValues) (entries : List Entry) → v.registers.plan ≡ v.file.plan → IsRunOf (first_values v) entries → lines_of entries ≡ first_lines v.registers v.file.keys (events_of entries)
+lines_are v entries same run = run.lines ∙ ap (λ (plan : PlanView). transcript plan.groups (reading (table v.registers 0)) (streams v.file.keys) (events_of entries)) (sym same)
+
+is_world : (v : RegisterValues) (entries : List Entry) → v.registers.plan ≡ v.file.plan → AreRegisters v.registers → IsRunOf (first_values v) entries → IsWorld v entries
+is_world v entries same are run k some few =
+    ap (λ ls. row_words k (side_rows v.registers v.file.keys (entry_line v.file.plan 0) ls)) (lines_are v entries same run)
+    ∙ side_words_are_world v.registers v.file.keys (events_of entries) (entry_line v.file.plan 0) k are some few
+    ∙ ap (λ (plan : PlanView). sent_words (transcript plan.groups (reading (table v.registers k)) (register_streams k v.file.keys) (events_of entries))) same
+
+has_plain_sums : (v : RegisterValues) (entries : List Entry) → v.registers.plan ≡ v.file.plan → AreRegisters v.registers → AreSound (first_values v) → IsRunOf (first_values v) entries → HasPlainSums v entries
+has_plain_sums v entries same are sound run k g r some few =
+    let x : Readings = reading (table v.registers 0) in
+    let whole = reverse (events_of entries) in
+    let n = entry_line v.file.plan 0 in
+    let limits : (h : ℕ) → size v.registers.plan.groups h ≤ 256 = subst (λ (plan : PlanView). (h : ℕ) → size plan.groups h ≤ 256) (sym same) sound.limits.meters in
+    subst (λ (plan : PlanView). is_opened (shape_of_readings plan.groups x) g r whole ≡ true
+    → side_total (lines_of entries) (side_rows v.registers v.file.keys n (lines_of entries)) g r (survivors (shape_of_readings plan.groups x) g r whole) (k - 1)
+    ≡ plain_sum (reading (table v.registers k)) g r (survivors (shape_of_readings plan.groups x) g r whole)) same
+    (λ opened.
+    ap (λ ls. side_total ls (side_rows v.registers v.file.keys n ls) g r (survivors (shape_of_readings v.registers.plan.groups x) g r whole) (k - 1)) (lines_are v entries same run)
+    ∙ side_totals_are_plain v.registers v.file.keys (events_of entries) n k g r are limits some few opened)
+
+-- ---- rows with a total
+
+-- a row with a total is that of a published round, with its survivors
+published_row : (ended announced published : Bool) (a lacks survivors : List ℕ) (m total : ℕ)
+    → row_of a (if not ended then Running else if not announced then EndedThin else if published then Published a m else Unpublished lacks) ≡ TotalRow survivors total
+    → (published ≡ true) × (a ≡ survivors)
+published_row false announced published a lacks survivors m total e = absurd (let h = e in cc)
+published_row true false published a lacks survivors m total e = absurd (let h = e in cc)
+published_row true true true a lacks survivors m total e = (refl, (let h = e in cc))
+published_row true true false a lacks survivors m total e = absurd (let h = e in cc)
+
+opened_row : (s : Shape) (sum : ℕ → ℕ → List ℕ → ℕ) (g r : ℕ) (past : List Event) (a : List ℕ) (total : ℕ) → outcome_row s sum g r past ≡ TotalRow a total
+    → (is_opened s g r past ≡ true) × (survivors s g r past ≡ a)
+opened_row s sum g r past a total e =
+    let p = published_row (is_ended g r past) (is_announced s g r past) (is_published s g r past) (survivors s g r past) (lacking s g r past) a (sum g r (survivors s g r past)) total e in
+    (and_first (is_opened s g r past) (is_ended g r past) (and_first _ (all_taken s g r past) p.0), p.1)
+
+-- the members that are not missing are those that survived
+not_missing : (q : ℕ → Bool) (ms : List ℕ) → less ms (less ms (filter q ms)) ≡ filter q ms
+not_missing q ms = same_filter (λ j. not (is_member j (less ms (filter q ms)))) q ms (λ j inside. here j inside)
+  where
+    twice : (b : Bool) → not (not b) ≡ b
+    twice true = refl
+    twice false = refl
+
+    here : (j : ℕ) → is_member j ms ≡ true → not (is_member j (less ms (filter q ms))) ≡ q j
+    here j inside =
+        ap not (is_member-filter (λ k. not (is_member k (filter q ms))) j ms ∙ ap (λ b. b && not (is_member j (filter q ms))) inside ∙ ap not (is_member-filter q j ms ∙ ap (λ b. b && q j) inside))
+        ∙ twice (q j)
+
+shifted : (f : ℕ → ℕ) (a n : ℕ) → map f (range_with_len (a + 1) n) ≡ map (λ k. f (k + 1)) (range_with_len a n)
+shifted f a zero = refl
+shifted f a (suc n) = ap (λ l. f (a + 1) ∷ l) (shifted f (a + 1) n)
+
+-- rows have one word for each further register, or there is no row
+words_few : (registers : RegistersView) (keys : Keys) (n : ℕ) (ls : List Line) → words_in (side_rows registers keys n ls) ≤ length registers.tables - 1
+unfolding side_rows
+words_few registers keys n [] = omega arith
+words_few registers keys n (l ∷ ls) = by (side_frame l) (words_few registers keys (n + 1) ls)
+  where
+    by : (f : Option Frame) → words_in (side_rows registers keys (n + 1) ls) ≤ length registers.tables - 1
+        → words_in (and_rows registers keys n f (side_rows registers keys (n + 1) ls)) ≤ length registers.tables - 1
+    by None rest = rest
+    by (Some f) rest = omega arith
+
+all_words : (registers : RegistersView) (keys : Keys) (n : ℕ) (ls : List Line) → All (λ row. row.count ≡ length registers.tables - 1) (side_rows registers keys n ls)
+unfolding side_rows
+all_words registers keys n [] = All-nil _
+all_words registers keys n (l ∷ ls) = by (side_frame l) (all_words registers keys (n + 1) ls)
+  where
+    by : (f : Option Frame) → All (λ row. row.count ≡ length registers.tables - 1) (side_rows registers keys (n + 1) ls)
+        → All (λ row. row.count ≡ length registers.tables - 1) (and_rows registers keys n f (side_rows registers keys (n + 1) ls))
+    by None rest = rest
+    by (Some f) rest =
+        All-cons (λ row. row.count ≡ length registers.tables - 1) (side_row registers keys n f) (side_rows registers keys (n + 1) ls) refl rest
+
+has_row_totals : (v : RegisterValues) (entries : List Entry) → IsRunOf (first_values v) entries → HasPlainSums v entries → HasRowTotals v entries
+has_row_totals v entries run sums g r a total g_in r_in is =
+    let groups = v.file.plan.groups in
+    let s = shape_in (first_values v) in
+    let past = reverse (events_of entries) in
+    let rows = side_rows_in v entries in
+    let row = opened_row s (plain_sum (readings_in (first_values v))) g r past a total (run.rows g r g_in r_in ∙ is) in
+    let again : less (members groups g r) (less (members groups g r) a) ≡ a =
+    subst (λ (l : List ℕ). less (members groups g r) (less (members groups g r) l) ≡ l) row.1 (not_missing (λ i. is_reading_taken s g r i past) (members groups g r)) in
+    ap (λ (l : List ℕ). map (side_total (lines_of entries) rows g r l) (range_with_len 0 (words_in rows))) again
+    ∙ map_range (side_total (lines_of entries) rows g r a) (λ k. plain_sum (reading (table v.registers (k + 1))) g r a) 0 (words_in rows)
+    (λ k low high.
+    let few = words_few v.registers v.file.keys (entry_line v.file.plan 0) (lines_of entries) in
+    let one : k + 1 - 1 ≡ k = omega arith in
+    subst (λ (j : ℕ). side_total (lines_of entries) rows g r a j ≡ plain_sum (reading (table v.registers (k + 1))) g r a) one
+    (subst (λ (l : List ℕ). side_total (lines_of entries) rows g r l (k + 1 - 1) ≡ plain_sum (reading (table v.registers (k + 1))) g r l) row.1
+    (sums (k + 1) g r (omega arith) (omega (arith, high, few)) row.0)))
+    ∙ sym (shifted (λ k. plain_sum (reading (table v.registers k)) g r a) 0 (words_in rows))
+
+-- ---- the texts
+
+with_entries : PlanView → List Entry → TranscriptView
+with_entries plan entries = record { plan = plan; entries = entries }
+
+pub registers_make : (cupboard : List Meaning) (count : ℕ) (p r : List ℕ) (file : PlanFileView) (lanes : List LaneRow) (slots : List Slot) (registers : RegistersView) (readings : ReadingsView) (book : BookView) (t : TranscriptView) (first : Texts) (kept : Kept)
+    → plan_of p ≡ Ok file → lanes ≡ file.lanes → hung_by cupboard lanes ≡ Ok slots → RegistersEnd file.plan count r (Ok registers) → AreRegisters registers
+    → readings ≡ record { plan = registers.plan; table = table registers 0 }
+    → IsFinished readings file.keys slots book t → AreTextsOf book t first → AreWordsOf registers file.keys t first kept
+    → RegistersMake cupboard count p r (register_texts_of kept)
+unfolding with_plan with_entries
+registers_make cupboard count p r file lanes slots registers readings book t first kept plan_is rows hang read are readings_are finished written words =
+    let v : RegisterValues = record { file = file; slots = slots; registers = registers } in
+    let same : registers.plan ≡ file.plan = read.0 in
+    let P : PlanView → Type 0 = λ plan. AreSound (with_plan file slots (record { plan = registers.plan; table = table registers 0 }) plan)
+    × IsRunOf (with_plan file slots (record { plan = registers.plan; table = table registers 0 }) plan) t.entries
+    × AreTexts (with_plan file slots (record { plan = registers.plan; table = table registers 0 }) plan) t.entries first in
+    let here : IsFinished (record { plan = registers.plan; table = table registers 0 }) file.keys slots book t = subst (λ (x : ReadingsView). IsFinished x file.keys slots book t) readings_are finished in
+    let both : P file.plan = subst P same (made file slots (record { plan = registers.plan; table = table registers 0 }) book t first here written) in
+    let plan_here : t.plan ≡ file.plan = here.plan ∙ same in
+    let whole : t ≡ with_entries file.plan t.entries = ap (λ (plan : PlanView). with_entries plan t.entries) plan_here in
+    let rows_here : kept.words ≡ side_rows_in v t.entries = words.words ∙ ap (rows_of registers file.keys) whole in
+    record {
+      values = v;
+      entries = t.entries;
+      of_bytes = record { plan = plan_is; lanes = ap (hung_by cupboard) (sym rows) ∙ hang; same_plan = same; tables = read.1 };
+      registers = are;
+      sound = both.0;
+      run = both.1;
+      told = record {
+        first = first;
+        told = both.2;
+        transcript = ap transcript_text words.transcript ∙ ap transcript_text whole ∙ sym both.2.transcript;
+        summary = words.summary;
+        words = ap side_text rows_here;
+        report = words.report (report_rows file.plan (row_in (first_values v) t.entries)) both.2.rows_back
+            ∙ ap (λ (plan : PlanView). register_report plan (lines_of t.entries) kept.words (report_rows file.plan (row_in (first_values v) t.entries))) plan_here
+            ∙ ap (λ rows. register_report file.plan (lines_of t.entries) rows (report_rows file.plan (row_in (first_values v) t.entries))) rows_here;
+        world = is_world v t.entries same are both.1;
+        counts = all_words registers file.keys (entry_line file.plan 0) (lines_of t.entries);
+        sums = has_plain_sums v t.entries same are both.0 both.1;
+        totals = has_row_totals v t.entries both.1 (has_plain_sums v t.entries same are both.0 both.1);
+      };
+      isolated = λ k few. subst (λ (plan : PlanView). Isolated plan (table registers k) (events_of t.entries)) same (each_isolated registers (events_of t.entries) are k few);
+    }
+
+-- ---- refusals
+
+pub tables_refused : (cupboard : List Meaning) (count : ℕ) (p r : List ℕ) (is_writable : Bool) (file : PlanFileView) (lanes : List LaneRow) (slots : List Slot) (fault : FileError)
+    → plan_of p ≡ Ok file → lanes ≡ file.lanes → hung_by cupboard lanes ≡ Ok slots → RegistersEnd file.plan count r (Err fault) → (fault.cause ≡ cause.Memory → ⊥)
+    → RegisterTextsEnd cupboard count p r is_writable (Err (refusal.Readings fault))
+tables_refused cupboard count p r is_writable file lanes slots fault plan_is rows hang ends other =
+    (file, slots, plan_is, ap (hung_by cupboard) (sym rows) ∙ hang, but_memory fault.cause (tables_of file.plan count r ≡ Err fault) other ends)
+
+pub has_register_values : (cupboard : List Meaning) (count : ℕ) (p r : List ℕ) (file : PlanFileView) (lanes : List LaneRow) (slots : List Slot) (registers : RegistersView)
+    → plan_of p ≡ Ok file → lanes ≡ file.lanes → hung_by cupboard lanes ≡ Ok slots → RegistersEnd file.plan count r (Ok registers) → HasRegisterValues cupboard count p r
+has_register_values cupboard count p r file lanes slots registers plan_is rows hang read =
+    (record { file = file; slots = slots; registers = registers }, record { plan = plan_is; lanes = ap (hung_by cupboard) (sym rows) ∙ hang; same_plan = read.0; tables = read.1 })
+
+-- ---- how the command ends
+
+-- the texts are put and said
+pub registers_end : (cupboard : List Meaning) (count : ℕ) (names : RegisterNames) (v u w : View) (kept : Kept) (outcome : Outcome) (plan readings p r transcript words report summary : List ℕ)
+    → IsRead (v.held names.plan) plan → IsRead (v.held names.readings) readings → u ≡ after_fetches (registers_fetched names) v → p ≡ plan → r ≡ readings
+    → RegistersMake cupboard count p r (register_texts_of kept) → transcript ≡ transcript_text kept.transcript → words ≡ side_text kept.words → report ≡ kept.report.items → summary ≡ kept.summary.items
+    → PutsEnd (putting names.transcript transcript ∷ putting names.words words ∷ putting names.report report ∷ []) summary u w outcome → RegistersEnds cupboard count names v w outcome
+registers_end cupboard count names v u w kept outcome plan readings p r transcript words report summary plan_read readings_read after plan_is readings_is make t_is w_is r_is s_is ends =
+    let texts = register_texts_of kept in
+    let make_here : RegistersMake cupboard count plan readings texts =
+    subst (λ bytes. RegistersMake cupboard count plan bytes texts) readings_is (subst (λ bytes. RegistersMake cupboard count bytes r texts) plan_is make)
+    in
+    let one : PutsEnd (putting names.transcript texts.transcript ∷ putting names.words words ∷ putting names.report report ∷ []) summary u w outcome =
+    subst (λ t. PutsEnd (putting names.transcript t ∷ putting names.words words ∷ putting names.report report ∷ []) summary u w outcome) t_is ends
+    in
+    let two : PutsEnd (putting names.transcript texts.transcript ∷ putting names.words texts.words ∷ putting names.report report ∷ []) summary u w outcome =
+    subst (λ t. PutsEnd (putting names.transcript texts.transcript ∷ putting names.words t ∷ putting names.report report ∷ []) summary u w outcome) w_is one
+    in
+    let three : PutsEnd (registers_put names texts) summary u w outcome =
+    subst (λ t. PutsEnd (putting names.transcript texts.transcript ∷ putting names.words texts.words ∷ putting names.report t ∷ []) summary u w outcome) r_is two
+    in
+    let said : PutsEnd (registers_put names texts) texts.summary u w outcome = subst (λ s. PutsEnd (registers_put names texts) s u w outcome) s_is three in
+    inr (plan, readings, plan_read, readings_read, inr (inr (texts, make_here, subst (λ u. PutsEnd (registers_put names texts) texts.summary u w outcome) after said)))
+
+-- the files have values, but a name can't be written
+pub registers_unwritable : (cupboard : List Meaning) (count : ℕ) (names : RegisterNames) (v u w : View) (outcome : Outcome) (why : Refusal) (plan readings p r : List ℕ) (is_writable : Bool) (n m k : List ℕ)
+    → IsRead (v.held names.plan) plan → IsRead (v.held names.readings) readings → u ≡ after_fetches (registers_fetched names) v → p ≡ plan → r ≡ readings
+    → why ≡ refusal.Unwritable → RegisterTextsEnd cupboard count p r is_writable (Err why) → n ≡ names.transcript → m ≡ names.words → k ≡ names.report
+    → Unwritable (n ∷ m ∷ k ∷ []) u w outcome → RegistersEnds cupboard count names v w outcome
+registers_unwritable cupboard count names v u w outcome why plan readings p r is_writable n m k plan_read readings_read after plan_is readings_is why_is ends n_is m_is k_is unwritable =
+    let values : HasRegisterValues cupboard count p r = (subst (λ why. RegisterTextsEnd cupboard count p r is_writable (Err why)) why_is ends).1 in
+    let here : HasRegisterValues cupboard count plan readings =
+    subst (λ bytes. HasRegisterValues cupboard count plan bytes) readings_is (subst (λ bytes. HasRegisterValues cupboard count bytes r) plan_is values)
+    in
+    let one : Unwritable (names.transcript ∷ m ∷ k ∷ []) u w outcome = subst (λ x. Unwritable (x ∷ m ∷ k ∷ []) u w outcome) n_is unwritable in
+    let two : Unwritable (names.transcript ∷ names.words ∷ k ∷ []) u w outcome = subst (λ x. Unwritable (names.transcript ∷ x ∷ k ∷ []) u w outcome) m_is one in
+    let by_names : Unwritable (registers_named names) u w outcome = subst (λ x. Unwritable (names.transcript ∷ names.words ∷ x ∷ []) u w outcome) k_is two in
+    inr (plan, readings, plan_read, readings_read, inr (inl (here, subst (λ u. Unwritable (registers_named names) u w outcome) after by_names)))
+
+-- the plan file is refused
+pub registers_refuse_plan : (cupboard : List Meaning) (count : ℕ) (names : RegisterNames) (v w : View) (name : Bor (List ℕ)) (fault got : FileError) (why : Refusal) (is_writable : Bool) (plan readings p r : List ℕ)
+    → IsRead (v.held names.plan) plan → IsRead (v.held names.readings) readings → w ≡ after_fetches (registers_fetched names) v → p ≡ plan
+    → name.now ≡ names.plan → why ≡ refusal.Plan fault → RegisterTextsEnd cupboard count p r is_writable (Err why) → got ≡ fault → RegistersEnds cupboard count names v w (BadPlan name got)
+registers_refuse_plan cupboard count names v w name fault got why is_writable plan readings p r plan_read readings_read after plan_is name_is why_is ends same =
+    let refuses : plan_of p ≡ Err fault = subst (λ why. RegisterTextsEnd cupboard count p r is_writable (Err why)) why_is ends in
+    inr (plan, readings, plan_read, readings_read, inl ((name_is, subst (λ f. plan_of plan ≡ Err f) (sym same) (ap plan_of (sym plan_is) ∙ refuses)), after))
+
+-- a lane row is refused
+pub registers_refuse_lane : (cupboard : List Meaning) (count : ℕ) (names : RegisterNames) (v w : View) (fault got : RackError) (why : Refusal) (is_writable : Bool) (plan readings p r : List ℕ)
+    → IsRead (v.held names.plan) plan → IsRead (v.held names.readings) readings → w ≡ after_fetches (registers_fetched names) v → p ≡ plan
+    → why ≡ refusal.Lane fault → RegisterTextsEnd cupboard count p r is_writable (Err why) → got ≡ fault → RegistersEnds cupboard count names v w (BadLane got)
+registers_refuse_lane cupboard count names v w fault got why is_writable plan readings p r plan_read readings_read after plan_is why_is ends same =
+    let refuses : RefusesLane cupboard p fault = subst (λ why. RegisterTextsEnd cupboard count p r is_writable (Err why)) why_is ends in
+    let here : RefusesLane cupboard plan fault = subst (λ bytes. RefusesLane cupboard bytes fault) plan_is refuses in
+    inr (plan, readings, plan_read, readings_read, inl (subst (RefusesLane cupboard plan) (sym same) here, after))
+
+-- the readings file is refused
+pub registers_refuse_readings : (cupboard : List Meaning) (count : ℕ) (names : RegisterNames) (v w : View) (name : Bor (List ℕ)) (fault got : FileError) (why : Refusal) (is_writable : Bool) (plan readings p r : List ℕ)
+    → IsRead (v.held names.plan) plan → IsRead (v.held names.readings) readings → w ≡ after_fetches (registers_fetched names) v → p ≡ plan → r ≡ readings
+    → name.now ≡ names.readings → why ≡ refusal.Readings fault → RegisterTextsEnd cupboard count p r is_writable (Err why) → got ≡ fault → RegistersEnds cupboard count names v w (BadReadings name got)
+registers_refuse_readings cupboard count names v w name fault got why is_writable plan readings p r plan_read readings_read after plan_is readings_is name_is why_is ends same =
+    let refuses : RefusesTables cupboard count p r fault = subst (λ why. RegisterTextsEnd cupboard count p r is_writable (Err why)) why_is ends in
+    let here : RefusesTables cupboard count plan readings fault =
+    subst (λ bytes. RefusesTables cupboard count plan bytes fault) readings_is (subst (λ bytes. RefusesTables cupboard count bytes r fault) plan_is refuses)
+    in
+    inr (plan, readings, plan_read, readings_read, inl ((name_is, subst (RefusesTables cupboard count plan readings) (sym same) here), after))
+
+-- ---- the text of side words
+
+rows_split : (from n : ℕ) (rows : List SideRow) → rows_text (drop from rows) ≡ rows_text (slice_range rows from (from + n)) ++ rows_text (drop (from + n) rows)
+unfolding rows_text
+rows_split from n rows =
+    let same : from + n - from ≡ n = omega arith in
+    let after : drop n (drop from rows) ≡ drop (from + n) rows = drop-drop n from rows ∙ ap (λ m. drop m rows) (omega arith) in
+    ap (flat_map (λ row. ended (row_text row))) (sym (take-append-drop n (drop from rows)))
+    ∙ flat_map-append (λ row. ended (row_text row)) (take n (drop from rows)) (drop n (drop from rows))
+    ∙ ap (λ l. flat_map (λ row. ended (row_text row)) (take n (drop from rows)) ++ flat_map (λ row. ended (row_text row)) l) after
+    ∙ ap (λ m. flat_map (λ row. ended (row_text row)) (take m (drop from rows)) ++ flat_map (λ row. ended (row_text row)) (drop (from + n) rows)) (sym same)
+
+-- the first line
+pub head_piece : (words : List SideRow) (stage : WordsStage) (piece : List ℕ) → stage ≡ Head → piece ≡ ended side_head → words_after words stage ≡ piece ++ (rows_text words ++ ended (side_end (length words)))
+unfolding side_text
+head_piece words stage piece is made = ap (words_after words) is ∙ ap (λ l. l ++ (rows_text words ++ ended (side_end (length words)))) (sym made)
+
+-- the lines of some rows
+pub rows_piece : (words : List SideRow) (stage : WordsStage) (from n : ℕ) (piece : List ℕ) → stage ≡ Rows from → piece ≡ rows_text (slice_range words from (from + n))
+    → words_after words stage ≡ piece ++ (rows_text (drop (from + n) words) ++ ended (side_end (length words)))
+rows_piece words stage from n piece is made =
+    ap (words_after words) is ∙ ap (λ l. l ++ ended (side_end (length words))) (rows_split from n words)
+    ∙ append_assoc (rows_text (slice_range words from (from + n))) (rows_text (drop (from + n) words)) (ended (side_end (length words)))
+    ∙ ap (λ l. l ++ (rows_text (drop (from + n) words) ++ ended (side_end (length words)))) (sym made)
+
+-- some rows have some text
+some_text : (rows : List SideRow) → 0 < length rows → rows_text rows ≡ [] → ⊥
+unfolding rows_text
+some_text [] some none = absurd (omega (arith, some))
+some_text (row ∷ rows) some none =
+    let long = length-append (row_text row) (10 ∷ []) in
+    let all = length-append (ended (row_text row)) (flat_map (λ row. ended (row_text row)) rows) in
+    let nothing = ap length none in
+    omega (arith, long, all, nothing)
+
+pub rows_piece_is_some : (words : List SideRow) (from n : ℕ) (piece : List ℕ) → from + n ≤ length words → 0 < n → piece ≡ rows_text (slice_range words from (from + n)) → piece ≡ [] → ⊥
+rows_piece_is_some words from n piece within some made none =
+    let long = length-take (from + n - from) (drop from words) in
+    let left = length-drop from words in
+    some_text (slice_range words from (from + n)) (omega (arith, long, left, within, some)) (sym made ∙ none)
+
+-- the last line, once no row is left
+pub end_piece : (words : List SideRow) (stage : WordsStage) (from : ℕ) (piece : List ℕ) → stage ≡ Rows from → length words ≤ from → piece ≡ ended (side_end (length words)) → words_after words stage ≡ piece ++ []
+unfolding rows_text
+end_piece words stage from piece is over made =
+    let none : drop from words ≡ [] = drop_all from words over in
+    ap (words_after words) is ∙ ap (λ l. flat_map (λ row. ended (row_text row)) l ++ ended (side_end (length words))) none ∙ sym made ∙ sym (append-nil piece)
+  where
+    drop_all : (n : ℕ) (l : List SideRow) → length l ≤ n → drop n l ≡ []
+    drop_all n l over =
+        let long = length-drop n l in
+        empty (drop n l) (omega (arith, long, over))
+      where
+        empty : (l : List SideRow) → length l ≡ 0 → l ≡ []
+        empty [] h = refl
+        empty (x ∷ l) h = absurd (omega (arith, h))

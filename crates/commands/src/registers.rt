@@ -1,0 +1,70 @@
+//! The command `registers`.
+
+ghost use Rattle.std.specs.Prelude.{◌≡◌, ◌≤◌, map};
+ghost use Rattle.desk_outside.specs.Desk.{Rose};
+ghost use Rattle.command_words.specs.Commands.{register_names_of};
+ghost use Rattle.command_words.specs.Outcomes.{IsFault};
+ghost use Rattle.commands.specs.RegisterEnds.{RegistersEnds};
+
+use crate::desk_calls::{ThreeSources, begin_three, commit_three, fetch_two, first_of_three};
+use crate::register_texts::{RegisterInput, register_texts};
+use crate::source::Source;
+use crate::texts::Refusal;
+use collector_workers::Gate;
+use command_words::{Outcome, RegisterWords};
+use desk_outside::Desk;
+use link_lanes::Lane;
+use std::alloc::Global;
+use std::sync::Wait;
+use std::thread::Threads;
+
+/// Fetches the plan and the readings of several registers, runs register 0, puts the transcript, the words of the other registers and
+/// the report with a total of each, and says the summary. The files are begun before the run, so that a name that can't be written is
+/// found then.
+pub fn registers<'a, R: Threads + Wait + Sync, D: Desk, G: Gate>(
+    rt: &R,
+    alloc: Global,
+    words: RegisterWords<'a>,
+    desk: &mut D,
+    cupboard: Vec<Box<dyn Lane>>,
+    gate: &G,
+) -> Outcome<'a>
+    requires registers { (2 ≤ words.registers) × (words.registers ≤ 8) }
+    requires workers { (1 ≤ words.workers) × (words.workers ≤ 16) }
+    ensures ends { RegistersEnds (map (λ b. meaning b) cupboard.items) words.entry.registers (register_names_of words.entry.files) (D.view desk.old) (D.view desk.new) result }
+    ensures later { D.faults desk.old ≤ D.faults desk.new }
+    ensures cause { IsFault result → Rose (D.faults desk.old) (D.faults desk.new) }
+{
+    let files = words.files;
+    let (plan, readings) = match fetch_two(alloc, files.plan, files.readings, desk) {
+        Ok(bytes) => bytes,
+        Err(outcome) => return outcome,
+    };
+    let Ok(begun) = begin_three(files.transcript, files.words, files.report, desk) else {
+        return Outcome::NoMemory;
+    };
+    let input = RegisterInput {
+        plan,
+        readings,
+        registers: words.registers,
+        cupboard,
+        workers: words.workers,
+        is_writable: !begun.has_failed(),
+    };
+    let texts = match register_texts(rt, alloc, input, gate) {
+        Ok(texts) => texts,
+        Err(refusal) => match refusal {
+            Refusal::Plan(fault) => return Outcome::BadPlan(files.plan, fault),
+            Refusal::Lane(fault) => return Outcome::BadLane(fault),
+            Refusal::Readings(fault) => return Outcome::BadReadings(files.readings, fault),
+            Refusal::Unwritable => return first_of_three(begun, desk),
+            Refusal::Memory => return Outcome::NoMemory,
+        },
+    };
+    let sources = ThreeSources {
+        first: Source::Transcript(&texts.transcript),
+        second: Source::Words(&texts.words),
+        third: Source::Bytes(texts.report.as_slice()),
+    };
+    commit_three(rt, alloc, begun, sources, texts.summary.as_slice(), desk)
+}
