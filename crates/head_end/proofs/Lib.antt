@@ -8,3 +8,4 @@ pub mod EndLemmas
 pub mod LineLemmas
 pub mod ReplayLemmas
 pub mod TotalLemmas
+pub mod StayLemmas

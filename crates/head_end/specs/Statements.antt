@@ -1,11 +1,13 @@
 -- What the laws of this crate say. Each is proved for every plan, table and journal.
-use Rattle.std.specs.Prelude.{◌≡◌, ℕ, true, List, []}
+use Rattle.std.specs.Prelude.{◌≡◌, ◌<◌, ◌++◌, ℕ, true, List, [], None}
 use Rattle.missing_round.specs.Words.{reading_word, answer_word}
 use Rattle.group_plan.specs.declared.Kind.TheVariants.{Reading, Answer}
 use Rattle.group_plan.specs.Plans.{PlanView, members}
 use Rattle.transcript_log.specs.Tables.{Readings, Masks, IsBounded, reading_at, plain_sum}
 use Rattle.head_end.specs.declared.answers.Logged.{Logged}
-use Rattle.head_end.specs.Journal.{is_taken, word_taken, survivors, missing, lacking, total}
+use Rattle.head_end.specs.Journal.{passed, is_taken, word_taken, survivors, missing, lacking, total}
+use Rattle.head_end.specs.Replies.{first_wrong}
+use Rattle.head_end.specs.Lines.{tick_lines}
 
 -- the frames that were taken have the words of these tables: each reading its reading word, and each answer its answer word to the missing set
 pub record HasWordsOf (plan : PlanView) (x : Readings) (m : Masks) (journal : List Logged) : Type 0 where
@@ -18,3 +20,7 @@ pub record HasWordsOf (plan : PlanView) (x : Readings) (m : Masks) (journal : Li
 abbrev pub TotalsAreExact : Type 0
 TotalsAreExact = (plan : PlanView) (x : Readings) (m : Masks) (journal : List Logged) → IsBounded plan.groups x → HasWordsOf plan x m journal →
     (g r : ℕ) → lacking plan journal g r ≡ [] → total journal g r (survivors plan journal g r) ≡ plain_sum x g r (survivors plan journal g r)
+
+-- the lines of a tick that has passed are the same after any lines that can follow
+abbrev pub LinesStay : Type 0
+LinesStay = (plan : PlanView) (journal more : List Logged) (t : ℕ) → first_wrong plan journal more ≡ None → t < passed journal → tick_lines plan (journal ++ more) t ≡ tick_lines plan journal t
