@@ -42,6 +42,7 @@ COMMANDS = [
     ("convert <old >transcript", {0, 1, 2, 3, 4, 7}),
     ("public <plan >public", {0, 1, 2, 3, 4, 5}),
     ("inspect <public <transcript <report", {0, 1, 2, 3, 4, 5, 7, 9}),
+    ("registers 2 <plan <tables >report >transcript >words", {0, 1, 2, 3, 4, 5, 6, 10}),
     ("bill <plan <readings 0 1 >bills", {0, 1, 2, 3, 4, 5, 6}),
     ("hide <plan <readings <transcript 0 96 0 0 0 >hidden", {0, 1, 2, 3, 4, 5, 6, 7, 11}),
     ("make 7 2 3 4 >plan >readings", {0, 1, 2, 4}),
@@ -57,7 +58,7 @@ FIELDS = (
     "1099511627776 18446744073709551615 18446744073709551616 99999999999999999999999999 - + * 0+1 1+0 1+1 0+0 16 17 1+2+3 "
     "1+2+3+4 a north ABCDEFGHIJKLMNOP ABCDEFGHIJKLMNOPQ plan group own pair lane member begin end s t c e r m fresh again "
     "late void announced thin already total none open notclosed clear rules seeded every burst *.*.*.*=1 0.0.r.0=- "
-    "1:5:10:2 1:1 2:1+3 0:0 0.0 0.1+0.0 0.0+0.3 0.255+255.0 00.1 0.256"
+    "1:5:10:2 1:1 2:1+3 0:0 10+1 10+ +10 10+1099511627776 0.0 0.1+0.0 0.0+0.3 0.255+255.0 00.1 0.256"
 ).split() + ["", " ", "\t", '"', '""', '"1"', "\r", "\0", "\ufeff", "é", "x" * 300, "9" * 300]
 
 
@@ -168,6 +169,12 @@ def public_text(plan):
     return b"".join([b"public,1\n"] + rows[1:])
 
 
+def two_registers(readings):
+    """A readings file with a second register, which has a third of the first one."""
+    rows = [row.split(b",") for row in readings.splitlines()]
+    return b"".join(b",".join(row[:2] + [field and b"%s+%d" % (field, int(field) // 3) for field in row[2:]]) + b"\n" for row in rows)
+
+
 def names_in(command, mark):
     return [word[1:] for word in command.split() if word[0] == mark]
 
@@ -230,6 +237,7 @@ def sample_files(program, room):
         files = files_in(room)
         files["other"] = files["readings"]
         files["public"] = public_text(files["plan"])
+        files["tables"] = two_registers(files["readings"])
         files["old"] = old_text(files["transcript"])
         sets.append(files)
     return sets

@@ -1,34 +1,16 @@
 //! The head end of `north` in one round: a whole run, a restart, frames that it doesn't take, and what it says when it is asked
 //! again.
 
-use group_plan::{Kind, Plan, Tag};
+use crate::frames::{check, frame};
+use group_plan::{Kind, Plan};
 use head_end::{HeadEnd, Logged, Refusal, ReplayError, Reply, TickLine, replay};
 use meter_frames::Frame;
 use missing_round::MeterSet;
-use mod_word::Word;
 use row_fixtures::plan_of_north;
 use std::alloc::Global;
 use std::process::Abort;
 use std::test::Fail;
 use totals_report::{ReportRow, RowOutcome};
-
-/// Asks whether a fact is so.
-fn check(rt: &impl Abort, is_so: bool, row: &str) {
-    assert!(rt; is_so, "at {row}");
-}
-
-fn frame(kind: Kind, meter: u8, missing: MeterSet, word: u64) -> Frame {
-    Frame {
-        tag: Tag {
-            round: 0,
-            group: 0,
-            meter,
-            kind,
-        },
-        missing,
-        word: Word(word),
-    }
-}
 
 /// The readings 10, 20 and 30, hidden.
 fn readings() -> [Frame; 3] {

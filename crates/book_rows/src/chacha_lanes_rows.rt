@@ -1,7 +1,7 @@
 //! Mask words made eight at a time, compared with those made one by one.
 
 use crate::fixtures::{check_all, check_same};
-use chacha_lanes::{WordRow, stream_word, words_of_rounds};
+use chacha_lanes::{WordRow, stream_blocks, stream_word, words_of_rounds};
 
 fn key_ending_in(last: u8) -> [u8; 32] {
     let mut key = [0; 32];
@@ -84,5 +84,23 @@ fn eight_rounds_as_one_by_one(rt: HostRuntime) {
             let word = stream_word(&key, first + round);
             check_same(&rt, &words[round as usize], &word, "a word of a round");
         }
+    }
+}
+
+// The block of the key of zeros in round 0 (RFC 8439, A.1), as words of 64 bits.
+#[test]
+fn published_block(rt: HostRuntime) {
+    let words = [
+        0x903d_f1a0_ade0_b876,
+        0x28bd_8653_e56a_5d40,
+        0x1aed_8da0_b819_d2bd,
+        0xc70d_778b_ccef_36a8,
+        0x8d48_5751_7c59_41da,
+        0x374a_d8b8_3fe0_2477,
+        0x1ca1_1815_f4b8_436a,
+        0x8665_eeb2_69b6_87c3,
+    ];
+    for block in stream_blocks(&[[0; 32]; 8], 0) {
+        check_all(&rt, &block, &words, "a block");
     }
 }

@@ -25,6 +25,8 @@ mod missing_round_rows;
 #[cfg(test)]
 mod pooled_twin_rows;
 #[cfg(test)]
+mod register_words_rows;
+#[cfg(test)]
 mod round_machine_rows;
 #[cfg(test)]
 mod shared_book_rows;

@@ -1,19 +1,20 @@
-//! A worked run.
+//! Worked runs.
 
 ghost use Rattle.std.specs.Prelude.{◌≡◌, [], IfOk};
 ghost use Rattle.link_lanes.specs.Racks.{posts_of, HasRoom};
 ghost use Rattle.transcript_log.specs.Events.{lines_of};
 
-use crate::fixtures::{check, check_same, is_same};
+use crate::fixtures::{check, check_same, is_same, reading_frame};
+use crate::twin_worlds_table_rows::ideal_table;
 use collector_workers::Free;
 use link_lanes::Rack;
 use round_machine::Ending;
-use row_fixtures::{keys_of_north, plan_of_north, table};
+use row_fixtures::{keys_of_north, plan_of_north, reading_tag, table};
 use std::alloc::Global;
 use std::sync::Wait;
 use std::test::Fail;
 use std::thread::Threads;
-use tick_run::{Finished, Nobody, run_plan};
+use tick_run::{Finished, Nobody, run_masked, run_plan};
 use transcript_log::{Line, Lines};
 
 // Whether this is the last line.
@@ -47,6 +48,44 @@ fn run(rt: &(impl Threads + Wait + Sync), alloc: Global, rack: &mut Rack) -> Res
     }
 }
 
+// Runs the same readings under the words of the ideal table.
+fn run_ideal(
+    rt: &(impl Threads + Wait + Sync),
+    alloc: Global,
+    rack: &mut Rack,
+) -> Result<Finished, Fail>
+    requires posts { posts_of rack.old ≡ [] }
+    requires room { HasRoom (λ b. meaning (b.vtable, b.value)) rack.old }
+{
+    let plan = plan_of_north(alloc, 1)?;
+    let readings = table(alloc, &plan, &[10, 20, 30])?;
+    let masks = ideal_table(alloc, &plan)?;
+    match run_masked(
+        rt,
+        alloc,
+        &plan,
+        &readings,
+        &masks,
+        rack,
+        2,
+        &Free,
+        &mut Nobody,
+    ) {
+        Ok(done) => Ok(done),
+        Err(_) => Err(Fail::new("want of memory")),
+    }
+}
+
+// Whether the line at the place of its number is the Send of this meter's reading, under this word.
+fn sends(lines: &Lines, meter: u8, word: u64) -> bool {
+    let at = usize::from(meter);
+    let send = Line::Send {
+        tag: reading_tag(0, 0, meter),
+        frame: Some(reading_frame(meter, word)),
+    };
+    at < lines.len() && is_same(&lines.at(at), &send)
+}
+
 #[test]
 fn three_meters_total_60(rt: HostRuntime) -> Result<(), Fail> {
     let alloc = rt.alloc();
@@ -65,5 +104,26 @@ fn three_meters_total_60(rt: HostRuntime) -> Result<(), Fail> {
     // 9 Sends, 9 Takes, a Close and an End.
     let transcript = transcript.finish(book.into_journal())?;
     check_same(&rt, &transcript.len(), &20, "the lines");
+    Ok(())
+}
+
+/// The words are those of the row `words_over_ideal_table`.
+#[test]
+fn ideal_words_total_60(rt: HostRuntime) -> Result<(), Fail> {
+    let alloc = rt.alloc();
+    let Ok(rack) = Rack::fit(alloc, Vec::new(alloc), &[]) else {
+        return Err(Fail::new("an empty rack"));
+    };
+    let mut rack = rack;
+    let Finished { book, .. } = run_ideal(&rt, alloc, &mut rack)?;
+    let lines = book.journal();
+    let hidden = sends(lines, 0, 122) && sends(lines, 1, 226) && sends(lines, 2, 312);
+    check(&rt, hidden, "the words");
+    let end = Line::End {
+        group: 0,
+        round: 0,
+        ending: Ending::Total(60),
+    };
+    check(&rt, ends_with(lines, &end), "the end");
     Ok(())
 }

@@ -57,8 +57,8 @@ fn set_ideal_words(masks: &mut MaskTable) -> Result<(), Fail>
     set_pair(masks, 1, 2, 11)
 }
 
-// The own words 100, 200 and 300, and 5, 7 and 11 for the pairs of 0 and 1, 0 and 2, 1 and 2.
-fn ideal_table(alloc: Global, plan: &Plan) -> Result<MaskTable, Fail>
+/// The own words 100, 200 and 300, and 5, 7 and 11 for the pairs of 0 and 1, 0 and 2, 1 and 2.
+pub(crate) fn ideal_table(alloc: Global, plan: &Plan) -> Result<MaskTable, Fail>
     ensures { IfOk result (λ masks. masks.plan ≡ plan.now) }
 {
     let mut masks = MaskTable::zeros(alloc, plan)?;

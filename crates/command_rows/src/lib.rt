@@ -19,6 +19,8 @@ mod load_tests;
 #[cfg(test)]
 mod refusal_tests;
 #[cfg(test)]
+mod register_tests;
+#[cfg(test)]
 mod run_tests;
 #[cfg(test)]
 mod twin_tests;

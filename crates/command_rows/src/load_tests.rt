@@ -4,8 +4,8 @@ use crate::fixtures::{
     check, check_complained, check_number, check_refused, check_said, check_status, check_stored,
     held,
 };
-use crate::run_tests::Meeting;
-use collector_workers::Free;
+use crate::run_tests::{Greatest, Meeting};
+use collector_workers::{Free, Gate};
 use desk_outside::MemoryDesk;
 use std::alloc::Global;
 use std::process::Abort;
@@ -72,6 +72,49 @@ fn run_commits_cross_in_load(rt: HostRuntime) -> Result<(), Fail> {
     let (sends, takes) = sends_and_takes(alloc, held(&desk, "t.txt"))?;
     check_number(&rt, sends, 45025, "sends");
     check_number(&rt, takes, 45251, "takes");
+    Ok(())
+}
+
+// Keeps the greatest number of a worker that came, with the limits of the program's own gate.
+#[derive(Drop)]
+struct Counted {
+    greatest: Greatest,
+}
+
+impl Gate for Counted {
+    fn at(&self, worker: u32) {
+        self.greatest.at(worker);
+    }
+
+    fn beside(&self) -> usize {
+        Free.beside()
+    }
+
+    fn part(&self) -> usize {
+        Free.part()
+    }
+}
+
+// Each row: the words, and the greatest number of a worker that comes to the program's own gate.
+static CREWS: [(&str, usize); 4] = [
+    ("load 7 32 64 2 4", 3),
+    ("load 7 32 64 2 2", 2),
+    ("load 7 1 64 32 4", 1),
+    ("load 7 8 20 4 4", 1),
+];
+
+// A large plan has several workers without any test's gate, and one of a group or of few meters has one.
+#[test]
+fn large_plans_have_workers(rt: HostRuntime) -> Result<(), Fail> {
+    let alloc = rt.alloc();
+    for (words, worker) in CREWS.iter() {
+        let gate = Counted {
+            greatest: Greatest::new(),
+        };
+        let mut desk = MemoryDesk::new(Vec::new(alloc));
+        check_status(&rt, alloc, words, &mut desk, &gate, 0, words)?;
+        check_number(&rt, gate.greatest.number(), *worker, words);
+    }
     Ok(())
 }
 

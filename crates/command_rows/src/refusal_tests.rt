@@ -331,7 +331,7 @@ fn failing_desk_calls(rt: HostRuntime) -> Result<(), Fail> {
 }
 
 // Words that are no command: too few or too many, names that are equal or empty, numbers outside their ranges.
-static BAD_WORDS: [&str; 65] = [
+static BAD_WORDS: [&str; 75] = [
     "run",
     "run plan.csv readings.csv report.csv",
     "ran plan.csv readings.csv report.csv t.txt",
@@ -349,6 +349,16 @@ static BAD_WORDS: [&str; 65] = [
     "run plan.csv readings.csv report.csv t.txt 4x",
     "run plan.csv readings.csv report.csv t.txt ",
     "run plan.csv readings.csv report.csv t.txt 4 4",
+    "registers 1 plan.csv readings.csv report.csv t.txt words.txt",
+    "registers 9 plan.csv readings.csv report.csv t.txt words.txt",
+    "registers 02 plan.csv readings.csv report.csv t.txt words.txt",
+    "registers +2 plan.csv readings.csv report.csv t.txt words.txt",
+    "registers plan.csv readings.csv report.csv t.txt words.txt",
+    "registers 2 plan.csv readings.csv report.csv t.txt",
+    "registers 2 plan.csv readings.csv report.csv t.txt t.txt",
+    "registers 2 plan.csv readings.csv report.csv t.txt ",
+    "registers 2 plan.csv readings.csv report.csv t.txt words.txt 0",
+    "registers 2 plan.csv readings.csv report.csv t.txt words.txt 4 4",
     "twin plan.csv readings.csv other.csv t.txt",
     "twin plan.csv readings.csv other.csv t.txt masks.txt 4",
     "twin plan.csv readings.csv readings.csv t.txt masks.txt",

@@ -5,7 +5,7 @@ use crate::fixtures::{
     check_status, check_text, desk_of, held,
 };
 use collector_workers::{Free, Gate};
-use desk_outside::{DeskCall, DeskKind};
+use desk_outside::{DeskCall, DeskKind, MemoryDesk};
 use std::alloc::Global;
 use std::process::Abort;
 use std::sync::Wait;
@@ -192,7 +192,7 @@ static RUNS: [(&str, &str, &str, &str, &str, &str, &str); 15] = [
     ),
 ];
 
-// Lets each worker through; each parcel is enough for one.
+// Lets each worker through; a few meters are enough for one.
 struct Each;
 
 impl Gate for Each {
@@ -338,15 +338,42 @@ impl Meeting {
     }
 }
 
+const MAKE: &str = "make 7 5 8 12 plan.csv readings.csv";
+
+// A desk with a made plan of five groups, and readings of it.
+fn made_desk(rt: &(impl Threads + Wait + Abort + Sync), alloc: Global) -> Result<MemoryDesk, Fail> {
+    let mut desk = MemoryDesk::new(Vec::new(alloc));
+    check_status(rt, alloc, MAKE, &mut desk, &Free, 0, MAKE)?;
+    Ok(desk)
+}
+
 #[test]
 fn run_commits_cross(rt: HostRuntime) -> Result<(), Fail> {
     let alloc = rt.alloc();
     let gate = Meeting::new();
-    let rows = format!(in alloc; "{HEAD}{NORTH}")?;
     let words = format!(in alloc; "{RUN} 2")?;
-    let mut desk = desk_of(alloc, &rows, READINGS, Vec::new(alloc))?;
+    let mut desk = made_desk(&rt, alloc)?;
     check_status(&rt, alloc, &words, &mut desk, &gate, 0, &words)?;
     check(&rt, gate.has_met(), "the meeting");
+    Ok(())
+}
+
+// More workers than one, than groups, and than there are.
+static WORKERS: [&str; 4] = ["2", "3", "4", "16"];
+
+// The transcript is the same bytes for each number of workers.
+#[test]
+fn workers_make_one_transcript(rt: HostRuntime) -> Result<(), Fail> {
+    let alloc = rt.alloc();
+    let words = format!(in alloc; "{RUN} 1")?;
+    let mut alone = made_desk(&rt, alloc)?;
+    check_status(&rt, alloc, &words, &mut alone, &Each, 0, &words)?;
+    for workers in WORKERS.iter() {
+        let words = format!(in alloc; "{RUN} {workers}")?;
+        let mut desk = made_desk(&rt, alloc)?;
+        check_status(&rt, alloc, &words, &mut desk, &Each, 0, &words)?;
+        check_text(&rt, held(&desk, "t.txt"), held(&alone, "t.txt"), &words);
+    }
     Ok(())
 }
 
@@ -381,9 +408,8 @@ impl Greatest {
 fn one_worker_works_alone(rt: HostRuntime) -> Result<(), Fail> {
     let alloc = rt.alloc();
     let gate = Greatest::new();
-    let rows = format!(in alloc; "{HEAD}{NORTH}")?;
     let words = format!(in alloc; "{RUN} 1")?;
-    let mut desk = desk_of(alloc, &rows, READINGS, Vec::new(alloc))?;
+    let mut desk = made_desk(&rt, alloc)?;
     check_status(&rt, alloc, &words, &mut desk, &gate, 0, &words)?;
     check_number(&rt, gate.number(), 1, "the greatest worker");
     Ok(())

@@ -19,6 +19,8 @@ mod plan_files_plan_rows;
 #[cfg(test)]
 mod plan_files_readings_rows;
 #[cfg(test)]
+mod plan_files_registers_rows;
+#[cfg(test)]
 mod run_course_rows;
 #[cfg(test)]
 mod totals_report_rows;
