@@ -1,16 +1,29 @@
 //! All words of the first blocks of eight keys.
 ghost use Rattle.std.specs.Prelude.{◌≡◌, ℕ, ◌<◌, [], slice_index_or};
-ghost use Rattle.rand_chacha.specs.Block.{add32};
-ghost use Rattle.rand_chacha.specs.Lanes.{lane_at};
+ghost use Rattle.rand_chacha.specs.Block.{add32, double_rounds};
+ghost use Rattle.rand_chacha.specs.Lanes.{lane, lane_at};
 ghost use Rattle.chacha_lanes.specs.Blocks.{lane_words};
 ghost use Rattle.chacha_lanes.specs.Stream.{words_of_block};
 
-use crate::rounds::States;
-use crate::words::{first_states, joined, key_in_each_lane, last_states, sums};
+use crate::rounds::{States, columns, diagonals};
+use crate::words::{first_states, joined, key_in_each_lane, sums};
 use std::simd::u32x8;
 
 /// The halves of the words in eight lanes, one row for each place of a block.
 type Halves = [[u32; 8]; 16];
+
+// The states after all twenty rounds. It isn't `last_states` of `words`: the compiler makes that a part of its one caller, and
+// computes there only what is read.
+#[inline(always)]
+fn all_rounds(first: States) -> States
+    ensures { (j : ℕ) → j < 8 → lane j result ≡ double_rounds 10 (lane j first) }
+{
+    let mut x = first;
+    for _done in 0..10u32 {
+        x = diagonals(columns(x));
+    }
+    x
+}
 
 // The words of the blocks: each state's last words, added to its first ones.
 #[inline(always)]
@@ -48,7 +61,7 @@ pub fn stream_blocks(keys: &[[u8; 32]; 8], round: u32) -> [[u64; 8]; 8]
     ensures { (j : ℕ) → j < 8 → slice_index_or result j [] ≡ words_of_block (slice_index_or keys.now j []) round }
 {
     let first = first_states(key_in_each_lane(keys), u32x8::splat(round));
-    let last = last_states(first);
+    let last = all_rounds(first);
     let halves = halves(last, first);
     let mut words = [[0; 8]; 8];
     for lane in 0..8usize {

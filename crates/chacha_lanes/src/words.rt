@@ -108,9 +108,9 @@ pub(crate) fn first_states(keys: Keys, rounds: u32x8) -> States
     ]
 }
 
-// The states after all twenty rounds. The last two stand apart, so that what no caller reads of them is not computed.
+// The states after all twenty rounds. The last two stand apart, so that what the caller doesn't read of them is not computed.
 #[inline(always)]
-pub(crate) fn last_states(first: States) -> States
+fn last_states(first: States) -> States
     ensures { (j : ℕ) → j < 8 → lane j result ≡ double_rounds 10 (lane j first) }
 {
     let mut x = first;

@@ -12,4 +12,4 @@ returns c j h =
     let fits : slice_index (replicate 8 c.args.round) j < 2 ^ 32 = omega (arith, same, c.ranges.round) in
     let begin = c.first_states-first.ensures j h fits ∙ ap₂ (λ k round. initial_state k 0 round) (c.key_in_each_lane.ensures j h) same in
     c.loop-lane.invariant.1 j (omega arith)
-    ∙ lane_is key c.args.round j c.halves-halves.result c.first_states-first.result c.last_states-last.result (λ k lt. c.halves-halves.ensures j k h lt) begin (c.last_states-last.ensures j h)
+    ∙ lane_is key c.args.round j c.halves-halves.result c.first_states-first.result c.all_rounds-last.result (λ k lt. c.halves-halves.ensures j k h lt) begin (c.all_rounds-last.ensures j h)
