@@ -27,7 +27,7 @@ use Rattle.audit_check.specs.declared.answers.AuditError.{AuditError}
 use Rattle.audit_check.specs.declared.answers.AuditError.TheVariants as audit
 use Rattle.audit_check.specs.Audits.{lines_in, rows_by_frames, IsFirstImpossible, DifferFirst, AuditEnds}
 use Rattle.audit_check.specs.Ends.{Holds, LinesEnd, IsReplayed, RowsEnd}
-use Rattle.audit_check.specs.Presence.{IsPresenceOf}
+use Rattle.frame_presence.specs.Presence.{IsPresenceOf}
 use Rattle.audit_check.specs.Steps.{MayFollow}
 use Rattle.audit_check.proofs.HonestLemmas.{events_lines, explained_possible, possible_explained, rows_exact}
 use Rattle.audit_check.proofs.PossibleLemmas.{possible-push, possible-pop, possible_up_to}

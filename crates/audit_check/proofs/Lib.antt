@@ -3,7 +3,6 @@ pub mod JournalLemmas
 pub mod PrefixLemmas
 pub mod PossibleLemmas
 pub mod HonestLemmas
-pub mod PresenceLemmas
 pub mod RowLemmas
 pub mod SayLemmas
 pub mod AnswerLemmas

@@ -1,6 +1,6 @@
 -- The opened rounds of a book, one more after another, and those of the transcript whose lines it has.
-use Rattle.std.proofs.Common.{◌≡◌, ℕ, zero, suc, ◌+◌, ◌<◌, ◌≤◌, ◌⊎◌, Bool, true, false, not, ◌&&◌, List, [], ◌∷◌, length, refl, sym, ap, ◌∙◌, subst, inl, inr, arith}
-use Rattle.std.specs.Prelude.{cond, if◌then◌else◌, nat_lt, Option, Some, None, reverse}
+use Rattle.std.proofs.Common.{◌≡◌, ℕ, zero, suc, ◌+◌, ◌<◌, ◌≤◌, ◌⊎◌, Bool, true, false, not, ◌&&◌, List, [], length, refl, sym, ap, ◌∙◌, subst, inl, inr, arith}
+use Rattle.std.specs.Prelude.{cond, if◌then◌else◌, Option, Some, None, reverse}
 use Rattle.std.specs.List.{count_by, sum_by, range_with_len}
 use Rattle.std.proofs.lemmas.Bool.{false≢true}
 use Rattle.std.proofs.lemmas.Bool.Decides.{nat_tests}
@@ -18,8 +18,8 @@ use Rattle.group_book.specs.Places.{is_round}
 use Rattle.audit_check.specs.declared.opened.OpenedRounds.{OpenedRounds}
 use Rattle.audit_check.specs.Audits.{lines_in}
 use Rattle.audit_check.specs.Ends.{Holds}
-use Rattle.audit_check.specs.Opened.{IsSize, IsFewest, AreCounted, count_rounds}
-use Rattle.audit_check.specs.OpenedParts.{opened_by, size_by, published_by, lacks_by, is_before, IsFewer, CountsOpened, CountsRound, HasFewest, AreCountedBy}
+use Rattle.audit_check.specs.Opened.{IsFewest, AreCounted, count_rounds}
+use Rattle.audit_check.specs.OpenedParts.{opened_by, size_by, published_by, lacks_by, is_before, IsFewer, CountsRound, HasFewest, AreCountedBy}
 use Rattle.audit_check.proofs.HonestLemmas.{events_lines}
 
 -- ---- sums over a range

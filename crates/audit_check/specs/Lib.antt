@@ -1,7 +1,6 @@
 pub mod Audits
 pub mod Statements
 pub mod Steps
-pub mod Presence
 pub mod Deciding
 pub mod Rows
 pub mod Replays

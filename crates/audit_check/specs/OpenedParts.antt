@@ -1,5 +1,5 @@
 -- The opened rounds of a book, one after another.
-use Rattle.std.specs.Prelude.{◌≡◌, ℕ, ◌+◌, ◌≤◌, ◌⊎◌, Bool, true, false, ◌&&◌, not, List, length, if◌then◌else◌, Option, Some, None}
+use Rattle.std.specs.Prelude.{◌≡◌, ℕ, ◌+◌, ◌≤◌, ◌⊎◌, Bool, true, false, ◌&&◌, not, length, if◌then◌else◌, Option, Some, None}
 use Rattle.std.specs.List.{count_by, range_with_len}
 use Rattle.group_plan.specs.Plans.{PlanView}
 use Rattle.transcript_log.specs.Schedule.{is_opened, is_published, survivors}

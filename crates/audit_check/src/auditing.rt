@@ -5,14 +5,14 @@ ghost use Rattle.transcript_log.specs.Events.{lines_of};
 ghost use Rattle.audit_check.specs.Audits.{AuditEnds};
 ghost use Rattle.audit_check.specs.Ends.{LinesEnd, IsReplayed, ReplayEnds, RowsEnd};
 ghost use Rattle.audit_check.specs.Opened.{InspectEnds};
-ghost use Rattle.audit_check.specs.Presence.{IsPresenceOf};
+ghost use Rattle.frame_presence.specs.Presence.{IsPresenceOf};
 ghost use Rattle.audit_check.specs.Replays.{Begins};
 
 use crate::comparing::{count_totals, first_difference, row_at};
 use crate::opened::opened_rounds;
-use crate::presence::presence_of_frames;
 use crate::replay::Replay;
 use crate::{AuditCounts, AuditError, Inspected};
+use frame_presence::presence_of_frames;
 use group_book::Book;
 use std::alloc::Global;
 use totals_report::{Report, ReportRow, rows_of};

@@ -5,7 +5,6 @@ mod answers;
 mod auditing;
 mod comparing;
 mod opened;
-mod presence;
 mod replay;
 mod telling;
 mod totals;

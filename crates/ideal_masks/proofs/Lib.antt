@@ -22,4 +22,5 @@ pub mod AgreementLemmas
 pub mod KnownLemmas
 pub mod OrderLemmas
 pub mod WorldLemmas
+pub mod RowOrder
 pub mod AboveLemmas

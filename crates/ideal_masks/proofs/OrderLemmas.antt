@@ -11,8 +11,8 @@ use Rattle.pair_keys.specs.declared.KeyId.{KeyId}
 use Rattle.pair_keys.specs.declared.KeyId.TheVariants.{Own, Pair}
 use Rattle.transcript_log.specs.Tables.{Masks}
 use Rattle.ideal_masks.specs.declared.Offset.{Offset}
-use Rattle.ideal_masks.specs.Moves.{moved, own_list, pair_list, offset_list}
-use Rattle.ideal_masks.specs.Order.{key_group, is_before, IsAscending, AreMoves}
+use Rattle.ideal_masks.specs.Moves.{moved, own_list, pair_list, offset_list, IsKeyOf}
+use Rattle.ideal_masks.specs.Order.{key_group, is_before, is_lower_first, IsAscending, AreMoves}
 use Rattle.ideal_masks.proofs.MoveLemmas.{all_range, all_moved_at, list_is}
 
 all-map : (P Q : Offset → Type 0) → ((m : Offset) → P m → Q m) → (xs : List Offset) → All P xs → All Q xs
@@ -20,7 +20,7 @@ all-map P Q each [] all = All-nil Q
 all-map P Q each (x ∷ xs) all = All-cons Q x xs (each x (All-head P x xs all)) (all-map P Q each xs (All-tail P x xs all))
 
 -- two lists, all of the first before all of the second
-ascending-append : (P Q : Offset → Type 0) → ((a b : Offset) → P a → Q b → is_before a b ≡ true) → (xs ys : List Offset) → All P xs → All Q ys → IsAscending xs → IsAscending ys → IsAscending (xs ++ ys)
+pub ascending-append : (P Q : Offset → Type 0) → ((a b : Offset) → P a → Q b → is_before a b ≡ true) → (xs ys : List Offset) → All P xs → All Q ys → IsAscending xs → IsAscending ys → IsAscending (xs ++ ys)
 ascending-append P Q cross [] ys all_xs all_ys one two = two
 ascending-append P Q cross (x ∷ xs) ys all_xs all_ys one two = (
   All-append (λ later. is_before x later ≡ true) xs ys one.0 (all-map Q (λ later. is_before x later ≡ true) (λ m is. cross x m (All-head P x xs all_xs) is) ys all_ys),
@@ -142,5 +142,14 @@ list-ascends plan o =
     (λ g. group-in o plan.rounds g (size plan.groups g)) (λ g. group-ascends o plan.rounds g (size plan.groups g))
     (λ g h a b lt is at. later-group a b g h is at lt) 0 (length plan.groups)
 
+-- a key of a plan has the lower meter first
+key-lower_first : (plan : PlanView) (id : KeyId) → IsKeyOf plan id → is_lower_first id ≡ true
+key-lower_first plan (Own g i) is = refl
+key-lower_first plan (Pair g i j) is = grind (arith, nat_tests, is.1)
+
 pub list-moves : (plan : PlanView) (o : Masks) → AreMoves (offset_list plan o)
-list-moves plan o = record { ascending = list-ascends plan o; nonzero = (list_is plan o).nonzero }
+list-moves plan o = record {
+  ascending = list-ascends plan o;
+  nonzero = (list_is plan o).nonzero;
+  pairs = all-map (λ m. IsKeyOf plan m.id × (m.round < plan.rounds)) (λ m. is_lower_first m.id ≡ true) (λ m is. key-lower_first plan m.id is.0) (offset_list plan o) (list_is plan o).places;
+}

@@ -1,5 +1,5 @@
 -- The order of the masks file: by group, by round, own words by meter, and then pair words by the lower meter and the higher.
-use Rattle.std.specs.Prelude.{◌≡◌, ℕ, ◌^◌, ◌<◌, ◌==◌, nat_lt, Bool, true, false, ◌&&◌, ◌||◌, List, [], ◌∷◌, All}
+use Rattle.std.specs.Prelude.{◌≡◌, ℕ, ◌^◌, ◌<◌, ◌==◌, nat_lt, Bool, true, false, ◌&&◌, ◌||◌, List, [], ◌∷◌, All, Option, None, Some}
 use Rattle.group_plan.specs.Plans.{PlanView}
 use Rattle.pair_keys.specs.declared.KeyId.{KeyId}
 use Rattle.pair_keys.specs.declared.KeyId.TheVariants.{Own, Pair}
@@ -29,10 +29,21 @@ abbrev pub IsAscending : List Offset → Type 0
 IsAscending [] = Unit {0}
 IsAscending (m ∷ ms) = All (λ later. is_before m later ≡ true) ms × IsAscending ms
 
--- moved words in the order of the masks file; each moves by less than 2^64, and none by 0
+-- a pair's lower meter is below its higher
+abbrev pub is_lower_first : KeyId → Bool
+is_lower_first (Own g i) = true
+is_lower_first (Pair g i j) = nat_lt i j
+
+-- moved words in the order of the masks file; each moves by less than 2^64, and none by 0; of each pair the lower meter stands first
 pub record AreMoves (list : List Offset) : Type 0 where
   pub ascending : IsAscending list
   pub nonzero : All (λ m. (0 < m.by) × (m.by < 2 ^ 64)) list
+  pub pairs : All (λ m. is_lower_first m.id ≡ true) list
+
+-- the list of these rows where they are moved words in this order, and none exactly where they aren't
+abbrev pub ListOfRows : List Offset → Option (List Offset) → Type 0
+ListOfRows rows (Some list) = AreMoves rows × (list ≡ rows)
+ListOfRows rows None = AreMoves rows → ⊥
 
 -- each is of a key and a round of the plan
 abbrev pub AreOfPlan : PlanView → List Offset → Type 0

@@ -65,7 +65,7 @@ fn check_rounds(first: &Readings, second: &Readings, group: u16) -> Result<(), D
 }
 
 /// Whether the tables have their readings at the same places, or else the first place where they haven't.
-pub(crate) fn check_presence(first: &Readings, second: &Readings) -> Result<(), Differ>
+pub fn check_presence(first: &Readings, second: &Readings) -> Result<(), Differ>
     requires { second.now.plan ≡ first.now.plan }
     ensures ends { PresenceEnds first.now second.now result }
     ensures first { IsReadingTable first.now.plan first.now.table }
@@ -167,8 +167,8 @@ pub(crate) fn check_known(
 
 // ---- totals
 
-// The sum of the readings of these meters.
-fn sum_of_readings(readings: &Readings, group: u16, round: u32, meters: MeterSet) -> u64
+/// The sum of the readings of these meters, modulo 2^64.
+pub fn sum_of_readings(readings: &Readings, group: u16, round: u32, meters: MeterSet) -> u64
     requires round { round < readings.now.plan.rounds }
     requires meters { IsTrue (are_below (size readings.now.plan.groups group) meters) }
     ensures sum { result ≡ word (plain_sum (reading readings.now.table) group round meters) }

@@ -14,7 +14,7 @@ use missing_round::MeterSet;
 
 /// An announced round: its survivors outside the pool, those of them that sent their answer, and the least that sent none.
 #[derive(Clone, Copy)]
-pub(crate) struct Chain {
+pub struct Chain {
     pub others: MeterSet,
     pub answered: MeterSet,
     pub end: Option<u8>,
@@ -62,7 +62,7 @@ fn answered(book: &Book, group: u16, round: u32, others: MeterSet) -> MeterSet
 }
 
 /// The chain of a round for a pool, where the round is announced.
-pub(crate) fn chain_of(book: &Book, known: &[MeterSet], group: u16, round: u32) -> Option<Chain>
+pub fn chain_of(book: &Book, known: &[MeterSet], group: u16, round: u32) -> Option<Chain>
     requires { IsTrue (has_round book.now group round) }
     ensures { IsChain (pool_of known.now) (shape_of book.now) group round (past book.now) result }
 {

@@ -24,7 +24,7 @@ pub(crate) struct Compared<'a> {
 }
 
 /// The reading of a place in watt-hours, 0 where there is none.
-pub(crate) fn reading_or_zero(readings: &Readings, group: u16, round: u32, meter: u8) -> u64
+pub fn reading_or_zero(readings: &Readings, group: u16, round: u32, meter: u8) -> u64
     requires { IsTrue (is_place readings.now.plan group round meter) }
     ensures { result ≡ reading_at (reading readings.now.table) group round meter }
 {

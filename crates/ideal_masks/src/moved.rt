@@ -8,12 +8,7 @@ use pair_keys::KeyId;
 use std::alloc::AllocError;
 
 /// Adds the offset of a word, unless it is 0.
-pub(crate) fn push_moved(
-    id: KeyId,
-    round: u32,
-    by: u64,
-    moves: &mut Vec<Offset>,
-) -> Result<(), AllocError>
+pub fn push_moved(id: KeyId, round: u32, by: u64, moves: &mut Vec<Offset>) -> Result<(), AllocError>
     ensures { OnOk result (moves.new.items ≡ moves.old.items ++ moved id round by) }
 {
     if by != 0 {

@@ -1,7 +1,7 @@
 use Rattle.std.proofs.Common.{◌≤◌, length, drop}
 use Rattle.transcript_log.specs.Events.{lines_of}
-use Rattle.audit_check.specs.Presence.{IsNoted}
-use Rattle.audit_check.proofs.presence.presence_of_frames.Given as goal
+use Rattle.frame_presence.specs.Presence.{IsNoted}
+use Rattle.frame_presence.proofs.presence.readings_of_frames.Given as goal
 
 abbrev pub invariant-loop-at : goal.invariant-loop-at
 invariant-loop-at l = record {

@@ -2,7 +2,7 @@
 
 ghost use Rattle.std.specs.Prelude.{IfOk};
 ghost use Rattle.transcript_log.specs.Events.{lines_of};
-ghost use Rattle.audit_check.specs.Presence.{HasTagPlace, IsPresenceOf, Notes};
+ghost use Rattle.frame_presence.specs.Presence.{HasTagPlace, IsPresenceOf, IsNoted, Notes};
 
 use group_plan::{Kind, Presence, Readings};
 use std::alloc::{AllocError, Global};
@@ -26,12 +26,10 @@ fn note(readings: &mut Readings, line: &Line)
     }
 }
 
-/// The presence that the frames of a transcript say: of the first Send of each reading.
-pub(crate) fn presence_of_frames(
-    alloc: Global,
-    transcript: &Transcript,
-) -> Result<Presence, AllocError>
-    ensures { IfOk result (λ presence. IsPresenceOf transcript.now.plan (lines_of transcript.now.entries) presence) }
+/// A table of the readings that the frames of a transcript say are there: 0 watt-hours at each place whose meter is a member of
+/// its round and whose reading's first Send has a frame, and none elsewhere.
+pub fn readings_of_frames(alloc: Global, transcript: &Transcript) -> Result<Readings, AllocError>
+    ensures { IfOk result (IsNoted transcript.now.plan (lines_of transcript.now.entries)) }
 {
     let mut readings = Readings::new(alloc, transcript.plan())?;
     let mut at = transcript.len();
@@ -40,5 +38,13 @@ pub(crate) fn presence_of_frames(
         let entry = transcript.entry(at);
         note(&mut readings, &entry.line);
     }
+    Ok(readings)
+}
+
+/// The presence that the frames of a transcript say: of the first Send of each reading.
+pub fn presence_of_frames(alloc: Global, transcript: &Transcript) -> Result<Presence, AllocError>
+    ensures { IfOk result (IsPresenceOf transcript.now.plan (lines_of transcript.now.entries)) }
+{
+    let readings = readings_of_frames(alloc, transcript)?;
     Presence::of(alloc, &readings)
 }

@@ -1,7 +1,7 @@
 use Rattle.std.proofs.Common.{◌∙◌, ap, arith}
 use Rattle.group_plan.specs.Tables.{absent}
-use Rattle.audit_check.proofs.PresenceLemmas.{none_noted, next_noted, all_noted}
-use Rattle.audit_check.proofs.presence.presence_of_frames.Goals as goal
+use Rattle.frame_presence.proofs.PresenceLemmas.{none_noted, next_noted, all_noted}
+use Rattle.frame_presence.proofs.presence.readings_of_frames.Goals as goal
 
 pub loop-at-init : goal.loop-at-init
 loop-at-init c =
@@ -22,4 +22,4 @@ loop-at-preserved c =
     }
 
 pub returns : goal.returns
-returns c = all_noted c.args.transcript.now.plan c.args.transcript.now.entries c.loop-at.at c.loop-at.readings c.of.result c.loop-at-test.false c.loop-at.invariant.noted c.of.ensures
+returns c = all_noted c.args.transcript.now.plan c.args.transcript.now.entries c.loop-at.at c.loop-at.readings c.loop-at-test.false c.loop-at.invariant.noted

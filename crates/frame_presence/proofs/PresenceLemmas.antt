@@ -12,8 +12,9 @@ use Rattle.group_plan.proofs.TableLemmas.{is_present-map, entry-table_of, entry_
 use Rattle.transcript_log.specs.declared.Entry.{Entry}
 use Rattle.transcript_log.specs.declared.Line.{Line}
 use Rattle.transcript_log.specs.Events.{event_of, frame_of, is_send, lines_of}
-use Rattle.transcript_log.specs.Frames.{first_frame}
-use Rattle.audit_check.specs.Presence.{IsPresenceOf, Notes, IsNoted}
+use Rattle.transcript_log.specs.Frames.{first_frame, shape_of_lines}
+use Rattle.transcript_log.specs.Transcript.{shape_of_readings}
+use Rattle.frame_presence.specs.Presence.{IsPresenceOf, Notes, IsNoted}
 
 -- where no line is noted no reading stands
 pub noted_none : (plan : PlanView) → IsNoted plan [] (absent plan)
@@ -38,7 +39,7 @@ noted_more plan l ls old new noted notes = record {
     inside false m f h = refl
 
 -- the presence of what is noted
-pub presence_is : (plan : PlanView) (ls : List Line) (readings : ReadingsView) (presence : PresenceView) → IsNoted plan ls readings → presence ≡ presence_of readings → IsPresenceOf plan ls presence
+presence_is : (plan : PlanView) (ls : List Line) (readings : ReadingsView) (presence : PresenceView) → IsNoted plan ls readings → presence ≡ presence_of readings → IsPresenceOf plan ls presence
 presence_is plan ls readings presence noted is = subst (IsPresenceOf plan ls) (sym is) (record {
   plan_is = noted.plan_is;
   shape_is = λ k. record {
@@ -69,8 +70,20 @@ next_noted plan entries (suc n) e old new some le noted here notes =
     (subst (λ ls. IsNoted plan ls new) (sym (lines_from entries n e (omega (arith, le)) ∙ ap (λ (x : Entry). x.line ∷ lines_of (drop (suc n) entries)) (sym read)))
     (noted_more plan e.line (lines_of (drop (suc n) entries)) old new noted notes))
 
-pub all_noted : {E : Type 0} (plan : PlanView) (entries : List Entry) (at : ℕ) (readings : ReadingsView) (result : Result PresenceView E) → at ≤ 0 → IsNoted plan (lines_of (drop at entries)) readings
-    → IfOk result (λ presence. presence ≡ presence_of readings) → IfOk result (λ presence. IsPresenceOf plan (lines_of entries) presence)
-all_noted plan entries zero readings (Ok presence) none noted is = presence_is plan (lines_of entries) readings presence noted is
-all_noted plan entries zero readings (Err e) none noted is = tt
-all_noted plan entries (suc at) readings result none noted is = absurd (omega (arith, none))
+pub all_noted : (plan : PlanView) (entries : List Entry) (at : ℕ) (readings : ReadingsView) → at ≤ 0 → IsNoted plan (lines_of (drop at entries)) readings → IsNoted plan (lines_of entries) readings
+all_noted plan entries zero readings none noted = noted
+all_noted plan entries (suc at) readings none noted = absurd (omega (arith, none))
+
+-- ---- the two answers
+
+pub presence_ends : {E : Type 0} (plan : PlanView) (ls : List Line) (readings : ReadingsView) (result : Result PresenceView E) → IsNoted plan ls readings
+    → IfOk result (λ presence. presence ≡ presence_of readings) → IfOk result (IsPresenceOf plan ls)
+presence_ends plan ls readings (Ok presence) noted is = presence_is plan ls readings presence noted is
+presence_ends plan ls readings (Err e) noted is = tt
+
+-- the table has the lines' own shape
+pub shape_noted : (plan : PlanView) (ls : List Line) (x : ReadingsView) → IsNoted plan ls x → shape_of_readings x.plan.groups (reading x.table) ≡ shape_of_lines plan.groups ls
+shape_noted plan ls x noted = λ k. record {
+  groups = (noted.plan_is k).groups;
+  present = fun_ext (λ g. fun_ext (λ r. fun_ext (λ i. noted.present g r i))) k;
+}
