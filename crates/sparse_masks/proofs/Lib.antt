@@ -1,0 +1,15 @@
+pub mod ReachLemmas
+pub mod ForestLemmas
+pub mod FlowLemmas
+pub mod WorldLemmas
+pub mod ConverseLemmas
+pub mod NeighbourLemmas
+pub mod RowLemmas
+pub mod RoundLemmas
+pub mod OrderLemmas
+pub mod OpenedLemmas
+pub mod SumLemmas
+pub mod TreeLoops
+pub mod DeltaLemmas
+pub mod MoveLemmas
+pub mod RingEnds

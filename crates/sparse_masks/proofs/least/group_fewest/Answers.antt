@@ -1,0 +1,13 @@
+use Rattle.std.proofs.Common.{◌∙◌, refl, ap, subst, arith}
+use Rattle.group_plan.specs.Plans.{IsWithinLimits, PlanView}
+use Rattle.group_book.specs.Books.{shape_of, past}
+use Rattle.sparse_masks.proofs.OpenedLemmas.{fewest-group}
+use Rattle.sparse_masks.proofs.least.group_fewest.Goals as goal
+
+pub returns : goal.returns
+returns c =
+    let b = c.args.book.now in
+    let limits : IsWithinLimits b.presence.plan = subst IsWithinLimits c.plan.ensures c.rounds-round-end.ensures.limits in
+    let rounds = c.rounds-round-end.ensures.rounds ∙ ap (λ (p : PlanView). p.rounds) c.plan.ensures in
+    let test = c.loop-round-test.false in
+    fewest-group c.args.width b.presence.plan (shape_of b) (past b) c.args.group c.loop-round.round c.loop-round.least refl limits (omega (arith, rounds, test)) c.loop-round.invariant

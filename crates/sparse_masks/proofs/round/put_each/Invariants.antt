@@ -1,0 +1,5 @@
+use Rattle.sparse_masks.proofs.RoundLemmas.{Put}
+use Rattle.sparse_masks.proofs.round.put_each.Given as goal
+
+abbrev pub invariant-loop-meter : goal.invariant-loop-meter
+invariant-loop-meter l = Put l.set l.fn.sets l.sets l.meter-iterator

@@ -1,0 +1,8 @@
+use Rattle.group_plan.specs.Tables.{reading}
+use Rattle.group_book.specs.Books.{shape_of, past}
+use Rattle.sparse_masks.specs.Offsets.{HasOneRingSum}
+use Rattle.sparse_masks.specs.Opened.{Before}
+use Rattle.sparse_masks.proofs.sides.check_sums.Given as goal
+
+abbrev pub invariant-loop-group : goal.invariant-loop-group
+invariant-loop-group l = Before (HasOneRingSum l.width (shape_of l.book) (reading l.first.table) (reading l.second.table) (past l.book)) l.group 0 0

@@ -1,0 +1,10 @@
+pub mod Neighbours
+pub mod Trees
+pub mod Offsets
+pub mod Statements
+pub mod Rounds
+pub mod Opened
+pub mod OffsetEnds
+pub mod SideParts
+pub mod TreeParts
+pub mod Rows
