@@ -1,9 +1,9 @@
 -- The rows of moved words, said of the two tables.
-use Rattle.std.proofs.Common.{◌≡◌, ◌≢◌, ℕ, ◌+◌, ◌-◌, ◌^◌, ◌<◌, ◌==◌, Bool, true, false, ◌&&◌, ◌||◌, List, [], ◌∷◌, length, get_or, refl, sym, ap, ◌∙◌, arith}
+use Rattle.std.proofs.Common.{◌≡◌, ◌≢◌, ℕ, ◌+◌, ◌-◌, ◌^◌, ◌<◌, ◌==◌, Bool, true, false, ◌&&◌, ◌||◌, List, [], ◌∷◌, length, get_or, refl, sym, ap, subst, ◌∙◌, arith}
 use Rattle.std.specs.Prelude.{if◌then◌else◌}
 use Rattle.std.specs.List.{All, list_any}
 use Rattle.std.proofs.lemmas.Bool.{false≢true}
-use Rattle.std.proofs.lemmas.List.Elements.{All-append, All-map, All-head, All-tail}
+use Rattle.std.proofs.lemmas.List.Elements.{All-append, All-map}
 use Rattle.std.proofs.lemmas.List.Sums.{sum_by-cons}
 use Rattle.missing_round.specs.Words.{word}
 use Rattle.group_plan.specs.Plans.{PlanView, size}
@@ -11,29 +11,13 @@ use Rattle.pair_keys.specs.declared.KeyId.{KeyId}
 use Rattle.pair_keys.specs.declared.KeyId.TheVariants.{Own, Pair}
 use Rattle.transcript_log.specs.Tables.{Masks, IsMasks}
 use Rattle.ideal_masks.specs.declared.Offset.{Offset}
-use Rattle.ideal_masks.specs.ListTables.{masks_in, mask_table_of}
 use Rattle.ideal_masks.specs.Offsets.{shift}
 use Rattle.ideal_masks.specs.Moves.{offset_list, own_list, pair_list, moved_by, same_id, IsKeyOf}
-use Rattle.ideal_masks.specs.Order.{IsAscending, AreOfPlan}
+use Rattle.ideal_masks.specs.Order.{IsAscending}
 use Rattle.ideal_masks.proofs.MoveLemmas.{all_range, all_moved_at, list_is}
 use Rattle.ideal_masks.proofs.OrderLemmas.{list-ascends}
-use Rattle.ideal_masks.proofs.TableLemmas.{own-table_of, pair-table_of}
-use Rattle.twin_worlds.specs.MovedRows.{word_of, row_of, rows_of, IsMoved, is_row_of, comes_before, AreInOrder, AreMoved}
-
--- ---- the words of a finite table
-
-word-table : (plan : PlanView) (m : Masks) (id : KeyId) (r : ℕ) → IsKeyOf plan id → r < plan.rounds → word_of (masks_in (mask_table_of plan m)) id r ≡ word_of m id r
-word-table plan m (Own g i) r key lt = own-table_of plan m g r i key.0 lt key.1
-word-table plan m (Pair g i j) r key lt = pair-table_of plan m g r i j key.0 lt key.1 key.2
-
--- the rows of places of the plan are those of its finite table
-pub rows-table : (plan : PlanView) (m : Masks) (list : List Offset) → AreOfPlan plan list → rows_of (masks_in (mask_table_of plan m)) list ≡ rows_of m list
-rows-table plan m [] places = refl
-rows-table plan m (o ∷ list) places =
-    let t : Masks = masks_in (mask_table_of plan m) in
-    let here = All-head (λ (z : Offset). IsKeyOf plan z.id × (z.round < plan.rounds)) o list places in
-    ap (λ w. record { id = o.id; round = o.round; old = w; new = word (w + o.by) } ∷ rows_of t list) (word-table plan m o.id o.round here.0 here.1)
-    ∙ ap (λ rows. row_of m o ∷ rows) (rows-table plan m list (All-tail (λ (z : Offset). IsKeyOf plan z.id × (z.round < plan.rounds)) o list places))
+use Rattle.twin_worlds.specs.declared.rows.MovedRow.{MovedRow}
+use Rattle.twin_worlds.specs.MovedRows.{word_of, row_of, rows_of, IsMoved, is_row_of, comes_before, AreInOrder, AreMoved, AreMovedBy}
 
 -- ---- each row
 
@@ -117,3 +101,6 @@ are-moved plan o m fits =
       all = λ id r key lt differ. has-row plan o m id r fits key lt differ;
       order = in-order m list (list-ascends plan o);
     }
+
+pub are-moved_by : (plan : PlanView) (m : Masks) (list : List Offset) (rows : List MovedRow) → rows ≡ rows_of m list → AreMovedBy plan m list rows
+are-moved_by plan m list rows is = λ fits o same. subst (AreMoved plan m (shift o m)) (sym (is ∙ ap (rows_of m) same)) (are-moved plan o m fits)

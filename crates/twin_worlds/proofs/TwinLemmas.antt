@@ -1,12 +1,12 @@
 -- The parts of a twin, put together.
 use Rattle.std.proofs.Common.{◌≡◌, ℕ, ◌^◌, ◌<◌, List, take, sym, ap, ◌∙◌, subst, arith}
-use Rattle.std.specs.Prelude.{reverse, slice_get, Option, Some, None, Ok, Err}
+use Rattle.std.specs.Prelude.{reverse, slice_get, Option, Some, None, Result, Ok, Err}
 use Rattle.chacha_lanes.proofs.WordBounds.{mask_word_small}
 use Rattle.mask_stream.specs.KeyStreams.{word_of as stream_word_of, streams}
 use Rattle.pair_keys.specs.Keys.{Keys}
 use Rattle.group_plan.specs.Tables.{ReadingsView, IsReadingTable, reading}
 use Rattle.transcript_log.specs.declared.Line.{Line}
-use Rattle.transcript_log.specs.Events.{lines_of, events_of}
+use Rattle.transcript_log.specs.Events.{events_of}
 use Rattle.transcript_log.specs.Tables.{Masks, IsMasks}
 use Rattle.transcript_log.specs.Transcript.{transcript}
 use Rattle.transcript_log.proofs.ScheduleLemmas.{after-reverse}
@@ -24,9 +24,9 @@ use Rattle.twin_worlds.specs.declared.answers.TwinError.TheVariants as twin
 use Rattle.twin_worlds.specs.MovedRows.{rows_of, AreMoved}
 use Rattle.twin_worlds.specs.declared.answers.PoolTwinError.{PoolTwinError}
 use Rattle.twin_worlds.specs.declared.answers.PoolTwinError.TheVariants as pool_twin
-use Rattle.twin_worlds.specs.Twins.{IsTextOf, lines_under, IsRecord, shifted_for, IsFirstOther, TwinEnds, PooledTwinEnds}
-use Rattle.twin_worlds.specs.Ends.{HeadEnds, LinesEnd, ConfirmedEnds, AgreementEnds, PooledAgreementEnds}
-use Rattle.twin_worlds.proofs.MovedLemmas.{rows-table, are-moved}
+use Rattle.twin_worlds.specs.Twins.{IsTextOf, lines_under, IsRecord, shifted_for, IsFirstOther, SameWorldEnds, TwinEnds, PooledTwinEnds}
+use Rattle.twin_worlds.specs.Ends.{HeadEnds, LinesEnd, AgreementEnds, PooledAgreementEnds}
+use Rattle.twin_worlds.proofs.MovedLemmas.{are-moved}
 
 -- ---- the stream words of keys
 
@@ -40,12 +40,8 @@ streams_small keys = record { own = λ g r i. word_small _ r; pair = λ g r i j.
 -- ---- the first world
 
 -- under the finite table of the masks m the readings give the lines that they give under m
-pub same-lines : (x : ReadingsView) (m : Masks) (w : MaskTable) (t : TranscriptView) → IsReadingTable x.plan x.table → w ≡ mask_table_of x.plan m → lines_under x (masks_in w) t ≡ lines_under x m t
+same-lines : (x : ReadingsView) (m : Masks) (w : MaskTable) (t : TranscriptView) → IsReadingTable x.plan x.table → w ≡ mask_table_of x.plan m → lines_under x (masks_in w) t ≡ lines_under x m t
 same-lines x m w t table is = ap (λ z. lines_under x (masks_in z) t) is ∙ keeps_lines x.plan x.table m (events_of t.entries) table
-
-pub record-of : (m : Masks) (x : ReadingsView) (text : List ℕ) (w : MaskTable) (t : TranscriptView) → IsReadingTable x.plan x.table → w ≡ mask_table_of x.plan m → IsTextOf t text → t.plan ≡ x.plan
-    → lines_of t.entries ≡ lines_under x (masks_in w) t → IsRecord m x text t
-record-of m x text w t table is text_of plan_is lines = record { text_of = text_of; plan_is = plan_is; lines_are = lines ∙ same-lines x m w t table is }
 
 other-line : (m : Masks) (x : ReadingsView) (w : MaskTable) (t : TranscriptView) (k : ℕ) (expected found : Line) (tick : ℕ) (fate : List ℕ) → IsReadingTable x.plan x.table → w ≡ mask_table_of x.plan m
     → IsFirstOther (masks_in w) x t k expected found tick fate → IsFirstOther m x t k expected found tick fate
@@ -59,40 +55,47 @@ other-line m x w t k expected found tick fate table is other =
       writable = other.writable;
     }
 
--- the first line that isn't that of the finite table isn't that of the masks
-pub lines-other : (m : Masks) (x : ReadingsView) (w : MaskTable) (t : TranscriptView) (e : TwinError) → IsReadingTable x.plan x.table → w ≡ mask_table_of x.plan m
-    → LinesEnd (masks_in w) x t (Err e) → ConfirmedEnds m x t (Err e)
-lines-other m x w t (twin.Transcript refusal) table is ends = absurd ends
-lines-other m x w t twin.Head table is ends = absurd ends
-lines-other m x w t (twin.NotThis line expected found tick fate) table is ends = (ends.0, ends.1, other-line m x w t ends.0 expected found tick fate table is ends.2)
-lines-other m x w t (twin.Differ cause) table is ends = absurd ends
-lines-other m x w t twin.Memory table is ends = tt
+-- the lines end under the finite table as under the masks
+pub lines-end : (m : Masks) (x : ReadingsView) (w : MaskTable) (t : TranscriptView) (result : Result (Unit {0}) TwinError) → IsReadingTable x.plan x.table → w ≡ mask_table_of x.plan m
+    → LinesEnd (masks_in w) x t result → LinesEnd m x t result
+lines-end m x w t (Ok done) table is ends = ends ∙ same-lines x m w t table is
+lines-end m x w t (Err (twin.Transcript refusal)) table is ends = absurd ends
+lines-end m x w t (Err twin.Head) table is ends = absurd ends
+lines-end m x w t (Err (twin.NotThis line expected found tick fate)) table is ends = (ends.0, ends.1, other-line m x w t ends.0 expected found tick fate table is ends.2)
+lines-end m x w t (Err (twin.Differ cause)) table is ends = absurd ends
+lines-end m x w t (Err twin.Memory) table is ends = tt
+
+-- the head is refused
+pub head-refused : (m : Masks) (x : ReadingsView) (text : List ℕ) (e : TwinError) → HeadEnds x.plan text (Err e) → SameWorldEnds m x text (Err e)
+head-refused m x text (twin.Transcript refusal) ends = ends
+head-refused m x text twin.Head ends = ends
+head-refused m x text (twin.NotThis line expected found tick fate) ends = absurd ends
+head-refused m x text (twin.Differ cause) ends = absurd ends
+head-refused m x text twin.Memory ends = tt
 
 -- the lines are refused
-pub lines-refused : (m : Masks) (x y : ReadingsView) (text : List ℕ) (t : TranscriptView) (e : TwinError) → IsTextOf t text → t.plan ≡ x.plan
-    → ConfirmedEnds m x t (Err e) → TwinEnds m x y text (Err e)
-lines-refused m x y text t (twin.Transcript refusal) text_of plan_is ends = absurd ends
-lines-refused m x y text t twin.Head text_of plan_is ends = absurd ends
-lines-refused m x y text t (twin.NotThis line expected found tick fate) text_of plan_is ends = (t, text_of, plan_is, ends)
-lines-refused m x y text t (twin.Differ cause) text_of plan_is ends = absurd ends
-lines-refused m x y text t twin.Memory text_of plan_is ends = tt
+pub lines-refused : (m : Masks) (x : ReadingsView) (text : List ℕ) (t : TranscriptView) (e : TwinError) → IsTextOf t text → t.plan ≡ x.plan → LinesEnd m x t (Err e) → SameWorldEnds m x text (Err e)
+lines-refused m x text t (twin.Transcript refusal) text_of plan_is ends = absurd ends
+lines-refused m x text t twin.Head text_of plan_is ends = absurd ends
+lines-refused m x text t (twin.NotThis line expected found tick fate) text_of plan_is ends = (t, text_of, plan_is, ends)
+lines-refused m x text t (twin.Differ cause) text_of plan_is ends = absurd ends
+lines-refused m x text t twin.Memory text_of plan_is ends = tt
 
--- for a pool
-pub lines-refused_for : (pool : Pool) (m : Masks) (x y : ReadingsView) (text : List ℕ) (t : TranscriptView) (e : TwinError) → IsTextOf t text → t.plan ≡ x.plan
-    → ConfirmedEnds m x t (Err e) → PooledTwinEnds pool m x y text (Err (pool_twin.Other e))
-lines-refused_for pool m x y text t (twin.Transcript refusal) text_of plan_is ends = absurd ends
-lines-refused_for pool m x y text t twin.Head text_of plan_is ends = absurd ends
-lines-refused_for pool m x y text t (twin.NotThis line expected found tick fate) text_of plan_is ends = (t, text_of, plan_is, ends)
-lines-refused_for pool m x y text t (twin.Differ cause) text_of plan_is ends = absurd ends
-lines-refused_for pool m x y text t twin.Memory text_of plan_is ends = tt
+-- ---- refusals of the first world
 
--- the text is refused
-pub text-refused_for : (pool : Pool) (m : Masks) (x y : ReadingsView) (text : List ℕ) (e : TwinError) → HeadEnds x.plan text (Err e) → PooledTwinEnds pool m x y text (Err (pool_twin.Other e))
-text-refused_for pool m x y text (twin.Transcript refusal) ends = ends
-text-refused_for pool m x y text twin.Head ends = ends
-text-refused_for pool m x y text (twin.NotThis line expected found tick fate) ends = absurd ends
-text-refused_for pool m x y text (twin.Differ cause) ends = absurd ends
-text-refused_for pool m x y text twin.Memory ends = tt
+pub world-refused : (m : Masks) (x y : ReadingsView) (text : List ℕ) (e : TwinError) → SameWorldEnds m x text (Err e) → TwinEnds m x y text (Err e)
+world-refused m x y text (twin.Transcript refusal) ends = ends
+world-refused m x y text twin.Head ends = ends
+world-refused m x y text (twin.NotThis line expected found tick fate) ends = ends
+world-refused m x y text (twin.Differ cause) ends = absurd ends
+world-refused m x y text twin.Memory ends = tt
+
+pub world-refused_for : (pool : Pool) (m : Masks) (x y : ReadingsView) (text : List ℕ) (e : TwinError) → SameWorldEnds m x text (Err e) → PooledTwinEnds pool m x y text (Err (pool_twin.Other e))
+world-refused_for pool m x y text (twin.Transcript refusal) ends = ends
+world-refused_for pool m x y text twin.Head ends = ends
+world-refused_for pool m x y text (twin.NotThis line expected found tick fate) ends = ends
+world-refused_for pool m x y text (twin.Differ cause) ends = absurd ends
+world-refused_for pool m x y text twin.Memory ends = tt
 
 -- ---- the second world
 
@@ -113,13 +116,12 @@ tables-refused_for pool m x y text t (pool_twin.Other (twin.Differ cause)) is en
 tables-refused_for pool m x y text t (pool_twin.Other twin.Memory) is ends = tt
 
 -- the tables agree, and these are the moved words
-pub twins-are : (pool : Pool) (m : Masks) (x y : ReadingsView) (text : List ℕ) (w : MaskTable) (t : TranscriptView) (list : List Offset) (rows : List MovedRow) → IsMasks m → IsReadingTable x.plan x.table → y.plan ≡ x.plan
-    → w ≡ mask_table_of x.plan m → IsRecord m x text t → PooledAgreementEnds pool x y t (Ok list) → rows ≡ rows_of (masks_in w) list → PooledTwinEnds pool m x y text (Ok rows)
-twins-are pool m x y text w t list rows small table plans is record_is agreed rows_are =
+pub twins-are : (pool : Pool) (m : Masks) (x y : ReadingsView) (text : List ℕ) (t : TranscriptView) (list : List Offset) (rows : List MovedRow) → IsMasks m → IsReadingTable x.plan x.table → y.plan ≡ x.plan
+    → IsRecord m x text t → PooledAgreementEnds pool x y t (Ok list) → rows ≡ rows_of m list → PooledTwinEnds pool m x y text (Ok rows)
+twins-are pool m x y text t list rows small table plans record_is agreed rows_are =
     let events = events_of t.entries in
     let groups = x.plan.groups in
-    let given : rows ≡ rows_of m (offsets_between_for pool x.plan x.table y.table events)
-    = rows_are ∙ ap (λ z. rows_of (masks_in z) list) is ∙ rows-table x.plan m list agreed.2 ∙ ap (rows_of m) agreed.1 in
+    let given : rows ≡ rows_of m (offsets_between_for pool x.plan x.table y.table events) = rows_are ∙ ap (rows_of m) agreed.1 in
     let worlds : AgreeFor pool groups (reading x.table) (reading y.table) (reverse events) → transcript groups (reading y.table) (shifted_for pool x y t m) events ≡ lines_under x m t
     = rw (← after-reverse events) (two_worlds_for pool groups (reading x.table) (reading y.table) m events table.of_members) in (
       t,

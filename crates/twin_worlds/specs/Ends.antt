@@ -1,7 +1,7 @@
 -- How the parts of a twin end.
 use Rattle.std.specs.Prelude.{◌≡◌, ◌≢◌, ℕ, List, reverse, Result, Ok, Err, ⊤}
 use Rattle.group_plan.specs.Plans.{PlanView}
-use Rattle.group_plan.specs.Tables.{ReadingsView, reading, IsReadingTable}
+use Rattle.group_plan.specs.Tables.{ReadingsView, reading}
 use Rattle.transcript_log.specs.Events.{lines_of, events_of}
 use Rattle.transcript_log.specs.Tables.{Masks}
 use Rattle.transcript_text.specs.declared.version.Version.TheVariants.{Two}
@@ -12,8 +12,6 @@ use Rattle.transcript_text.specs.Heads.{read_of}
 use Rattle.ideal_masks.specs.declared.Offset.{Offset}
 use Rattle.ideal_masks.specs.Pools.{Pool}
 use Rattle.ideal_masks.specs.Offsets.{AgreeFor, Agree}
-use Rattle.ideal_masks.specs.ListTables.{mask_table_of}
-use Rattle.ideal_masks.specs.KeptMasks.{MasksView}
 use Rattle.ideal_masks.specs.Order.{AreOfPlan}
 use Rattle.ideal_masks.specs.Isolation.{offsets_between_for, offsets_between}
 use Rattle.twin_worlds.specs.declared.answers.TwinError.{TwinError}
@@ -62,8 +60,3 @@ PooledAgreementEnds pool x y t (Err (pool_twin.Known g r i)) = KnowsApart pool x
 PooledAgreementEnds pool x y t (Err (pool_twin.Other (twin.Differ cause))) = DisagreeFor pool x y t cause
 PooledAgreementEnds pool x y t (Err (pool_twin.Other twin.Memory)) = ⊤
 PooledAgreementEnds pool x y t (Err _) = ⊥
-
--- the finite table of the masks m, under which x gives the lines; or the first line that it doesn't give
-abbrev pub ConfirmedEnds : Masks → ReadingsView → TranscriptView → Result MasksView TwinError → Type 0
-ConfirmedEnds m x t (Ok masks) = (masks.plan ≡ x.plan) × (masks.words ≡ mask_table_of x.plan m) × IsReadingTable x.plan x.table × (lines_of t.entries ≡ lines_under x m t)
-ConfirmedEnds m x t (Err error) = LinesEnd m x t (Err error)

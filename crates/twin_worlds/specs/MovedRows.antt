@@ -5,9 +5,10 @@ use Rattle.missing_round.specs.Words.{word}
 use Rattle.group_plan.specs.Plans.{PlanView}
 use Rattle.pair_keys.specs.declared.KeyId.{KeyId}
 use Rattle.pair_keys.specs.declared.KeyId.TheVariants.{Own, Pair}
-use Rattle.transcript_log.specs.Tables.{Masks}
+use Rattle.transcript_log.specs.Tables.{Masks, IsMasks}
 use Rattle.ideal_masks.specs.declared.Offset.{Offset}
-use Rattle.ideal_masks.specs.Moves.{same_id, IsKeyOf}
+use Rattle.ideal_masks.specs.Moves.{offset_list, same_id, IsKeyOf}
+use Rattle.ideal_masks.specs.Offsets.{shift}
 use Rattle.ideal_masks.specs.Order.{key_group, key_before}
 use Rattle.twin_worlds.specs.declared.rows.MovedRow.{MovedRow}
 
@@ -55,3 +56,7 @@ pub record AreMoved (plan : PlanView) (m k : Masks) (rows : List MovedRow) : Typ
   pub each : All (IsMoved plan m k) rows
   pub all : (id : KeyId) (r : ℕ) → IsKeyOf plan id → r < plan.rounds → word_of m id r ≢ word_of k id r → list_any (is_row_of id r) rows ≡ true
   pub order : AreInOrder rows
+
+-- for words below 2^64: of whatever offsets this is the list, the rows are exactly the words that these move
+abbrev pub AreMovedBy : PlanView → Masks → List Offset → List MovedRow → Type 0
+AreMovedBy plan m list rows = IsMasks m → (o : Masks) → list ≡ offset_list plan o → AreMoved plan m (shift o m) rows

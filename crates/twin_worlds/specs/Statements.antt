@@ -12,7 +12,26 @@ use Rattle.twin_worlds.specs.declared.answers.TwinError.{TwinError}
 use Rattle.twin_worlds.specs.declared.answers.TwinError.TheVariants as twin
 use Rattle.twin_worlds.specs.declared.answers.PoolTwinError.{PoolTwinError}
 use Rattle.twin_worlds.specs.declared.answers.PoolTwinError.TheVariants as pool_twin
-use Rattle.twin_worlds.specs.Twins.{lines_under, TwinEnds, PooledTwinEnds}
+use Rattle.twin_worlds.specs.Twins.{lines_under, SameWorldEnds, TwinEnds, PooledTwinEnds}
+
+-- the text is that of a transcript of the plan, whose lines the readings x give under the masks m
+pub record IsHonestText (m : Masks) (x : ReadingsView) (text : List ℕ) (t : TranscriptView) : Type 0 where
+  pub sound : IsTranscript t
+  pub text_is : text ≡ transcript_text t
+  pub few : length text < 2 ^ 64
+  pub plan_is : t.plan ≡ x.plan
+  pub lines_are : lines_of t.entries ≡ lines_under x m t
+
+-- this transcript is answered, or memory ran out
+abbrev pub FindsSameWorld : TranscriptView → Result TranscriptView TwinError → Type 0
+FindsSameWorld t (Ok found) = found ≡ t
+FindsSameWorld t (Err twin.Memory) = ⊤
+FindsSameWorld t (Err _) = ⊥
+
+-- where a text is that of a transcript of the first table, this transcript is answered
+abbrev pub HonestHaveSameWorld : Type 0
+HonestHaveSameWorld = (m : Masks) (x : ReadingsView) (text : List ℕ) (t : TranscriptView) (result : Result TranscriptView TwinError) →
+    IsHonestText m x text t → SameWorldEnds m x text result → FindsSameWorld t result
 
 -- the moved words are found, or memory ran out
 abbrev pub FindsTwins : Result (List MovedRow) TwinError → Type 0

@@ -96,6 +96,16 @@ pub record KnowsApart (pool : Pool) (x y : ReadingsView) (g r i : ℕ) : Type 0 
 
 -- ---- the answer
 
+-- a transcript of this text that the readings x give under the masks m; or the first cause in this order; want of memory is free
+abbrev pub SameWorldEnds : Masks → ReadingsView → List ℕ → Result TranscriptView TwinError → Type 0
+SameWorldEnds m x text (Ok t) = IsRecord m x text t
+SameWorldEnds m x text (Err (twin.Transcript refusal)) = (refusal ≢ fault.Memory) × (read_of Two text ≡ Err refusal)
+SameWorldEnds m x text (Err twin.Head) = (t : TranscriptView) × IsTextOf t text × (t.plan ≢ x.plan)
+SameWorldEnds m x text (Err (twin.NotThis line expected found tick fate)) =
+    (t : TranscriptView) × IsTextOf t text × (t.plan ≡ x.plan) × ((k : ℕ) × (line ≡ entry_line t.plan k) × IsFirstOther m x t k expected found tick fate)
+SameWorldEnds m x text (Err (twin.Differ cause)) = ⊥
+SameWorldEnds m x text (Err twin.Memory) = ⊤
+
 -- the moved words; or the first cause in this order; want of memory is free
 abbrev pub TwinEnds : Masks → ReadingsView → ReadingsView → List ℕ → Result (List MovedRow) TwinError → Type 0
 TwinEnds m x y text (Ok rows) = (t : TranscriptView) × IsRecord m x text t × AreTwins m x y t rows

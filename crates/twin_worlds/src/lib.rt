@@ -12,8 +12,9 @@ mod world;
 mod writing;
 
 pub use answers::{PoolTwinError, TwinError};
+pub use moving::moved_rows;
 pub use rows::{MovedRow, MovedWords};
-pub use twins::{pooled_twin, transcript_of_plan, twin};
+pub use twins::{pooled_twin, same_world, transcript_of_plan, twin};
 pub use writing::moved_text;
 
 pub mod laws;

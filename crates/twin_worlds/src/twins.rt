@@ -4,17 +4,17 @@ ghost use Rattle.std.specs.Prelude.{◌≡◌};
 ghost use Rattle.pair_keys.specs.Keys.{table_of};
 ghost use Rattle.mask_stream.specs.KeyStreams.{streams};
 ghost use Rattle.ideal_masks.specs.Pools.{pool_of};
-ghost use Rattle.twin_worlds.specs.Ends.{TextEnds, HeadEnds, ConfirmedEnds, AgreementEnds, PooledAgreementEnds};
-ghost use Rattle.twin_worlds.specs.Twins.{TwinEnds, PooledTwinEnds};
+ghost use Rattle.twin_worlds.specs.Ends.{TextEnds, HeadEnds, LinesEnd, AgreementEnds, PooledAgreementEnds};
+ghost use Rattle.twin_worlds.specs.Twins.{SameWorldEnds, TwinEnds, PooledTwinEnds};
 
 use crate::comparing::confirm;
 use crate::heads::is_same_plan;
-use crate::moving::moved_words;
+use crate::moving::moved_rows;
 use crate::world::World;
 use crate::{MovedWords, PoolTwinError, TwinError};
 use group_plan::{Plan, Readings};
 use ideal_masks::{Differ, MaskTable, Offsets, PoolDiffer, offsets, pooled_offsets};
-use mask_stream::ChaMasks;
+use mask_stream::{ChaMasks, Masks};
 use missing_round::MeterSet;
 use pair_keys::KeyTable;
 use std::alloc::Global;
@@ -92,24 +92,41 @@ fn agreed_pooled_offsets(
     }
 }
 
-// The words of the keys, where the first table gives the lines of a transcript under them.
-fn confirmed_masks(
+// Whether the lines of a transcript are those that the first table gives under these masks, or else the first that isn't.
+fn confirm_under<M: Masks>(
     alloc: Global,
-    keys: &KeyTable,
+    masks: &M,
     first: &Readings,
     transcript: &Transcript,
-) -> Result<MaskTable, TwinError>
-    requires keys { (table_of keys.now).plan ≡ first.now.plan }
+) -> Result<(), TwinError>
+    requires masks { M.plan masks.now ≡ first.now.plan }
     requires transcript { transcript.now.plan ≡ first.now.plan }
-    ensures { ConfirmedEnds (streams (table_of keys.now)) first.now transcript.now result }
+    ensures { LinesEnd (M.table masks.now) first.now transcript.now result }
 {
-    let masks = MaskTable::taken(alloc, first.plan(), &ChaMasks::new(keys))?;
+    let table = MaskTable::taken(alloc, first.plan(), masks)?;
     let world = World {
         readings: first,
-        masks: &masks,
+        masks: &table,
     };
-    confirm(alloc, &world, transcript)?;
-    Ok(masks)
+    confirm(alloc, &world, transcript)
+}
+
+/// The transcript of a text, where it is of this plan and the first table of readings gives it under these masks; else
+/// `Transcript`, `Head`, `NotThis` or `Memory`, the first in this order.
+pub fn same_world<M: Masks>(
+    alloc: Global,
+    plan: &Plan,
+    masks: &M,
+    first: &Readings,
+    text: &[u8],
+) -> Result<Transcript, TwinError>
+    requires masks { M.plan masks.now ≡ plan.now }
+    requires first { first.now.plan ≡ plan.now }
+    ensures { SameWorldEnds (M.table masks.now) first.now text.now result }
+{
+    let transcript = transcript_of_plan(alloc, plan, text)?;
+    confirm_under(alloc, masks, first, &transcript)?;
+    Ok(transcript)
 }
 
 /// The mask words that move so that the second table of readings gives the transcript of this text, where the first table
@@ -127,10 +144,11 @@ pub fn twin(
     requires second { second.now.plan ≡ plan.now }
     ensures { TwinEnds (streams (table_of keys.now)) first.now second.now text.now result }
 {
-    let transcript = transcript_of_plan(alloc, plan, text)?;
-    let masks = confirmed_masks(alloc, keys, first, &transcript)?;
+    let _groups = first.plan().groups();
+    let masks = ChaMasks::new(keys);
+    let transcript = same_world(alloc, plan, &masks, first, text)?;
     let offsets = agreed_offsets(alloc, first, second, &transcript)?;
-    Ok(moved_words(alloc, &masks, &offsets)?)
+    Ok(moved_rows(alloc, &masks, &offsets)?)
 }
 
 /// The mask words that move so that the second table of readings gives the transcript of this text, and a pool of meters the
@@ -150,8 +168,9 @@ pub fn pooled_twin(
     requires second { second.now.plan ≡ plan.now }
     ensures { PooledTwinEnds (pool_of known.now) (streams (table_of keys.now)) first.now second.now text.now result }
 {
-    let transcript = transcript_of_plan(alloc, plan, text)?;
-    let masks = confirmed_masks(alloc, keys, first, &transcript)?;
+    let _groups = first.plan().groups();
+    let masks = ChaMasks::new(keys);
+    let transcript = same_world(alloc, plan, &masks, first, text)?;
     let offsets = agreed_pooled_offsets(alloc, known, first, second, &transcript)?;
-    Ok(moved_words(alloc, &masks, &offsets)?)
+    Ok(moved_rows(alloc, &masks, &offsets)?)
 }

@@ -2,22 +2,23 @@ use Rattle.std.proofs.Common.{rules, ◌≡◌, ◌∙◌, sym, subst}
 use Rattle.std.specs.Prelude.{Err}
 use Rattle.pair_keys.specs.Keys.{table_of}
 use Rattle.mask_stream.specs.KeyStreams.{streams}
+use Rattle.ideal_masks.specs.Order.{AreOfPlan}
 use Rattle.ideal_masks.specs.Pools.{nobody}
 use Rattle.twin_worlds.specs.declared.answers.TwinError.{TwinError}
-use Rattle.twin_worlds.specs.Twins.{IsRecord, TwinEnds}
-use Rattle.twin_worlds.proofs.TwinLemmas.{lines-refused, tables-refused, twins-are, streams_small}
+use Rattle.twin_worlds.specs.MovedRows.{rows_of}
+use Rattle.twin_worlds.specs.Twins.{IsRecord, SameWorldEnds, TwinEnds}
+use Rattle.twin_worlds.proofs.TwinLemmas.{world-refused, tables-refused, twins-are, streams_small}
 use Rattle.twin_worlds.proofs.twins.twin.Goals as goal
 
-pub returns-in_err-masks : goal.returns-in_err-masks
-returns-in_err-masks c =
+pub returns-in_err-transcript : goal.returns-in_err-transcript
+returns-in_err-transcript c =
     let x = c.args.first.now in
     let y = c.args.second.now in
     let m = streams (table_of c.args.keys.now) in
     let text = c.args.text.now in
-    let e : TwinError = c.in_err-masks.field-0.0 in
-    let answered : Err e ≡ c.from_residual-in_err-masks.result = search (rules, c.from_residual-in_err-masks.ensures) in
-    subst (TwinEnds m x y text) answered
-    (lines-refused m x y text c.in_ok-transcript.transcript e c.in_ok-transcript.ensures.0 (c.in_ok-transcript.ensures.1 ∙ sym c.requires.first) c.in_err-masks.ensures)
+    let e : TwinError = c.in_err-transcript.field-0.0 in
+    let answered : Err e ≡ c.from_residual.result = search (rules, c.from_residual.ensures) in
+    subst (TwinEnds m x y text) answered (world-refused m x y text e (subst (λ k. SameWorldEnds k x text (Err e)) c.new-masks.ensures.words c.in_err-transcript.ensures))
 
 pub returns-in_err-offsets : goal.returns-in_err-offsets
 returns-in_err-offsets c =
@@ -28,8 +29,12 @@ returns-in_err-offsets c =
     let t = c.in_ok-transcript.transcript in
     let e : TwinError = c.in_err-offsets.field-0.0 in
     let answered : Err e ≡ c.from_residual-in_err-offsets.result = search (rules, c.from_residual-in_err-offsets.ensures) in
-    let is : IsRecord m x text t = record { text_of = c.in_ok-transcript.ensures.0; plan_is = c.in_ok-transcript.ensures.1 ∙ sym c.requires.first; lines_are = c.in_ok-masks.ensures.3 } in
+    let is : IsRecord m x text t = subst (λ k. IsRecord k x text t) c.new-masks.ensures.words c.in_ok-transcript.ensures in
     subst (TwinEnds m x y text) answered (tables-refused m x y text t e is c.in_err-offsets.ensures)
+
+pub moved_rows-requires-clause-places : goal.moved_rows-requires-clause-places
+moved_rows-requires-clause-places c =
+    subst (λ p. AreOfPlan p c.in_ok-offsets.offsets) (c.requires.first ∙ sym (c.new-masks.ensures.plan ∙ c.requires.keys)) c.in_ok-offsets.ensures.2
 
 pub returns : goal.returns
 returns c =
@@ -38,6 +43,6 @@ returns c =
     let m = streams (table_of c.args.keys.now) in
     let text = c.args.text.now in
     let t = c.in_ok-transcript.transcript in
-    let is : IsRecord m x text t = record { text_of = c.in_ok-transcript.ensures.0; plan_is = c.in_ok-transcript.ensures.1 ∙ sym c.requires.first; lines_are = c.in_ok-masks.ensures.3 } in
-    twins-are nobody m x y text c.in_ok-masks.masks.words t c.in_ok-offsets.offsets c.in_ok-moved_words.field-0 (streams_small (table_of c.args.keys.now)) c.in_ok-masks.ensures.2 (c.requires.second ∙ sym c.requires.first)
-    c.in_ok-masks.ensures.1 is c.in_ok-offsets.ensures c.in_ok-moved_words.ensures
+    let is : IsRecord m x text t = subst (λ k. IsRecord k x text t) c.new-masks.ensures.words c.in_ok-transcript.ensures in
+    twins-are nobody m x y text t c.in_ok-offsets.offsets c.in_ok-moved_rows.field-0 (streams_small (table_of c.args.keys.now)) c.plan.ensures.table (c.requires.second ∙ sym c.requires.first)
+    is c.in_ok-offsets.ensures (subst (λ k. c.in_ok-moved_rows.field-0 ≡ rows_of k c.in_ok-offsets.offsets) c.new-masks.ensures.words c.in_ok-moved_rows.ensures.rows)
