@@ -1,10 +1,10 @@
 -- The words of all readings of a plan, block by block.
-use Rattle.std.proofs.Common.{◌≡◌, ℕ, zero, suc, ◌+◌, ◌-◌, ◌*◌, ◌/◌, ◌%◌, ◌<◌, ◌≤◌, List, [], ◌∷◌, ◌++◌, length, map, get_or, sym, ◌∙◌, subst, zero-add, arith, Vec, IfOk, Result, Ok, Option, None}
+use Rattle.std.proofs.Common.{◌≡◌, ℕ, zero, suc, ◌+◌, ◌*◌, ◌/◌, ◌%◌, ◌<◌, List, [], ◌∷◌, ◌++◌, length, map, get_or, sym, ◌∙◌, subst, zero-add, arith, Vec, IfOk, Result, Ok, Option, None}
 use Rattle.std.specs.declared.alloc.Global.{Global}
 use Rattle.std.specs.declared.alloc.AllocError.{AllocError}
 use Rattle.std.specs.List.{AllZip, range_with_len}
 use Rattle.std.proofs.Math.Nat.{mul_comm}
-use Rattle.std.proofs.lemmas.Nat.{mul-le, mul-add-lt, div-mul-add, mod-mul-add}
+use Rattle.std.proofs.lemmas.Nat.{mul-add-lt, div-mul-add, mod-mul-add}
 use Rattle.std.proofs.lemmas.List.{length-map}
 use Rattle.missing_round.specs.Masks.{Masks}
 use Rattle.group_plan.specs.Plans.{size, members}
@@ -14,8 +14,8 @@ use Rattle.blind_core.specs.Columns.{column}
 use Rattle.blind_core.proofs.ColumnLemmas.{length-column, column-at}
 use Rattle.plan_meters.specs.TickFrames.{IsRow}
 use Rattle.plan_meters.specs.declared.hidden.HiddenReadings.{HiddenReadings}
-use Rattle.plan_meters.specs.Hidden.{Hide, HideRounds, HideBlock, AreColumns, AreHidden, AreRest, HasRow, blocks_in, rounds_from, block_of, words_in}
-use Rattle.plan_meters.proofs.RangeLemmas.{range_at, range_long, range_push, range_join}
+use Rattle.plan_meters.specs.Hidden.{Hide, HideRounds, HideBlock, AreColumns, AreHidden, HasRow, blocks_in, rounds_from, block_of, words_in}
+use Rattle.plan_meters.proofs.RangeLemmas.{range_at, range_long, range_push}
 
 -- what each result that is there has, they all have where all are there
 pub all-there : {Y : Type 0} (R : ℕ → Y → Type 0) (ks : List ℕ) (ys : List Y) → AllZip (λ k (y : Result Y AllocError). IfOk y (R k)) ks (map Ok ys) → AllZip R ks ys
@@ -112,21 +112,19 @@ row-of readings m g r n rows k hide below =
     let inside : k < length (map items rows) = omega (arith, below, long, length-map rows items) in
     (omega (arith, below, long), (range_at (Hide readings m g) r n (map items rows) (of-items items (Hide readings m g) (range_with_len r n) rows hide.each) k [] inside).1)
 
--- the block of a group in a round that has words
-block-there : (readings : ReadingsView) (m : Masks) (h : HiddenReadings) (g r : ℕ) → AreHidden readings m h → g < length readings.plan.groups → r < h.rounds
+-- the block of a group in a round
+block-there : (readings : ReadingsView) (m : Masks) (h : HiddenReadings) (g r : ℕ) → AreHidden readings m h → g < length readings.plan.groups → r < readings.plan.rounds
     → (r / 8 * h.groups + g < length h.blocks.items) × HideRounds readings m g (r / 8 * 8) (rounds_from readings.plan.rounds (r / 8 * 8)) (block_of h g r)
 block-there readings m h g r are group round =
     let n = length readings.plan.groups in
     let rounds = readings.plan.rounds in
-    let places = blocks_in h.rounds * n in
+    let places = blocks_in rounds * n in
     let items : Vec (Vec ℕ Global) Global → List (Vec ℕ Global) = λ block. block.items in
-    let whole : places - 0 ≡ places = omega arith in
-    let all : AllZip (λ k (block : Vec (Vec ℕ Global) Global). HideBlock readings m k block.items) (range_with_len 0 places) h.blocks.items =
-    subst (λ j. AllZip (λ k (block : Vec (Vec ℕ Global) Global). HideBlock readings m k block.items) (range_with_len 0 j) h.blocks.items) whole are.blocks.each in
+    let all = are.blocks.each in
     let long : length h.blocks.items ≡ places = range_long (λ k (block : Vec (Vec ℕ Global) Global). HideBlock readings m k block.items) 0 places h.blocks.items all in
     let blocks : AllZip (HideBlock readings m) (range_with_len 0 places) (map items h.blocks.items) = of-items items (HideBlock readings m) (range_with_len 0 places) h.blocks.items all in
     let place = r / 8 * n + g in
-    let inside : place < places = place-below n (blocks_in h.rounds) g (r / 8) group (block-below h.rounds r round) in
+    let inside : place < places = place-below n (blocks_in rounds) g (r / 8) group (block-below rounds r round) in
     let below : place < length (map items h.blocks.items) = subst (λ k. place < k) (sym (length-map h.blocks.items items ∙ long)) inside in
     let rows : List (Vec ℕ Global) = get_or (map items h.blocks.items) place [] in
     let at : HideBlock readings m place rows =
@@ -140,45 +138,15 @@ block-there readings m h g r are group round =
     )
 
 -- its row of the round
-row-there : (readings : ReadingsView) (m : Masks) (h : HiddenReadings) (g r : ℕ) → AreHidden readings m h → g < length readings.plan.groups → r < h.rounds
+row-there : (readings : ReadingsView) (m : Masks) (h : HiddenReadings) (g r : ℕ) → AreHidden readings m h → g < length readings.plan.groups → r < readings.plan.rounds
     → (r % 8 < length (block_of h g r)) × Hide readings m g (r / 8 * 8 + r % 8) (words_in h g r)
 row-there readings m h g r are group round =
-    let within = are.rounds in
-    let below : r < readings.plan.rounds = omega (arith, round, within) in
-    row-of readings m g (r / 8 * 8) (rounds_from readings.plan.rounds (r / 8 * 8)) (block_of h g r) (r % 8) (block-there readings m h g r are group round).1 (round-below readings.plan.rounds r below)
+    row-of readings m g (r / 8 * 8) (rounds_from readings.plan.rounds (r / 8 * 8)) (block_of h g r) (r % 8) (block-there readings m h g r are group round).1 (round-below readings.plan.rounds r round)
 
--- each group has words in the rounds that have words
-pub has-row : (readings : ReadingsView) (m : Masks) (h : HiddenReadings) (g r : ℕ) → AreHidden readings m h → g < length readings.plan.groups → r < h.rounds → HasRow h g r
+-- each group has words in each round
+pub has-row : (readings : ReadingsView) (m : Masks) (h : HiddenReadings) (g r : ℕ) → AreHidden readings m h → g < length readings.plan.groups → r < readings.plan.rounds → HasRow h g r
 has-row readings m h g r are group round = record { block = (block-there readings m h g r are group round).0; row = (row-there readings m h g r are group round).0 }
 
 -- and they hide its readings
-pub words-hide : (readings : ReadingsView) (m : Masks) (h : HiddenReadings) (g r : ℕ) → AreHidden readings m h → g < length readings.plan.groups → r < h.rounds → Hide readings m g r (words_in h g r)
+pub words-hide : (readings : ReadingsView) (m : Masks) (h : HiddenReadings) (g r : ℕ) → AreHidden readings m h → g < length readings.plan.groups → r < readings.plan.rounds → Hide readings m g r (words_in h g r)
 words-hide readings m h g r are group round = subst (λ k. Hide readings m g k (words_in h g r)) (round-is r) (row-there readings m h g r are group round).1
-
--- ---- more rounds
-
--- more rounds have no fewer places
-places-up : (n a b : ℕ) → a ≤ b → blocks_in a * n ≤ blocks_in b * n
-places-up n a b le = mul-le (blocks_in a) n (blocks_in b) n (omega (arith, le)) (omega arith)
-
--- the blocks of the rest are put behind those of the first rounds
-pub with-rest : (readings : ReadingsView) (m : Masks) (h all : HiddenReadings) (rest : List (Vec (Vec ℕ Global) Global)) → AreHidden readings m h → AreRest readings m h rest
-    → all.groups ≡ h.groups → all.rounds ≡ readings.plan.rounds → all.blocks.items ≡ h.blocks.items ++ rest → AreHidden readings m all
-with-rest readings m h all rest are more groups rounds blocks =
-    let H : ℕ → Vec (Vec ℕ Global) Global → Type 0 = λ k block. HideBlock readings m k block.items in
-    let n = length readings.plan.groups in
-    let a = blocks_in h.rounds * n in
-    let b = blocks_in readings.plan.rounds * n in
-    let first_end : 0 + (a - 0) ≡ a = omega arith in
-    let up : a ≤ b = places-up n h.rounds readings.plan.rounds are.rounds in
-    let whole : a - 0 + (b - a) ≡ b - 0 = omega (arith, up) in
-    let both : AllZip H (range_with_len 0 (a - 0 + (b - a))) (h.blocks.items ++ rest) =
-    range_join H 0 (a - 0) (b - a) h.blocks.items rest are.blocks.each (subst (λ k. AllZip H (range_with_len k (b - a)) rest) (sym first_end) more.each) in
-    record {
-      groups = groups ∙ are.groups;
-      rounds = omega (arith, rounds);
-      blocks = record {
-        each = subst (λ k. AllZip H (range_with_len 0 (blocks_in k * n - 0)) all.blocks.items) (sym rounds)
-            (subst (λ l. AllZip H (range_with_len 0 (b - 0)) l) (sym blocks) (subst (λ k. AllZip H (range_with_len 0 k) (h.blocks.items ++ rest)) whole both));
-      };
-    }

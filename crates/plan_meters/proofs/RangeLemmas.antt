@@ -57,19 +57,6 @@ range_push R a n ys y all here = let more : suc n ≡ n + 1 = omega arith in sub
     pushed R a (suc n) [] y all here = absurd all
     pushed R a (suc n) (x ∷ ys) y all here = let at : a + suc n ≡ a + 1 + n = omega arith in (all.0, pushed R (a + 1) n ys y all.1 (subst (λ j. R j y) at here))
 
--- a range and the one behind it
-pub range_join : {Y : Type 0} (R : ℕ → Y → Type 0) (a n k : ℕ) (xs ys : List Y) → AllZip R (range_with_len a n) xs → AllZip R (range_with_len (a + n) k) ys → AllZip R (range_with_len a (n + k)) (xs ++ ys)
-range_join R a zero k [] ys first rest =
-    let at : a + 0 ≡ a = omega arith in
-    subst (λ j. AllZip R (range_with_len a j) ys) (sym (zero-add k)) (subst (λ j. AllZip R (range_with_len j k) ys) at rest)
-range_join R a zero k (x ∷ xs) ys first rest = absurd first
-range_join R a (suc n) k [] ys first rest = absurd first
-range_join R a (suc n) k (x ∷ xs) ys first rest =
-    let at : a + suc n ≡ a + 1 + n = omega arith in
-    let more : suc n + k ≡ suc (n + k) = omega arith in
-    subst (λ j. AllZip R (range_with_len a j) (x ∷ (xs ++ ys))) (sym more)
-    (first.0, range_join R (a + 1) n k xs ys first.1 (subst (λ j. AllZip R (range_with_len j k) ys) at rest))
-
 -- ---- a loop over the items
 
 -- what is t at first is t + 1 once the loop has passed, which has come to k

@@ -1,5 +1,5 @@
 -- The words of all readings of a plan.
-use Rattle.std.specs.Prelude.{◌≡◌, ℕ, ◌+◌, ◌-◌, ◌*◌, ◌/◌, ◌%◌, ◌<◌, ◌≤◌, min, List, [], length, map, slice_index_or, Option, Vec}
+use Rattle.std.specs.Prelude.{◌≡◌, ℕ, ◌+◌, ◌-◌, ◌*◌, ◌/◌, ◌%◌, ◌<◌, min, List, [], length, map, slice_index_or, Option, Vec}
 use Rattle.std.specs.declared.alloc.Global.{Global}
 use Rattle.std.specs.List.{AllZip, range_with_len}
 use Rattle.missing_round.specs.Masks.{Masks}
@@ -57,25 +57,17 @@ pub record HasRow (h : HiddenReadings) (g r : ℕ) : Type 0 where
   pub block : r / 8 * h.groups + g < length h.blocks.items
   pub row : r % 8 < length (block_of h g r)
 
--- these blocks hide the readings of all places from one up to another
-pub record AreBlocks (readings : ReadingsView) (m : Masks) (from to : ℕ) (blocks : List (Vec (Vec ℕ Global) Global)) : Type 0 where
-  pub each : AllZip (λ k (block : Vec (Vec ℕ Global) Global). HideBlock readings m k block.items) (range_with_len from (to - from)) blocks
+-- these blocks, one after another, hide the readings of all places
+pub record AreBlocks (readings : ReadingsView) (m : Masks) (blocks : List (Vec (Vec ℕ Global) Global)) : Type 0 where
+  pub each : AllZip (λ k (block : Vec (Vec ℕ Global) Global). HideBlock readings m k block.items)
+      (range_with_len 0 (blocks_in readings.plan.rounds * length readings.plan.groups)) blocks
 
--- the first rounds have words, so many rounds as it says, and they hide the readings of all groups
+-- these words hide the readings of all groups in all rounds
 pub record AreHidden (readings : ReadingsView) (m : Masks) (h : HiddenReadings) : Type 0 where
   pub groups : h.groups ≡ length readings.plan.groups
-  pub rounds : h.rounds ≤ readings.plan.rounds
-  pub blocks : AreBlocks readings m 0 (blocks_in h.rounds * length readings.plan.groups) h.blocks.items
-
--- these blocks hide the readings of the rounds that have no words yet
-abbrev pub AreRest : ReadingsView → Masks → HiddenReadings → List (Vec (Vec ℕ Global) Global) → Type 0
-AreRest readings m h blocks = AreBlocks readings m (blocks_in h.rounds * length readings.plan.groups) (blocks_in readings.plan.rounds * length readings.plan.groups) blocks
+  pub blocks : AreBlocks readings m h.blocks.items
 
 -- what the meters have is of one plan: the masks, and the readings hidden under them
 pub record IsOfOnePlan {M : Type 0} (plan_of : M → PlanView) (words_of : M → Masks) (known : Known M) : Type 0 where
   pub masks : plan_of known.masks.now ≡ known.readings.now.plan
-  pub hidden : AreHidden known.readings.now (words_of known.masks.now) known.hidden.now
-
--- where the tick is one of the plan's rounds, that round has words
-abbrev pub HasWordsAt : {M : Type 0} → Known M → ℕ → Type 0
-HasWordsAt known tick = tick < known.readings.now.plan.rounds → tick < known.hidden.now.rounds
+  pub hidden : AreHidden known.readings.now (words_of known.masks.now) known.hidden

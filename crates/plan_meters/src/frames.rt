@@ -12,7 +12,7 @@ ghost use Rattle.run_rows.specs.Ticks.{tag_of};
 ghost use Rattle.plan_meters.specs.Came.{same_tag};
 ghost use Rattle.blind_core.specs.Blind.{are_places};
 ghost use Rattle.plan_meters.specs.TickFrames.{reading_frame, answer_to, announced_set, CanAnswer, word_frame};
-ghost use Rattle.plan_meters.specs.Hidden.{IsOfOnePlan, HasWordsAt};
+ghost use Rattle.plan_meters.specs.Hidden.{IsOfOnePlan};
 
 use crate::group::Hearers;
 use crate::known::Known;
@@ -158,7 +158,6 @@ pub(crate) fn add_readings<M: Masks>(
     frames: &mut Vec<Frame>,
 ) -> Result<(), AllocError>
     requires known { IsOfOnePlan M.plan M.table known.now }
-    requires words { HasWordsAt known.now round }
     requires group { group < length known.now.readings.now.plan.groups }
     requires round { round < known.now.readings.now.plan.rounds }
     requires members { members.now ≡ members_of known.now.readings.now.plan.groups group round }

@@ -7,7 +7,7 @@ ghost use Rattle.plan_meters.specs.Came.{tags_of};
 ghost use Rattle.plan_meters.specs.TickFrames.{was_taken, announced_set, answers_to, CanAnswer, AreAnswerable, is_announcement_in};
 ghost use Rattle.plan_meters.specs.Sent.{readings_at, answers_at};
 ghost use Rattle.plan_meters.specs.Hearers.{HearsToo, AreHearers};
-ghost use Rattle.plan_meters.specs.Hidden.{IsOfOnePlan, HasWordsAt};
+ghost use Rattle.plan_meters.specs.Hidden.{IsOfOnePlan};
 ghost use Rattle.meter_frames.specs.declared.Frame.{Frame};
 
 use crate::frames::{add_answers, add_readings};
@@ -98,7 +98,6 @@ pub fn add_reading_frames<M: Masks>(
     frames: &mut Vec<Frame>,
 ) -> Result<(), AllocError>
     requires known { IsOfOnePlan M.plan M.table known.now }
-    requires words { HasWordsAt known.now tick }
     requires group { group < length known.now.readings.now.plan.groups }
     ensures { OnOk result (frames.new.items ≡ frames.old.items ++ readings_at known.now.readings.now (M.table known.now.masks.now) tick group) }
 {

@@ -1,12 +1,11 @@
-//! The words of all readings of a plan: those of the first rounds are made before the first tick, the others beside it and later ones.
+//! The words of all readings of a plan.
 
 ghost use Rattle.std.specs.Prelude.{◌≡◌, ℕ, ◌+◌, ◌*◌, ◌/◌, ◌<◌, ◌≤◌, ◌^◌, IsTrue, None, length, slice_index_or, IfOk};
 ghost use Rattle.group_plan.specs.Plans.{is_place, members};
-ghost use Rattle.group_plan.specs.Tables.{reading, ReadingsView};
+ghost use Rattle.group_plan.specs.Tables.{reading};
 ghost use Rattle.blind_core.specs.Columns.{column};
 ghost use Rattle.plan_meters.specs.TickFrames.{IsRow};
-ghost use Rattle.missing_round.specs.Masks.{Masks as MaskTable};
-ghost use Rattle.plan_meters.specs.Hidden.{Hide, HideRounds, HideBlock, CanHide, AreColumns, AreBlocks, AreRest, AreHidden, HasRow, words_in, blocks_in};
+ghost use Rattle.plan_meters.specs.Hidden.{Hide, HideRounds, HideBlock, CanHide, AreColumns, AreBlocks, AreHidden, HasRow, words_in, blocks_in};
 
 use crate::pieces::items_a_piece;
 use blind_core::{masked_group, masked_rounds};
@@ -25,8 +24,6 @@ use transcript_log::members;
 pub struct HiddenReadings {
     /// How many groups the plan has.
     pub groups: usize,
-    /// How many rounds have words, from the first on.
-    pub rounds: u32,
     /// The blocks, each round by round and each round by meter.
     pub blocks: Vec<Vec<Vec<Word>>>,
 }
@@ -230,43 +227,26 @@ fn words_a_block(groups: &[GroupPlan]) -> usize {
     words.saturating_mul(8)
 }
 
-// One in so many rounds, the first ones, has its words before the first tick: the words of the others are made while the ticks of
-// these rounds go on.
-const ROUNDS_FOR_ONE_FIRST: u32 = 4;
-
-/// How many rounds have their words before the first tick: whole blocks of eight, or all rounds.
-fn first_rounds(plan: &Plan) -> u32
-    ensures { result ≤ plan.now.rounds }
+/// How many places the blocks of a plan take.
+fn places_in(plan: &Plan) -> usize
+    ensures { result ≡ blocks_in plan.now.rounds * length plan.now.groups }
 {
-    let rounds = plan.rounds();
-    let blocks = (rounds + ROUNDS_FOR_ONE_FIRST * 8 - 1) / (ROUNDS_FOR_ONE_FIRST * 8);
-    (blocks * 8).min(rounds)
+    (plan.rounds() as usize + 7) / 8 * plan.groups().len()
 }
 
-/// How many places the blocks of so many rounds take, where there are so many groups.
-fn places_of(rounds: u32, groups: usize) -> usize
-    requires rounds { rounds ≤ 4096 }
-    requires groups { groups ≤ 256 }
-    ensures { result ≡ blocks_in rounds * groups }
-{
-    (rounds as usize + 7) / 8 * groups
-}
-
-/// Hides the readings of the blocks from one place up to another, side by side.
-fn blocks_between<R: Threads + Sync, M: Masks + Sync>(
+/// Hides the readings of all blocks, side by side.
+fn all_blocks<R: Threads + Sync, M: Masks + Sync>(
     rt: &R,
     alloc: Global,
     readings: &Readings,
     masks: &M,
-    from: usize,
-    to: usize,
 ) -> Result<Vec<Vec<Vec<Word>>>, AllocError>
-    requires masks { M.plan masks.now ≡ readings.now.plan }
-    requires places { to ≤ blocks_in readings.now.plan.rounds * length readings.now.plan.groups }
-    ensures { IfOk result (λ blocks. AreBlocks readings.now (M.table masks.now) from to blocks.items) }
+    requires { M.plan masks.now ≡ readings.now.plan }
+    ensures { IfOk result (λ blocks. AreBlocks readings.now (M.table masks.now) blocks.items) }
 {
-    let groups = readings.plan().groups();
-    (from..to)
+    let plan = readings.plan();
+    let groups = plan.groups();
+    (0..places_in(plan))
         .into_par_iter()
         .with_min_len(items_a_piece(words_a_block(groups), groups.len()))
         .map(
@@ -279,8 +259,8 @@ fn blocks_between<R: Threads + Sync, M: Masks + Sync>(
 }
 
 impl HiddenReadings {
-    /// Hides the readings of the first rounds of a plan.
-    pub fn first<R: Threads + Sync, M: Masks + Sync>(
+    /// Hides the readings of a plan.
+    pub fn new<R: Threads + Sync, M: Masks + Sync>(
         rt: &R,
         alloc: Global,
         readings: &Readings,
@@ -289,55 +269,9 @@ impl HiddenReadings {
         requires masks { M.plan masks.now ≡ readings.now.plan }
         ensures { IfOk result (AreHidden readings.now (M.table masks.now)) }
     {
-        let groups = readings.plan().groups().len();
-        let rounds = first_rounds(readings.plan());
-        let places = places_of(rounds, groups);
         Ok(HiddenReadings {
-            groups,
-            rounds,
-            blocks: blocks_between(rt, alloc, readings, masks, 0, places)?,
-        })
-    }
-
-    /// Hides the readings of the rounds that have no words yet.
-    pub fn rest<R: Threads + Sync, M: Masks + Sync>(
-        &self,
-        rt: &R,
-        alloc: Global,
-        readings: &Readings,
-        masks: &M,
-    ) -> Result<Vec<Vec<Vec<Word>>>, AllocError>
-        requires masks { M.plan masks.now ≡ readings.now.plan }
-        requires hidden { AreHidden readings.now (M.table masks.now) self.now }
-        ensures { IfOk result (λ rest. AreRest readings.now (M.table masks.now) self.now rest.items) }
-    {
-        let groups = readings.plan().groups().len();
-        let from = places_of(self.rounds, groups);
-        let to = places_of(readings.plan().rounds(), groups);
-        blocks_between(rt, alloc, readings, masks, from, to)
-    }
-
-    /// The words of all rounds of a plan, once those of the rest are made.
-    pub fn with_rest(
-        self,
-        plan: &Plan,
-        rest: Vec<Vec<Vec<Word>>>,
-    ) -> Result<HiddenReadings, AllocError>
-        ensures hidden { (readings : ReadingsView) (m : MaskTable) → readings.plan ≡ plan.now → AreHidden readings m self → AreRest readings m self rest.items → IfOk result (AreHidden readings m) }
-        ensures rounds { IfOk result (λ all. all.rounds ≡ plan.now.rounds) }
-    {
-        let HiddenReadings {
-            groups,
-            rounds: _,
-            blocks,
-        } = self;
-        let mut blocks = blocks;
-        let mut rest = rest;
-        blocks.append(&mut rest)?;
-        Ok(HiddenReadings {
-            groups,
-            rounds: plan.rounds(),
-            blocks,
+            groups: readings.plan().groups().len(),
+            blocks: all_blocks(rt, alloc, readings, masks)?,
         })
     }
 

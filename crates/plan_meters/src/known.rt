@@ -11,5 +11,5 @@ pub struct Known<'a, M> {
     /// The mask words.
     pub masks: &'a M,
     /// The readings, hidden under these words.
-    pub hidden: &'a HiddenReadings,
+    pub hidden: HiddenReadings,
 }

@@ -54,7 +54,3 @@ kept-start slots lanes posts none same =
 pub kept-fresh : (slots lanes : List Slot) (posts : List Post) (plan : PlanView) (script : TranscriptView) → posts ≡ [] → lanes ≡ slots → script ≡ no_entries plan → KeptFates slots 0 script.entries lanes posts
 kept-fresh slots lanes posts plan script none same fresh =
     subst (λ (d : TranscriptView). KeptFates slots 0 d.entries lanes posts) (sym fresh) (kept-start slots lanes posts none same)
-
--- the same tick by another number
-pub kept-at : (slots : List Slot) (n m : ℕ) (entries : List Entry) (lanes : List Slot) (posts : List Post) → n ≡ m → KeptFates slots n entries lanes posts → KeptFates slots m entries lanes posts
-kept-at slots n m entries lanes posts same kept = subst (λ k. KeptFates slots k entries lanes posts) same kept

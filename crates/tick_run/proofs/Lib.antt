@@ -32,3 +32,4 @@ pub mod WholeEnd
 pub mod FirstLemmas
 pub mod PassLemmas
 pub mod TickLemmas
+pub mod RunLemmas

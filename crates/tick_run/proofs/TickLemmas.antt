@@ -22,9 +22,8 @@ use Rattle.tick_run.specs.declared.running.Running.{Running}
 use Rattle.tick_run.specs.GroupRuns.{GroupTicks, sent_with}
 use Rattle.tick_run.specs.ByGroups.{AllStand, AllTick, AreWhole, Passes, Fated, IsButFates, frames_by, fates_by, taken_by, closed_by, sent_by, whole_then}
 use Rattle.tick_run.specs.Progress.{sending}
-use Rattle.tick_run.specs.Recorded.{Extends}
 use Rattle.tick_run.specs.Sending.{KeepsFates, KeptFates}
-use Rattle.tick_run.specs.Whole.{RunsAt}
+use Rattle.tick_run.specs.Whole.{RunsAt, Extends}
 use Rattle.tick_run.specs.Written.{Fits}
 use Rattle.tick_run.proofs.BatchLemmas.{posts-append, posts-silent, silent-batch}
 use Rattle.tick_run.proofs.ByGroupsLemmas.{all-stand, whole-then}

@@ -6,9 +6,8 @@ pub mod Running
 pub mod Jobs
 pub mod Sending
 pub mod Batches
-pub mod Recorded
-pub mod Stages
 pub mod GroupRuns
 pub mod ByGroups
 pub mod Written
 pub mod Whole
+pub mod Runs

@@ -1,10 +1,12 @@
 -- A run between ticks, as a value.
-use Rattle.std.specs.Prelude.{◌≡◌, ℕ, [], length}
+use Rattle.std.specs.Prelude.{◌≡◌, ℕ, List, [], ◌++◌, length}
 use Rattle.missing_round.specs.Masks.{Masks}
 use Rattle.group_plan.specs.Tables.{ReadingsView, presence_of}
 use Rattle.group_book.specs.Groups.{GroupView}
 use Rattle.plan_meters.specs.Meters.{AreOfGroup}
+use Rattle.transcript_log.specs.declared.Entry.{Entry}
 use Rattle.transcript_log.specs.Events.{lines_of}
+use Rattle.transcript_log.specs.Transcripts.{TranscriptView}
 use Rattle.tick_run.specs.declared.group_tick.GroupWork.{GroupWork}
 use Rattle.tick_run.specs.declared.running.Running.{Running}
 use Rattle.tick_run.specs.ByGroups.{AllStand, AreWhole}
@@ -25,3 +27,8 @@ pub record IsFirst (readings : ReadingsView) (pages : GroupView) (work : GroupWo
   pub link : work.link ≡ []
   pub frames : work.frames.items ≡ []
   pub fates : work.fates.items ≡ []
+
+-- the transcript with some more entries
+pub record Extends (before after : TranscriptView) : Type 0 where
+  pub more : List Entry
+  pub is : after ≡ record before { entries = before.entries ++ more }

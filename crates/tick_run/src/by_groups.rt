@@ -5,9 +5,10 @@ ghost use Rattle.std.specs.List.{AllZip, list_any};
 ghost use Rattle.group_plan.specs.Tables.{presence_of};
 ghost use Rattle.link_lanes.specs.Racks.{slots, posts_of, spare_of, HasRoom};
 ghost use Rattle.transcript_log.specs.declared.Entry.{Entry as EntryView};
-ghost use Rattle.plan_meters.specs.Hidden.{IsOfOnePlan, HasWordsAt};
+ghost use Rattle.plan_meters.specs.Hidden.{IsOfOnePlan};
 ghost use Rattle.tick_run.specs.Progress.{IsDelay};
 ghost use Rattle.tick_run.specs.GroupRuns.{IsGroupAt, CanTick, GroupTicks};
+ghost use Rattle.tick_run.specs.Runs.{IsOfRun};
 ghost use Rattle.tick_run.specs.ByGroups.{AllStand, CanTickAll, AllTick, Passes, frames_by, fates_by, Fated, IsButFates};
 
 use crate::context::Context;
@@ -27,7 +28,6 @@ use std::thread::Threads;
 /// Makes the tick of a group, and notes whether there was no memory for it.
 fn tick_work<M: Masks>(known: &Known<M>, presence: &Presence, work: &mut GroupWork, tick: u32)
     requires known { IsOfOnePlan M.plan M.table known.now }
-    requires words { HasWordsAt known.now tick }
     requires presence { presence.now ≡ presence_of known.now.readings.now }
     requires can { CanTick known.now.readings.now (M.table known.now.masks.now) tick work.old }
     requires tick { tick < 2 ^ 31 }
@@ -66,18 +66,16 @@ pub(crate) fn tick_all<R: Threads + Sync, M: Masks + Sync, G: Gate>(
     works: &mut [GroupWork],
     tick: u32,
 ) -> Result<(), AllocError>
-    requires known { IsOfOnePlan M.plan M.table context.now.known }
-    requires words { HasWordsAt context.now.known tick }
+    requires context { IsOfRun M.plan M.table context.now }
     requires presence { presence.now ≡ presence_of context.now.known.readings.now }
     requires can { CanTickAll context.now.known.readings.now (M.table context.now.known.masks.now) tick works.old }
-    requires threads { 0 < context.now.crew.threads }
     requires tick { tick < 2 ^ 31 }
     ensures { (entries : List EntryView) → AllStand context.now.known.readings.now (M.table context.now.known.masks.now) tick entries works.old →
         OnOk result (AllTick context.now.known.readings.now (M.table context.now.known.masks.now) tick entries works.new) }
 {
     let known = &context.known;
     let gate = context.crew.gate;
-    let threads = context.crew.threads;
+    let threads = context.threads;
     let groups = works.len();
     thread::for_each_mut(
         context.crew.rt,
@@ -85,7 +83,6 @@ pub(crate) fn tick_all<R: Threads + Sync, M: Masks + Sync, G: Gate>(
         threads,
         &|at: usize, work: &mut GroupWork|
             requires known { IsOfOnePlan M.plan M.table known.now }
-            requires words { HasWordsAt known.now tick }
             requires presence { presence.now ≡ presence_of known.now.readings.now }
             requires can { CanTick known.now.readings.now (M.table known.now.masks.now) tick work.now }
             requires tick { tick < 2 ^ 31 }

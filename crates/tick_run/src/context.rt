@@ -1,18 +1,19 @@
-//! What never changes in a run.
+//! Who makes a run, and what never changes in it.
 
 ghost use Rattle.std.specs.Prelude.{◌<◌};
 
+use crate::workers::Workers;
 use collector_workers::Gate;
 use group_plan::Plan;
 use plan_meters::Known;
 use std::alloc::Global;
 
-/// Who makes the ticks of the groups: so many threads, at least 1, each through the gate.
+/// Who makes a run: threads of the handle, so many workers, each through the gate, with memory of the allocator.
 #[derive(Drop)]
-pub(crate) struct Crew<'a, R, G> {
+pub struct Crew<'a, R, G> {
     pub rt: &'a R,
     pub alloc: Global,
-    pub threads: usize,
+    pub workers: Workers,
     pub gate: &'a G,
 }
 
@@ -27,40 +28,21 @@ fn frames_a_tick(plan: &Plan) -> usize {
 
 /// How many threads make the ticks of a plan: one, and another for so many frames a tick as the gate says; no more than the workers
 /// and the groups.
-fn threads_of<G: Gate>(plan: &Plan, workers: u32, gate: &G) -> usize
+pub(crate) fn threads_of<G: Gate>(plan: &Plan, workers: Workers, gate: &G) -> usize
     ensures { 0 < result }
 {
     let worth = frames_a_tick(plan) / gate.beside().max(1);
     let threads = worth
         .saturating_add(1)
-        .min(workers as usize)
+        .min(workers.count as usize)
         .min(plan.groups().len());
     threads.max(1)
 }
 
-impl<'a, R, G: Gate> Crew<'a, R, G> {
-    /// The threads of a run of this plan with so many workers.
-    pub(crate) fn new(
-        rt: &'a R,
-        alloc: Global,
-        plan: &Plan,
-        workers: u32,
-        gate: &'a G,
-    ) -> Crew<'a, R, G>
-        ensures { 0 < result.threads }
-    {
-        Crew {
-            rt,
-            alloc,
-            threads: threads_of(plan, workers, gate),
-            gate,
-        }
-    }
-}
-
-/// Who makes the ticks, and what the meters know.
+/// What never changes in a run: who makes its ticks, in how many threads, and what the meters have.
 #[derive(Drop)]
 pub(crate) struct Context<'a, R, M, G> {
-    pub crew: Crew<'a, R, G>,
+    pub crew: &'a Crew<'a, R, G>,
+    pub threads: usize,
     pub known: Known<'a, M>,
 }

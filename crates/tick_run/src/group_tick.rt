@@ -11,7 +11,7 @@ ghost use Rattle.group_book.specs.Replay.{Replays, CanCall, book_at};
 ghost use Rattle.run_rows.specs.Ticks.{clock_of};
 ghost use Rattle.plan_meters.specs.Came.{frame_in, frames_in, IsSpelling};
 ghost use Rattle.plan_meters.specs.GroupMeters.{AreGroupMeters};
-ghost use Rattle.plan_meters.specs.Hidden.{IsOfOnePlan, HasWordsAt};
+ghost use Rattle.plan_meters.specs.Hidden.{IsOfOnePlan};
 ghost use Rattle.plan_meters.specs.Meters.{announcements, AreTold};
 ghost use Rattle.plan_meters.specs.Sent.{readings_at, answers_at};
 ghost use Rattle.plan_meters.specs.TickFrames.{AreAnswerable};
@@ -222,7 +222,6 @@ fn add_due<M: Masks>(
     frames: &mut Vec<Frame>,
 ) -> Result<(), AllocError>
     requires known { IsOfOnePlan M.plan M.table known.now }
-    requires words { HasWordsAt known.now tick }
     requires can { CanCall pages.now }
     requires rounds { pages.now.rounds ≡ known.now.readings.now.plan.rounds }
     requires group { pages.now.group < length known.now.readings.now.plan.groups }
@@ -299,7 +298,6 @@ pub(crate) fn group_tick<M: Masks>(
     tick: u32,
 ) -> Result<(), AllocError>
     requires known { IsOfOnePlan M.plan M.table known.now }
-    requires words { HasWordsAt known.now tick }
     requires presence { presence.now ≡ presence_of known.now.readings.now }
     requires can { CanTick known.now.readings.now (M.table known.now.masks.now) tick work.old }
     requires tick { tick < 2 ^ 31 }

@@ -1,21 +1,25 @@
 //! The run over ticks.
 #![tactic(auto)]
 
-mod all_ticks;
 mod announcements;
 mod by_groups;
 mod context;
-mod first_ticks;
+mod finished;
+mod first;
 mod group_tick;
 mod journal;
-mod recorder;
+mod plan_run;
 mod run;
 mod running;
 mod tick;
+mod workers;
 
-pub use recorder::{Nobody, Recorder};
-pub use run::{Finished, run_masked, run_plan};
+pub use context::Crew;
+pub use finished::Finished;
+pub use plan_run::{run_masked, run_plan};
+pub use run::Run;
 use std::alloc::AllocError;
+pub use workers::Workers;
 
 /// Why there is no run.
 #[derive(Clone, Copy)]

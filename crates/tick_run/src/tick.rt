@@ -3,11 +3,10 @@
 ghost use Rattle.std.specs.Prelude.{◌≡◌, ◌+◌, ◌<◌, ◌≤◌, ◌^◌, List, length, OnOk};
 ghost use Rattle.link_lanes.specs.Lanes.{Slot};
 ghost use Rattle.link_lanes.specs.Racks.{slots, posts_of, spare_of, HasRoom};
-ghost use Rattle.plan_meters.specs.Hidden.{IsOfOnePlan, HasWordsAt};
 ghost use Rattle.tick_run.specs.ByGroups.{frames_by};
-ghost use Rattle.tick_run.specs.Recorded.{Extends};
+ghost use Rattle.tick_run.specs.Runs.{IsOfRun};
 ghost use Rattle.tick_run.specs.Sending.{KeptFates};
-ghost use Rattle.tick_run.specs.Whole.{RunsAt};
+ghost use Rattle.tick_run.specs.Whole.{RunsAt, Extends};
 
 use crate::by_groups::{count_frames, pass_all, tick_all};
 use crate::context::Context;
@@ -48,10 +47,8 @@ pub(crate) fn run_tick<R: Threads + Sync, M: Masks + Sync, G: Gate>(
     tick: u32,
 ) -> Result<(), AllocError>
     requires runs { RunsAt context.now.known.readings.now (M.table context.now.known.masks.now) tick run.old }
-    requires known { IsOfOnePlan M.plan M.table context.now.known }
-    requires words { HasWordsAt context.now.known tick }
+    requires context { IsOfRun M.plan M.table context.now }
     requires tick { tick < 2 ^ 31 }
-    requires threads { 0 < context.now.crew.threads }
     requires room { HasRoom (λ b. meaning (b.vtable, b.value)) rack.old }
     ensures runs { OnOk result (RunsAt context.now.known.readings.now (M.table context.now.known.masks.now) (tick + 1) run.new) }
     ensures fates { (hung : List Slot) → KeptFates hung tick run.old.transcript.entries (slots (λ b. meaning (b.vtable, b.value)) rack.old) (posts_of rack.old) →

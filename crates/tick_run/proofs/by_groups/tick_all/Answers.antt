@@ -5,25 +5,21 @@ use Rattle.tick_run.proofs.by_groups.tick_all.Goals as goal
 
 pub for_each_mut-requires-clause-accepts : goal.for_each_mut-requires-clause-accepts
 for_each_mut-requires-clause-accepts g c κs within = λ i p lt is.
-    let known = c.args.context.now.known in (
-      c.requires.known,
+    let context = c.args.context.now in (
+      c.requires.context.known,
       (
-        c.requires.words,
+        c.requires.presence,
         (
-          c.requires.presence,
-          (
-            stand-can known.readings.now (g.M.Masks.table known.masks.now) c.args.tick c.requires.can.entries c.args.works.now i p.now is lt c.requires.can.stand,
-            (c.requires.tick, c.requires.threads),
-          ),
+          stand-can context.known.readings.now (g.M.Masks.table context.known.masks.now) c.args.tick c.requires.can.entries c.args.works.now i p.now is lt c.requires.can.stand,
+          (c.requires.tick, c.requires.context.some),
         ),
       ),
     )
 
 pub returns : goal.returns
 returns g c = λ entries stand.
-    let known = c.args.context.now.known in
-    let readings = known.readings.now in
-    let m = g.M.Masks.table known.masks.now in
+    let readings = c.args.context.now.known.readings.now in
+    let m = g.M.Masks.table c.args.context.now.known.masks.now in
     let t = c.args.tick in
     let works = c.args.works.now in
     let after = c.for_each_mut.new.s in
