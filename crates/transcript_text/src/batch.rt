@@ -21,22 +21,20 @@ const ENTRIES_A_PIECE: usize = 512;
 const BYTES_A_PIECE: usize = 72 * 1024;
 
 /// The most pieces that are made side by side, so that they have about 2 MB.
-pub(crate) const PIECES_A_BATCH: usize = 32;
+const PIECES_A_BATCH: usize = 32;
 
 /// As many pieces as are worth a thread.
 const PIECES_A_THREAD: usize = 8;
 
-/// How many pieces are made side by side of the entries from a place on, at most so many.
-fn piece_count(transcript: &Transcript, at: usize, most: usize) -> usize
-    requires within { at < length transcript.now.entries }
-    requires some { 0 < most }
-    requires few { most ≤ 32 }
+/// How many pieces are made side by side of the entries from a place on.
+fn piece_count(transcript: &Transcript, at: usize) -> usize
+    requires { at < length transcript.now.entries }
     ensures some { 0 < result }
     ensures few { result ≤ 32 }
     ensures each { (k : ℕ) → k < result → at + k * 512 < length transcript.now.entries }
 {
     let entries = transcript.len() - at;
-    entries.div_ceil(ENTRIES_A_PIECE).min(most)
+    entries.div_ceil(ENTRIES_A_PIECE).min(PIECES_A_BATCH)
 }
 
 /// The place at which a piece begins, where the first one begins at a place.
@@ -88,21 +86,18 @@ fn pieces_from(
         .collect::<Result<Vec<Vec<u8>>, AllocError>>(rt, alloc)?
 }
 
-/// The lines of the entries from a place on, as many as are made side by side: at most so many pieces.
+/// The lines of the entries from a place on, as many as are made side by side.
 pub(crate) fn next_batch(
     rt: &(impl Threads + Sync),
     alloc: Global,
     transcript: &Transcript,
     at: usize,
-    most: usize,
 ) -> Result<Made, AllocError>
-    requires some { 0 < most }
-    requires few { most ≤ 32 }
     requires lines { All (λ e. IsWritable e.line) transcript.now.entries }
     requires within { at < length transcript.now.entries }
     ensures { IfOk result (AreNextOfBoth transcript.now (Place.Entry at)) }
 {
-    let count = piece_count(transcript, at, most);
+    let count = piece_count(transcript, at);
     let pieces = pieces_from(rt, alloc, transcript, at, count)?;
     Ok(Made {
         pieces: VecDeque::from(pieces),

@@ -8,7 +8,7 @@ ghost use Rattle.transcript_text.specs.Spelling.{transcript_text};
 ghost use Rattle.transcript_text.specs.Writing.{IsWritable, lines_text, begun_text};
 ghost use Rattle.transcript_text.specs.Pieces.{bytes_of, rest_at, to_come, AreFilled, AreNext, AreNextOfBoth};
 
-use crate::batch::{PIECES_A_BATCH, next_batch};
+use crate::batch::next_batch;
 use crate::head_writing::put_head;
 use crate::made::{Made, Place, Until};
 use crate::writing::put_end;
@@ -95,17 +95,6 @@ fn behind_lines(
     }
 }
 
-/// How many pieces are made side by side. A part's are made one by one, since its text is made beside a run that goes on.
-fn pieces_at_once(until: Until) -> usize
-    ensures some { 0 < result }
-    ensures few { result ≤ 32 }
-{
-    match until {
-        Until::LastEntry => 1,
-        Until::EndLine => PIECES_A_BATCH,
-    }
-}
-
 /// The next pieces from a place on.
 fn next_pieces(
     rt: &(impl Threads + Sync),
@@ -119,9 +108,7 @@ fn next_pieces(
 {
     match place {
         Place::Head => head(alloc, transcript),
-        Place::Entry(at) if at < transcript.len() => {
-            next_batch(rt, alloc, transcript, at, pieces_at_once(until))
-        }
+        Place::Entry(at) if at < transcript.len() => next_batch(rt, alloc, transcript, at),
         Place::Entry(at) => behind_lines(alloc, transcript, until, at),
         Place::End => Ok(nothing(alloc)),
     }
