@@ -1,0 +1,12 @@
+pub mod Splits
+pub mod OnCourse
+pub mod WholeLines
+pub mod Ended
+pub mod Runs
+pub mod Swapped
+pub mod Moves
+pub mod Picks
+pub mod LeftLemmas
+pub mod Replayed
+pub mod MadeLemmas
+pub mod ResumedLemmas

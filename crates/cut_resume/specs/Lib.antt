@@ -1,0 +1,7 @@
+pub mod Cut
+pub mod Left
+pub mod Made
+pub mod OnCourse
+pub mod Order
+pub mod Resumed
+pub mod Statements
