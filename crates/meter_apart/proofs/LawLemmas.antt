@@ -1,8 +1,8 @@
 -- The laws of a meter's journal and words.
-use Rattle.std.proofs.Common.{◌≡◌, ℕ, ◌+◌, ◌^◌, Bool, true, false, List, [], ◌∷◌, ◌++◌, refl, sym, ap, ◌∙◌}
+use Rattle.std.proofs.Common.{◌≡◌, ℕ, ◌+◌, ◌^◌, ◌<◌, arith, Bool, true, false, List, [], ◌∷◌, ◌++◌, refl, sym, ap, ◌∙◌}
 use mathlib.Core.Path.{fun_ext}
-use Rattle.std.specs.Prelude.{◌==◌, nat_lt, if◌then◌else◌, bytes_eq, sum_by, Option, Some, None, is_some, Result, Ok, Err}
-use Rattle.std.proofs.lemmas.Bool.{false≢true, eqb-true}
+use Rattle.std.specs.Prelude.{◌==◌, nat_lt, if◌then◌else◌, bytes_eq, sum_by, slice_index_or, Option, Some, None, is_some, Result, Ok, Err}
+use Rattle.std.proofs.lemmas.Bool.{false≢true, eqb-true, eq-eqb, ne_eqb, ltb-true}
 use Rattle.std.proofs.lemmas.Slice.Eq.{bytes_eq-Decides}
 use Rattle.missing_round.specs.Masks.{Masks}
 use Rattle.missing_round.specs.Words.{word, minus, share}
@@ -18,7 +18,8 @@ use Rattle.meter_apart.specs.declared.part.Part.{Part}
 use Rattle.meter_apart.specs.Journal.{marked, kept}
 use Rattle.meter_apart.specs.Parts.{takes_part, is_to_me}
 use Rattle.meter_apart.specs.Replies.{reading_frame, said_after, to_reading, is_first, after_reading, refusal_of, heard_by, heard, said_to, to_frame, is_answer, after_set, after_frame}
-use Rattle.meter_apart.specs.Statements.{OneSetARound, OneReadingARound, HaveSameWords, OwnWordsSuffice}
+use Rattle.meter_apart.specs.Statements.{OneSetARound, OneReadingARound, HaveSameWords, OwnWordsSuffice, OwnKeysSuffice}
+use Rattle.mask_stream.specs.KeyStreams.{word_of}
 use Rattle.meter_apart.proofs.JournalLemmas.{marked-read_same, kept-kept_same}
 
 abbrev succeeds : {A B : Type 0} → Result A B → Bool
@@ -130,9 +131,13 @@ one_reading part m n j more r a b x y first second =
 
 -- ---- words
 
-share_same : (i j : ℕ) (pair pair2 : ℕ → ℕ → ℕ) → pair i j ≡ pair2 i j → pair j i ≡ pair2 j i → share pair i j ≡ share pair2 i j
-share_same i j pair pair2 lower higher =
-    ap (λ x. if nat_lt i j then x else if nat_lt j i then minus (pair j i) else 0) lower ∙ ap (λ x. if nat_lt i j then pair2 i j else if nat_lt j i then minus x else 0) higher
+share_same : (i j : ℕ) (pair pair2 : ℕ → ℕ → ℕ) → (i < j → pair i j ≡ pair2 i j) → (j < i → pair j i ≡ pair2 j i) → share pair i j ≡ share pair2 i j
+share_same i j pair pair2 lower higher = by (nat_lt i j) refl (nat_lt j i) refl
+  where
+    by : (b : Bool) → nat_lt i j ≡ b → (c : Bool) → nat_lt j i ≡ c → (if b then pair i j else if c then minus (pair j i) else 0) ≡ (if b then pair2 i j else if c then minus (pair2 j i) else 0)
+    by true low c is = lower (ltb-true i j low)
+    by false low true high = ap minus (higher (ltb-true j i high))
+    by false low false high = refl
 
 shares_same : (i : ℕ) (own : ℕ → ℕ) (pair : ℕ → ℕ → ℕ) (own2 : ℕ → ℕ) (pair2 : ℕ → ℕ → ℕ) → HaveSameWords i own pair own2 pair2 → (js : List ℕ) → sum_by (share pair i) js ≡ sum_by (share pair2 i) js
 shares_same i own pair own2 pair2 same js = ap (λ f. sum_by f js) (fun_ext (λ j. share_same i j pair pair2 (same.lower j) (same.higher j)))
@@ -142,3 +147,16 @@ own_words i own pair own2 pair2 same members set reading = (
   ap (λ n. word (reading + n + sum_by (share pair i) members)) same.own_is ∙ ap (λ n. word (reading + own2 i + n)) (shares_same i own pair own2 pair2 same members),
   ap (λ n. word (n + sum_by (share pair i) set)) same.own_is ∙ ap (λ n. word (own2 i + n)) (shares_same i own pair own2 pair2 same set),
 )
+
+-- ---- keys
+
+-- a meter's words are those of the plan's keys, where its keys are
+pub own_keys : OwnKeysSuffice
+own_keys keys home g i own pairs has r = record {
+  own_is = ap (λ b. word_of (if b then Some own else None) r) (eq-eqb i i refl) ∙ ap (λ k. word_of k r) has.own_is;
+  lower = λ j lt. ap (λ b. word_of (if b then slice_index_or pairs j None else if j == i then slice_index_or pairs i None else None) r) (eq-eqb i i refl) ∙ ap (λ k. word_of k r) (has.lower j lt);
+  higher = λ j lt.
+      ap (λ b. word_of (if b then slice_index_or pairs i None else if i == i then slice_index_or pairs j None else None) r) (ne_eqb j i (λ same. omega (arith, lt, same)))
+      ∙ ap (λ b. word_of (if b then slice_index_or pairs j None else None) r) (eq-eqb i i refl)
+      ∙ ap (λ k. word_of k r) (has.higher j lt);
+}

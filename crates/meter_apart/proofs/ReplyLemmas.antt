@@ -48,14 +48,14 @@ may_read part found before r x is = by_part (takes_part part r) refl is
     by_part true takes h = by_size (nat_lt x (2 ^ 40)) refl takes h
     by_part false takes h = absurd (false≢true (sym (ap may_be h)))
 
-pub standing_same : (m : MeterApart) (j : List Noted) (r x : ℕ) → IsAfter j m → standing m.part (slice_index_or m.readings.items r None) r x ≡ standing m.part (marked j r) r x
-standing_same m j r x after = by (takes_part m.part r) refl
+pub standing_same : (m : MeterApart) (j : List Noted) (r x : ℕ) → IsAfter j m → standing m.keys.part (slice_index_or m.readings.items r None) r x ≡ standing m.keys.part (marked j r) r x
+standing_same m j r x after = by (takes_part m.keys.part r) refl
   where
     of : Bool → Option ℕ → Result (Option ℕ) ReadingRefusal
     of b found = if b then if nat_lt x (2 ^ 40) then Ok found else Err unread.Range else Err unread.Round
 
-    by : (b : Bool) → takes_part m.part r ≡ b → of (takes_part m.part r) (slice_index_or m.readings.items r None) ≡ of (takes_part m.part r) (marked j r)
-    by true is = ap (of (takes_part m.part r)) (after.readings_are r (takes-round m.part r is))
+    by : (b : Bool) → takes_part m.keys.part r ≡ b → of (takes_part m.keys.part r) (slice_index_or m.readings.items r None) ≡ of (takes_part m.keys.part r) (marked j r)
+    by true is = ap (of (takes_part m.keys.part r)) (after.readings_are r (takes-round m.keys.part r is))
     by false is = ap (λ b. of b (slice_index_or m.readings.items r None)) is ∙ sym (ap (λ b. of b (marked j r)) is)
 
 -- ---- sets
@@ -65,20 +65,20 @@ abbrev over_by : ℕ → ℕ → List ℕ → List ℕ → Option Why
 over_by number floor ms set =
     if not (is_within set ms) then Some OutOfPlan else if is_in number set then Some SelfMissing else if nat_lt (survivors ms set) floor then Some (Thin (survivors ms set)) else None
 
-over_same : (m : MeterApart) (r : ℕ) (set : List ℕ) (found : Option ℕ) → refusal_over m.core set (members_where found (members_in m.part r)) ≡ refusal_by m.part found r set
+over_same : (m : MeterApart) (r : ℕ) (set : List ℕ) (found : Option ℕ) → refusal_over m.core set (members_where found (members_in m.keys.part r)) ≡ refusal_by m.keys.part found r set
 over_same m r set None = refl
 over_same m r set (Some x) =
-    ap (λ n. over_by n m.core.floor (members_in m.part r) set) m.keeps.number ∙ ap (λ n. over_by m.part.meter n (members_in m.part r) set) m.keeps.floor
+    ap (λ n. over_by n m.core.floor (members_in m.keys.part r) set) m.keeps.number ∙ ap (λ n. over_by m.keys.part.meter n (members_in m.keys.part r) set) m.keeps.floor
 
-refusal_same : (m : MeterApart) (j : List Noted) (r : ℕ) (set : List ℕ) → IsAfter j m → refusal m.core r set ≡ refusal_of m.part j r set
+refusal_same : (m : MeterApart) (j : List Noted) (r : ℕ) (set : List ℕ) → IsAfter j m → refusal m.core r set ≡ refusal_of m.keys.part j r set
 refusal_same m j r set after =
-    ap (λ n. if nat_lt r n then refusal_over m.core set (note_at m.core r).members else Some OutOfPlan) m.keeps.notes_long ∙ by (nat_lt r m.part.home.rounds) refl
+    ap (λ n. if nat_lt r n then refusal_over m.core set (note_at m.core r).members else Some OutOfPlan) m.keeps.notes_long ∙ by (nat_lt r m.keys.part.home.rounds) refl
   where
-    by : (b : Bool) → nat_lt r m.part.home.rounds ≡ b
-        → (if b then refusal_over m.core set (note_at m.core r).members else Some OutOfPlan) ≡ (if b then refusal_by m.part (marked j r) r set else Some OutOfPlan)
+    by : (b : Bool) → nat_lt r m.keys.part.home.rounds ≡ b
+        → (if b then refusal_over m.core set (note_at m.core r).members else Some OutOfPlan) ≡ (if b then refusal_by m.keys.part (marked j r) r set else Some OutOfPlan)
     by true is =
-        let low : r < m.part.home.rounds = ltb-true r m.part.home.rounds is in
-        ap (refusal_over m.core set) (m.keeps.members_are r low ∙ ap (λ found. members_where found (members_in m.part r)) (after.readings_are r low)) ∙ over_same m r set (marked j r)
+        let low : r < m.keys.part.home.rounds = ltb-true r m.keys.part.home.rounds is in
+        ap (refusal_over m.core set) (m.keeps.members_are r low ∙ ap (λ found. members_where found (members_in m.keys.part r)) (after.readings_are r low)) ∙ over_same m r set (marked j r)
     by false is = refl
 
 -- what is heard, by the notes
@@ -94,13 +94,13 @@ heard_noted core new r set (Refused SelfMissing) h = sym (ap (λ o. heard_by o (
 heard_noted core new r set (Refused (Thin n)) h = sym (ap (λ o. heard_by o (kept_set core r) set) h.0)
 
 -- and by the journal
-heard_same : (m : MeterApart) (j : List Noted) (r : ℕ) (set : List ℕ) → IsAfter j m → heard_by (refusal m.core r set) (kept_set m.core r) set ≡ heard m.part j r set
-heard_same m j r set after = ap (λ o. heard_by o (kept_set m.core r) set) (refusal_same m j r set after) ∙ by (nat_lt r m.part.home.rounds) refl
+heard_same : (m : MeterApart) (j : List Noted) (r : ℕ) (set : List ℕ) → IsAfter j m → heard_by (refusal m.core r set) (kept_set m.core r) set ≡ heard m.keys.part j r set
+heard_same m j r set after = ap (λ o. heard_by o (kept_set m.core r) set) (refusal_same m j r set after) ∙ by (nat_lt r m.keys.part.home.rounds) refl
   where
-    by : (b : Bool) → nat_lt r m.part.home.rounds ≡ b
-        → heard_by (if b then refusal_by m.part (marked j r) r set else Some OutOfPlan) (kept_set m.core r) set ≡ heard_by (if b then refusal_by m.part (marked j r) r set else Some OutOfPlan) (kept j r) set
-    by true is = ap (λ o. heard_by (refusal_by m.part (marked j r) r set) o set) (after.sets_are r (ltb-true r m.part.home.rounds is))
+    by : (b : Bool) → nat_lt r m.keys.part.home.rounds ≡ b
+        → heard_by (if b then refusal_by m.keys.part (marked j r) r set else Some OutOfPlan) (kept_set m.core r) set ≡ heard_by (if b then refusal_by m.keys.part (marked j r) r set else Some OutOfPlan) (kept j r) set
+    by true is = ap (λ o. heard_by (refusal_by m.keys.part (marked j r) r set) o set) (after.sets_are r (ltb-true r m.keys.part.home.rounds is))
     by false is = refl
 
-pub heard_is : (m : MeterApart) (new : MeterView) (j : List Noted) (r : ℕ) (set : List ℕ) (said : Heard) → IsAfter j m → Hears m.core r set said new → said ≡ heard m.part j r set
+pub heard_is : (m : MeterApart) (new : MeterView) (j : List Noted) (r : ℕ) (set : List ℕ) (said : Heard) → IsAfter j m → Hears m.core r set said new → said ≡ heard m.keys.part j r set
 heard_is m new j r set said after hears = heard_noted m.core new r set said hears ∙ heard_same m j r set after

@@ -11,7 +11,7 @@ use Rattle.meter_core.specs.Meters.{MeterView, blank, new_meter, kept_set, keepi
 use Rattle.meter_core.proofs.CallLemmas.{kept_set-keeping_same, note_at-keeping_other, within-rounds}
 use Rattle.meter_apart.specs.declared.answers.Noted.{Noted}
 use Rattle.meter_apart.specs.declared.answers.Noted.TheVariants.{Read, Kept}
-use Rattle.meter_apart.specs.declared.part.Part.{Part}
+use Rattle.meter_apart.specs.declared.keys.MeterKeys.{MeterKeys}
 use Rattle.meter_apart.specs.declared.meter.MeterApart.{MeterApart}
 use Rattle.meter_apart.specs.Journal.{marked, kept}
 use Rattle.meter_apart.specs.Replies.{is_answer}
@@ -43,18 +43,18 @@ state_new rounds n i floor m readings core readings_are core_is = record {
 
 -- ---- a reading
 
-same_rounds : (p q : Part) (r : ℕ) → q ≡ p → r < q.home.rounds → r < p.home.rounds
-same_rounds p q r same lt = omega (arith, lt, ap (λ (x : Part). x.home.rounds) same)
+same_rounds : (p q : MeterKeys) (r : ℕ) → q ≡ p → r < q.part.home.rounds → r < p.part.home.rounds
+same_rounds p q r same lt = omega (arith, lt, ap (λ (x : MeterKeys). x.part.home.rounds) same)
 
-pub state_marked : (old new : MeterApart) (j : List Noted) (r x : ℕ) → r < old.part.home.rounds → slice_index_or old.readings.items r None ≡ None → IsAfter j old → MarksReading old r x new
+pub state_marked : (old new : MeterApart) (j : List Noted) (r x : ℕ) → r < old.keys.part.home.rounds → slice_index_or old.readings.items r None ≡ None → IsAfter j old → MarksReading old r x new
     → IsAfter (j ++ Read r x ∷ []) new
 state_marked old new j r x lt first after marks = record {
   readings_are = λ q low. ap (λ (l : List (Option ℕ)). slice_index_or l q None) marks.readings ∙ ⊎_elim
       (λ same. ap (λ k. slice_index_or (slice_set old.readings.items r (Some x)) k None) same ∙ here ∙ sym (ap (marked (j ++ Read r x ∷ [])) same ∙ marked-read_same j r x none))
       (λ other.
-      get_or-set_other old.readings.items r q (Some x) None other ∙ after.readings_are q (same_rounds old.part new.part q marks.part low) ∙ sym (marked-read_other j r x q (ne_eqb r q (λ e. other (sym e)))))
+      get_or-set_other old.readings.items r q (Some x) None other ∙ after.readings_are q (same_rounds old.keys new.keys q marks.keys low) ∙ sym (marked-read_other j r x q (ne_eqb r q (λ e. other (sym e)))))
       (cases_eq q r);
-  sets_are = λ q low. marks.sets q ∙ after.sets_are q (same_rounds old.part new.part q marks.part low) ∙ sym (kept-read j r x q);
+  sets_are = λ q low. marks.sets q ∙ after.sets_are q (same_rounds old.keys new.keys q marks.keys low) ∙ sym (kept-read j r x q);
 }
   where
     here : slice_index_or (slice_set old.readings.items r (Some x)) r None ≡ Some x
@@ -66,22 +66,22 @@ state_marked old new j r x lt first after marks = record {
 -- ---- a set
 
 -- the same notes are of the same journal
-still : (old new : MeterApart) (j : List Noted) → new.part ≡ old.part → new.readings.items ≡ old.readings.items → new.core ≡ old.core → IsAfter j old → IsAfter j new
-still old new j part readings core after = record {
-  readings_are = λ q low. ap (λ (l : List (Option ℕ)). slice_index_or l q None) readings ∙ after.readings_are q (same_rounds old.part new.part q part low);
-  sets_are = λ q low. ap (λ (c : MeterView). kept_set c q) core ∙ after.sets_are q (same_rounds old.part new.part q part low);
+still : (old new : MeterApart) (j : List Noted) → new.keys ≡ old.keys → new.readings.items ≡ old.readings.items → new.core ≡ old.core → IsAfter j old → IsAfter j new
+still old new j keys readings core after = record {
+  readings_are = λ q low. ap (λ (l : List (Option ℕ)). slice_index_or l q None) readings ∙ after.readings_are q (same_rounds old.keys new.keys q keys low);
+  sets_are = λ q low. ap (λ (c : MeterView). kept_set c q) core ∙ after.sets_are q (same_rounds old.keys new.keys q keys low);
 }
 
 -- a set that is answered first
-state_kept : (old new : MeterApart) (j : List Noted) (r : ℕ) (set : List ℕ) → r < old.part.home.rounds → kept_set old.core r ≡ None → IsAfter j old
-    → new.part ≡ old.part → new.readings.items ≡ old.readings.items → new.core ≡ keeping old.core r set → IsAfter (j ++ Kept r set ∷ []) new
-state_kept old new j r set lt first after part readings core = record {
+state_kept : (old new : MeterApart) (j : List Noted) (r : ℕ) (set : List ℕ) → r < old.keys.part.home.rounds → kept_set old.core r ≡ None → IsAfter j old
+    → new.keys ≡ old.keys → new.readings.items ≡ old.readings.items → new.core ≡ keeping old.core r set → IsAfter (j ++ Kept r set ∷ []) new
+state_kept old new j r set lt first after keys readings core = record {
   readings_are = λ q low.
-      ap (λ (l : List (Option ℕ)). slice_index_or l q None) readings ∙ after.readings_are q (same_rounds old.part new.part q part low) ∙ sym (marked-kept j r set q);
+      ap (λ (l : List (Option ℕ)). slice_index_or l q None) readings ∙ after.readings_are q (same_rounds old.keys new.keys q keys low) ∙ sym (marked-kept j r set q);
   sets_are = λ q low. ap (λ (c : MeterView). kept_set c q) core ∙ ⊎_elim
       (λ same. ap (kept_set (keeping old.core r set)) same ∙ here ∙ sym (ap (kept (j ++ Kept r set ∷ [])) same ∙ kept-kept_same j r set none))
       (λ other.
-      ap (λ (note : Note). note.kept) (note_at-keeping_other old.core r q set other) ∙ after.sets_are q (same_rounds old.part new.part q part low) ∙ sym (kept-kept_other j r set q (ne_eqb r q (λ e. other (sym e)))))
+      ap (λ (note : Note). note.kept) (note_at-keeping_other old.core r q set other) ∙ after.sets_are q (same_rounds old.keys new.keys q keys low) ∙ sym (kept-kept_other j r set q (ne_eqb r q (λ e. other (sym e)))))
       (cases_eq q r);
 }
   where
@@ -98,10 +98,10 @@ state_heard old new j r set said after heard = by said heard.core
     by : (said : Heard) → Hears old.core r set said new.core → IsAfter (if is_answer said then j ++ Kept r set ∷ [] else j) new
     by Answer h =
         let low : r < length old.core.notes = within-rounds old.core r set h.0 in
-        state_kept old new j r set (omega (arith, low, old.keeps.notes_long)) h.1 after heard.part heard.readings h.2
-    by AnswerAgain h = still old new j heard.part heard.readings h.2 after
-    by (Refused (OtherSet before)) h = still old new j heard.part heard.readings h.3 after
-    by (Refused OutOfPlan) h = still old new j heard.part heard.readings h.1 after
-    by (Refused NotRead) h = still old new j heard.part heard.readings h.1 after
-    by (Refused SelfMissing) h = still old new j heard.part heard.readings h.1 after
-    by (Refused (Thin n)) h = still old new j heard.part heard.readings h.1 after
+        state_kept old new j r set (omega (arith, low, old.keeps.notes_long)) h.1 after heard.keys heard.readings h.2
+    by AnswerAgain h = still old new j heard.keys heard.readings h.2 after
+    by (Refused (OtherSet before)) h = still old new j heard.keys heard.readings h.3 after
+    by (Refused OutOfPlan) h = still old new j heard.keys heard.readings h.1 after
+    by (Refused NotRead) h = still old new j heard.keys heard.readings h.1 after
+    by (Refused SelfMissing) h = still old new j heard.keys heard.readings h.1 after
+    by (Refused (Thin n)) h = still old new j heard.keys heard.readings h.1 after

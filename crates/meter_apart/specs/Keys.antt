@@ -7,6 +7,7 @@ use Rattle.pair_keys.specs.declared.KeyId.{KeyId}
 use Rattle.pair_keys.specs.declared.KeyId.TheVariants.{Own, Pair}
 use Rattle.pair_keys.specs.Keys.{Keys}
 use Rattle.mask_stream.specs.KeyStreams.{streams}
+use Rattle.meter_apart.specs.declared.part.Part.{Part}
 use Rattle.meter_apart.specs.declared.keys.MeterKeys.{MeterKeys}
 
 -- the key of a pair in group 0: that of the meter with the other end, and none where the meter is no end
@@ -29,15 +30,19 @@ has_key i pairs j = (j == i) || is_some (slice_index_or pairs j None)
 abbrev pub is_complete : ℕ → ℕ → List (Option (List ℕ)) → Bool
 is_complete i n pairs = list_all (has_key i pairs) (range_with_len 0 n)
 
+-- what the meter has of its plan
+abbrev pub part_of : MeterKeys → Part
+part_of keys = keys.part
+
 -- the plan and the mask words
 abbrev pub plan_of : MeterKeys → PlanView
-plan_of keys = keys.home
+plan_of keys = keys.part.home
 
 abbrev pub words_of : MeterKeys → Masks
-words_of keys = streams (keys_of keys.home keys.meter keys.own keys.pairs.items)
+words_of keys = streams (keys_of keys.part.home keys.part.meter keys.own keys.pairs.items)
 
 -- keys with one for each pair of the meter make a table, and no other ones do
-abbrev pub MakesKeys : PlanView → ℕ → List ℕ → List (Option (List ℕ)) → Option MeterKeys → Type 0
-MakesKeys home i own pairs None = is_complete i (size home.groups 0) pairs ≡ false
-MakesKeys home i own pairs (Some keys) =
-    (is_complete i (size home.groups 0) pairs ≡ true) × (plan_of keys ≡ home) × (words_of keys ≡ streams (keys_of home i own pairs))
+abbrev pub MakesKeys : Part → List ℕ → List (Option (List ℕ)) → Option MeterKeys → Type 0
+MakesKeys part own pairs None = is_complete part.meter (size part.home.groups 0) pairs ≡ false
+MakesKeys part own pairs (Some keys) =
+    (is_complete part.meter (size part.home.groups 0) pairs ≡ true) × (part_of keys ≡ part) × (words_of keys ≡ streams (keys_of part.home part.meter own pairs))

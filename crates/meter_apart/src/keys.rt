@@ -4,17 +4,16 @@ ghost use Rattle.std.specs.Prelude.{◌≡◌, slice_index_or, None};
 ghost use Rattle.mask_stream.specs.KeyStreams.{word_of};
 ghost use Rattle.meter_apart.specs.Keys.{has_key, is_complete};
 
+use crate::part::Part;
 use chacha_lanes::stream_word;
-use group_plan::Plan;
 use mask_stream::Masks;
 use mod_word::Word;
 
-/// The mask words of a meter's own key and of the keys of its pairs, over the plan of its group alone. A word that needs another
-/// key is 0; the meter needs none.
+/// A meter's part of a plan and its keys, as mask words over the plan of its group alone. A word that needs another key is 0; the
+/// meter needs none.
 #[derive(Drop)]
 pub struct MeterKeys {
-    home: Plan,
-    meter: u8,
+    pub(crate) part: Part,
     own: [u8; 32],
     /// The key of the pair with each meter, by its number.
     pairs: Vec<Option<[u8; 32]>>,
@@ -60,36 +59,33 @@ fn is_complete(pairs: &[Option<[u8; 32]>], meter: u8, meters: u32) -> bool
 }
 
 impl MeterKeys {
-    ghost use Rattle.meter_apart.specs.Keys.{MakesKeys, pair_key};
+    ghost use Rattle.meter_apart.specs.Keys.{MakesKeys, pair_key, part_of};
 
-    /// The keys of a meter of the first group: its own, and those of its pairs by the number of the other meter. `None` where
+    /// The keys of the meter that has this part: its own, and those of its pairs by the number of the other meter. `None` where
     /// the key of a pair is lacking.
-    pub fn new(
-        home: Plan,
-        meter: u8,
-        own: [u8; 32],
-        pairs: Vec<Option<[u8; 32]>>,
-    ) -> Option<MeterKeys>
-        ensures { MakesKeys home meter own pairs.items result }
+    pub fn new(part: Part, own: [u8; 32], pairs: Vec<Option<[u8; 32]>>) -> Option<MeterKeys>
+        ensures { MakesKeys part own pairs.items result }
     {
-        if !is_complete(&pairs, meter, home.meters(0)) {
+        if !is_complete(&pairs, part.meter(), part.meters()) {
             return None;
         }
-        Some(MeterKeys {
-            home,
-            meter,
-            own,
-            pairs,
-        })
+        Some(MeterKeys { part, own, pairs })
+    }
+
+    /// What the meter has of its plan.
+    pub fn part(&self) -> &Part
+        ensures { result.now ≡ part_of self.now }
+    {
+        &self.part
     }
 
     // The key of a pair of the first group, where the meter is an end of it.
     fn pair_key(&self, low: u8, high: u8) -> Option<[u8; 32]>
-        ensures { result ≡ pair_key self.now.meter self.now.pairs.items low high }
+        ensures { result ≡ pair_key self.now.part.meter self.now.pairs.items low high }
     {
-        if low == self.meter {
+        if low == self.part.meter() {
             key_with(&self.pairs, u32::from(high))
-        } else if high == self.meter {
+        } else if high == self.part.meter() {
             key_with(&self.pairs, u32::from(low))
         } else {
             None
@@ -105,7 +101,7 @@ impl Masks for MeterKeys {
     ghost table = { words_of };
 
     fn own(&self, group: u16, round: u32, meter: u8) -> Word {
-        if group == 0 && meter == self.meter {
+        if group == 0 && meter == self.part.meter() {
             word_of(Some(self.own), round)
         } else {
             Word(0)

@@ -9,10 +9,10 @@ ghost use Rattle.meter_apart.specs.Parts.{takes_part, members_in};
 ghost use Rattle.meter_apart.specs.Replies.{standing, is_answer, reading_frame, answer_frame};
 
 use crate::answers::{FrameRefusal, Noted, ReadingRefusal};
+use crate::keys::MeterKeys;
 use crate::part::Part;
 use blind_core::{answer, masked};
 use group_plan::Kind;
-use mask_stream::Masks;
 use meter_core::{Heard, Meter};
 use meter_frames::Frame;
 use missing_round::MeterSet;
@@ -22,11 +22,11 @@ use std::alloc::{AllocError, Global};
 /// rounds when it begins, and no more whatever comes.
 #[derive(Drop)]
 pub struct MeterApart {
-    part: Part,
+    keys: MeterKeys,
     /// The reading that was marked for each round, in watt-hours.
     readings: Vec<Option<u64>>,
     core: Meter,
-    ghost keeps: { KeepsNotes part readings.items core },
+    ghost keeps: { KeepsNotes keys.part readings.items core },
 }
 
 /// No reading of any round.
@@ -47,17 +47,18 @@ fn is_answer(heard: Heard) -> bool
 }
 
 impl MeterApart {
-    ghost use Rattle.meter_apart.specs.Meter.{IsAfter, SaysReading, SaysAnswer, Follows, MarksReading, HearsSet};
+    ghost use Rattle.meter_apart.specs.Meter.{meter_keys, meter_part, meter_masks, IsAfter, SaysReading, SaysAnswer, Follows, MarksReading, HearsSet};
 
     /// A meter before its first reading.
-    pub fn new(alloc: Global, part: Part) -> Result<MeterApart, AllocError>
-        ensures part { IfOk result (λ made. made.part ≡ part) }
+    pub fn new(alloc: Global, keys: MeterKeys) -> Result<MeterApart, AllocError>
+        ensures keys { IfOk result (λ made. meter_keys made ≡ keys) }
         ensures state { IfOk result (λ made. IsAfter [] made) }
     {
+        let part = keys.part();
         let readings = no_readings(alloc, part.rounds() as usize)?;
         let core = Meter::new(alloc, part.meter(), part.floor(), part.rounds())?;
         Ok(MeterApart {
-            part,
+            keys,
             readings,
             core,
         })
@@ -65,31 +66,25 @@ impl MeterApart {
 
     /// What the meter has of its plan.
     pub fn part(&self) -> &Part
-        ensures { result.now ≡ self.now.part }
+        ensures { result.now ≡ meter_part self.now }
     {
-        &self.part
+        self.keys.part()
     }
 
     /// Says the frame of a reading, in watt-hours. The first reading of a round is marked, and no other one is said.
-    pub fn read<M: Masks>(
-        &mut self,
-        masks: &M,
-        round: u32,
-        reading: u64,
-    ) -> Result<Frame, ReadingRefusal>
-        requires { M.plan masks.now ≡ self.old.part.home }
-        ensures part { self.new.part ≡ self.old.part }
-        ensures says { (journal : List Noted) → IsAfter journal self.old → SaysReading self.old (M.table masks.now) journal round reading result self.new }
+    pub fn read(&mut self, round: u32, reading: u64) -> Result<Frame, ReadingRefusal>
+        ensures keys { meter_keys self.new ≡ meter_keys self.old }
+        ensures says { (journal : List Noted) → IsAfter journal self.old → SaysReading self.old journal round reading result self.new }
     {
         match self.standing(round, reading) {
             Err(refusal) => Err(refusal),
             Ok(None) => {
                 self.mark(round, reading);
-                Ok(self.reading_frame(masks, round, reading))
+                Ok(self.reading_frame(round, reading))
             }
             Ok(Some(before)) => {
                 if before == reading {
-                    Ok(self.reading_frame(masks, round, reading))
+                    Ok(self.reading_frame(round, reading))
                 } else {
                     Err(ReadingRefusal::Twice)
                 }
@@ -98,25 +93,24 @@ impl MeterApart {
     }
 
     /// Answers an announcement. The first set that it answers in a round is kept, and it answers no other one.
-    pub fn hear<M: Masks>(&mut self, masks: &M, frame: &Frame) -> Result<Frame, FrameRefusal>
-        requires { M.plan masks.now ≡ self.old.part.home }
-        ensures part { self.new.part ≡ self.old.part }
-        ensures says { (journal : List Noted) → IsAfter journal self.old → SaysAnswer self.old (M.table masks.now) journal frame.now result self.new }
+    pub fn hear(&mut self, frame: &Frame) -> Result<Frame, FrameRefusal>
+        ensures keys { meter_keys self.new ≡ meter_keys self.old }
+        ensures says { (journal : List Noted) → IsAfter journal self.old → SaysAnswer self.old journal frame.now result self.new }
     {
         let tag = frame.tag;
-        if !self.part.is_to_me(tag) {
+        if !self.keys.part.is_to_me(tag) {
             return Err(FrameRefusal::Tag);
         }
         match self.hear_set(tag.round, &frame.missing) {
-            Heard::Answer => Ok(self.answer_frame(masks, tag.round, &frame.missing)),
-            Heard::AnswerAgain => Ok(self.answer_frame(masks, tag.round, &frame.missing)),
+            Heard::Answer => Ok(self.answer_frame(tag.round, &frame.missing)),
+            Heard::AnswerAgain => Ok(self.answer_frame(tag.round, &frame.missing)),
             Heard::Refused(why) => Err(FrameRefusal::Why(why)),
         }
     }
 
     /// Goes on by a line of a journal, and answers whether it can follow those before it. Another line changes nothing.
     pub fn follow(&mut self, line: &Noted) -> bool
-        ensures part { self.new.part ≡ self.old.part }
+        ensures keys { meter_keys self.new ≡ meter_keys self.old }
         ensures follows { (journal : List Noted) → IsAfter journal self.old → Follows self.old journal line.now result self.new }
     {
         match line {
@@ -127,9 +121,9 @@ impl MeterApart {
 
     // What stops a reading, or else the one that was marked for the round before.
     fn standing(&self, round: u32, reading: u64) -> Result<Option<u64>, ReadingRefusal>
-        ensures { result ≡ standing self.now.part (slice_index_or self.now.readings.items round None) round reading }
+        ensures { result ≡ standing (meter_part self.now) (slice_index_or self.now.readings.items round None) round reading }
     {
-        if !self.part.takes_part(round) {
+        if !self.keys.part.takes_part(round) {
             return Err(ReadingRefusal::Round);
         }
         if reading >= 1 << 40 {
@@ -140,18 +134,18 @@ impl MeterApart {
 
     // Marks the first reading of a round.
     fn mark(&mut self, round: u32, reading: u64)
-        requires member { takes_part self.old.part round ≡ true }
+        requires member { takes_part (meter_part self.old) round ≡ true }
         requires first { slice_index_or self.old.readings.items round None ≡ None }
         ensures { MarksReading self.old round reading self.new }
     {
-        let members = self.part.members(round);
+        let members = self.keys.part.members(round);
         self.readings[round as usize] = Some(reading);
         self.core.mark_read(round, &members);
     }
 
     // Marks the reading of a journal's line, and answers whether it is the first of its round.
     fn follow_reading(&mut self, round: u32, reading: u64) -> bool
-        ensures part { self.new.part ≡ self.old.part }
+        ensures keys { meter_keys self.new ≡ meter_keys self.old }
         ensures follows { (journal : List Noted) → IsAfter journal self.old → Follows self.old journal (Noted.Read round reading) result self.new }
     {
         match self.standing(round, reading) {
@@ -171,32 +165,37 @@ impl MeterApart {
     }
 
     // The frame of a reading.
-    fn reading_frame<M: Masks>(&self, masks: &M, round: u32, reading: u64) -> Frame
-        requires plan { M.plan masks.now ≡ self.now.part.home }
-        requires member { takes_part self.now.part round ≡ true }
+    fn reading_frame(&self, round: u32, reading: u64) -> Frame
+        requires member { takes_part (meter_part self.now) round ≡ true }
         requires small { reading < 2 ^ 40 }
-        ensures { result ≡ reading_frame self.now.part (M.table masks.now) round reading }
+        ensures { result ≡ reading_frame (meter_part self.now) (meter_masks self.now) round reading }
     {
-        let members = self.part.members(round);
+        let members = self.keys.part.members(round);
         Frame {
-            tag: self.part.own_tag(Kind::Reading, round),
+            tag: self.keys.part.own_tag(Kind::Reading, round),
             missing: MeterSet::empty(),
-            word: masked(masks, 0, &members, round, self.part.meter(), reading),
+            word: masked(
+                &self.keys,
+                0,
+                &members,
+                round,
+                self.keys.part.meter(),
+                reading,
+            ),
         }
     }
 
     // The frame of an answer.
-    fn answer_frame<M: Masks>(&self, masks: &M, round: u32, missing: &MeterSet) -> Frame
-        requires plan { M.plan masks.now ≡ self.now.part.home }
-        requires round { round < self.now.part.home.rounds }
-        requires within { is_within missing.now (members_in self.now.part round) ≡ true }
-        requires other { is_member self.now.part.meter missing.now ≡ false }
-        ensures { result ≡ answer_frame self.now.part (M.table masks.now) round missing.now }
+    fn answer_frame(&self, round: u32, missing: &MeterSet) -> Frame
+        requires round { round < (meter_part self.now).home.rounds }
+        requires within { is_within missing.now (members_in (meter_part self.now) round) ≡ true }
+        requires other { is_member (meter_part self.now).meter missing.now ≡ false }
+        ensures { result ≡ answer_frame (meter_part self.now) (meter_masks self.now) round missing.now }
     {
         Frame {
-            tag: self.part.own_tag(Kind::Answer, round),
+            tag: self.keys.part.own_tag(Kind::Answer, round),
             missing: *missing,
-            word: answer(masks, 0, round, self.part.meter(), missing),
+            word: answer(&self.keys, 0, round, self.keys.part.meter(), missing),
         }
     }
 }

@@ -46,6 +46,13 @@ impl Part {
         self.meter
     }
 
+    /// The number of meters of its group.
+    pub(crate) fn meters(&self) -> u32
+        ensures { result ≡ size self.now.home.groups 0 }
+    {
+        self.home.meters(0)
+    }
+
     /// The fewest survivors with which a round is announced.
     pub(crate) fn floor(&self) -> u16
         ensures floor { result ≡ floor_of self.now.home.groups 0 }

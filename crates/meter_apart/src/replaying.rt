@@ -4,8 +4,8 @@ ghost use Rattle.std.specs.Prelude.{◌≡◌};
 ghost use Rattle.meter_apart.specs.Replay.{Replays};
 
 use crate::answers::Noted;
+use crate::keys::MeterKeys;
 use crate::meter::MeterApart;
-use crate::part::Part;
 use std::alloc::{AllocError, Global};
 
 /// Why lines are no journal of a meter.
@@ -28,10 +28,10 @@ impl From<AllocError> for ReplayError {
 }
 
 /// The meter that a journal gives. It says from then on what the one that wrote the journal would say.
-pub fn replay(alloc: Global, part: Part, lines: &[Noted]) -> Result<MeterApart, ReplayError>
-    ensures { Replays part lines.now result }
+pub fn replay(alloc: Global, keys: MeterKeys, lines: &[Noted]) -> Result<MeterApart, ReplayError>
+    ensures { Replays keys lines.now result }
 {
-    let mut meter = MeterApart::new(alloc, part)?;
+    let mut meter = MeterApart::new(alloc, keys)?;
     for at in 0..lines.len() {
         if !meter.follow(&lines[at]) {
             return Err(ReplayError::Line(at));

@@ -1,0 +1,12 @@
+pub mod SaidLemmas
+pub mod PastLemmas
+pub mod TickLemmas
+pub mod ReplyLemmas
+pub mod SentLemmas
+pub mod SameLemmas
+pub mod NotedLemmas
+pub mod FrameLemmas
+pub mod AgreeLemmas
+pub mod CutLemmas
+pub mod WordLemmas
+pub mod AgainLemmas

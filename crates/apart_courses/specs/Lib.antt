@@ -1,0 +1,5 @@
+pub mod Courses
+pub mod Steps
+pub mod Losses
+pub mod Statements
+pub mod Rows

@@ -1,0 +1,6 @@
+pub mod FieldLemmas
+pub mod FrameLemmas
+pub mod JournalLemmas
+pub mod SaidLemmas
+pub mod HeadLemmas
+pub mod LawLemmas
