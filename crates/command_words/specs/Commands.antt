@@ -7,17 +7,23 @@ use Rattle.command_words.specs.declared.words.Size.{Size as KeptSize}
 use Rattle.command_words.specs.declared.words.TwinFiles.{TwinFiles}
 use Rattle.command_words.specs.declared.words.BillFiles.{BillFiles}
 use Rattle.command_words.specs.declared.words.RegisterFiles.{RegisterFiles}
+use Rattle.command_words.specs.declared.words.ResumeFiles.{ResumeFiles}
 use Rattle.command_words.specs.declared.words.HideFiles.{HideFiles}
 use Rattle.command_words.specs.declared.words.InspectFiles.{InspectFiles}
 use Rattle.command_words.specs.declared.words.Command.{Command as Kept}
 use Rattle.command_words.specs.declared.words.Command.TheVariants as kept
 use Rattle.command_words.specs.Known.{IsKnown, known_in}
-use Rattle.command_words.specs.Words.{TwinNames, Size, Command, Run, Registers, RegisterNames, Audit, Twin, Pooled, Make, Load, Convert, Public, Help, Version, names_of, Bill, Hide, BillNames, HideNames, Inspect, InspectNames}
+use Rattle.command_words.specs.Words.{TwinNames, Size, Command, Run, Ring, Registers, RegisterNames, Resume, ResumeNames, Audit, Twin, RingTwin, Pooled, Make, Load, Convert, Public, Help, Version, names_of, Bill, Hide, BillNames, HideNames, Inspect, InspectNames}
 
 -- the names of the files of `twin`
 abbrev pub twin_names_of : TwinFiles → TwinNames
 twin_names_of files =
     record { plan = files.plan.now; readings = files.readings.now; other = files.other.now; transcript = files.transcript.now; masks = files.masks.now }
+
+-- the names of the files of `resume`
+abbrev pub resume_names_of : ResumeFiles → ResumeNames
+resume_names_of files =
+    record { plan = files.plan.now; readings = files.readings.now; cut = files.cut.now; report = files.report.now; transcript = files.transcript.now }
 
 -- the names of the files of `registers`
 abbrev pub register_names_of : RegisterFiles → RegisterNames
@@ -47,9 +53,12 @@ name_in name = option_map (λ n. n.now) name
 -- the command that is meant
 abbrev pub asked : Kept → Command
 asked (kept.Run words) = Run (names_of words.files) words.workers
+asked (kept.Ring words) = Ring words.width (names_of words.files) words.workers
+asked (kept.Resume words) = Resume (resume_names_of words.files) words.workers
 asked (kept.Registers words) = Registers words.registers (register_names_of words.files) words.workers
 asked (kept.Audit files) = Audit files.transcript.now files.report.now
 asked (kept.Twin files) = Twin (twin_names_of files)
+asked (kept.RingTwin words) = RingTwin words.width (twin_names_of words.files)
 asked (kept.Pooled words) = Pooled (known_in words.known.now) (twin_names_of words.files)
 asked (kept.Make words) = Make (size_in words.size) words.plan.now words.readings.now
 asked (kept.Load words) = Load (size_in words.size) words.workers (name_in words.transcript)
@@ -68,7 +77,10 @@ IsSize size = is_within size.groups size.meters size.rounds ≡ true
 -- the command's numbers are within their limits, and KNOWN names meters
 abbrev pub IsWithin : Kept → Type 0
 IsWithin (kept.Run words) = (1 ≤ words.workers) × (words.workers ≤ 16)
+IsWithin (kept.Ring words) = (1 ≤ words.width) × (words.width ≤ 128) × (1 ≤ words.workers) × (words.workers ≤ 16)
+IsWithin (kept.Resume words) = (1 ≤ words.workers) × (words.workers ≤ 16)
 IsWithin (kept.Registers words) = (2 ≤ words.registers) × (words.registers ≤ 8) × (1 ≤ words.workers) × (words.workers ≤ 16)
+IsWithin (kept.RingTwin words) = (1 ≤ words.width) × (words.width ≤ 128)
 IsWithin (kept.Pooled words) = IsKnown words.known.now
 IsWithin (kept.Make words) = IsSize words.size
 IsWithin (kept.Load words) = IsSize words.size × (1 ≤ words.workers) × (words.workers ≤ 16)

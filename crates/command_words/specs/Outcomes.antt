@@ -5,7 +5,7 @@ use Rattle.std.specs.List.{flat_map}
 use Rattle.hex.specs.Hex.{encode_lower}
 use Rattle.plan_files.specs.declared.fault.FileError.{FileError}
 use Rattle.command_words.specs.declared.outcome.Outcome.{Outcome}
-use Rattle.command_words.specs.declared.outcome.Outcome.TheVariants.{Done, NoMemory, BadWords, CannotRead, TooLong, CannotWrite, CannotPrint, BadPlan, BadReadings, BadTranscript, BadReport, Impossible, NotInTime, OtherRow, OtherPlan, OtherLine, OtherPresence, OtherKnown, OtherTotal, BadLane, NoPartner}
+use Rattle.command_words.specs.declared.outcome.Outcome.TheVariants.{Done, NoMemory, BadWords, CannotRead, TooLong, CannotWrite, CannotPrint, BadPlan, BadReadings, BadTranscript, BadReport, Impossible, NotInTime, NotThisRun, OtherRow, OtherPlan, OtherLine, OtherPresence, OtherKnown, OtherTotal, OtherComponent, BadLane, NoPartner}
 use Rattle.command_words.specs.Causes.{cause_text, rack_cause_name, read_error_name}
 use Rattle.transcript_text.specs.Faults.{fault_line}
 use Rattle.transcript_text.specs.declared.version.Version.TheVariants.{Two}
@@ -28,12 +28,14 @@ status_of (BadTranscript name fault) = 7
 status_of (BadReport name line) = 7
 status_of (Impossible name line) = 7
 status_of (NotInTime name line) = 7
+status_of (NotThisRun name line) = 7
 status_of (OtherRow at from_frames reported) = 9
 status_of (OtherPlan name) = 7
 status_of (OtherLine name line expected) = 7
 status_of (OtherPresence group round meter) = 8
 status_of (OtherKnown group round meter) = 8
 status_of (OtherTotal group round first second) = 8
+status_of (OtherComponent group round least first second) = 8
 status_of (BadLane fault) = 10
 status_of (NoPartner group round meter) = 11
 
@@ -84,6 +86,7 @@ complaint_of (BadTranscript name fault) = line_complaint name.now (fault_line fa
 complaint_of (BadReport name line) = line_complaint name.now line (codes "Line")
 complaint_of (Impossible name line) = line_complaint name.now line (codes "impossible")
 complaint_of (NotInTime name line) = line_complaint name.now line (codes "not in time")
+complaint_of (NotThisRun name line) = line_complaint name.now line (codes "not this run")
 complaint_of (OtherRow at from_frames reported) = row_complaint at from_frames reported
 complaint_of (OtherPlan name) = codes "meteragg: " ++ (shown_name name.now ++ codes ": other plan\n")
 complaint_of (OtherLine name line expected) = line_complaint name.now line (codes "expected " ++ entry_text Two expected)
@@ -93,6 +96,8 @@ complaint_of (OtherKnown group round meter) =
     codes "meteragg: known " ++ (decimal group ++ (codes " " ++ (decimal round ++ (codes " " ++ (decimal meter ++ codes "\n")))))
 complaint_of (OtherTotal group round first second) =
     codes "meteragg: total " ++ (decimal group ++ (codes " " ++ (decimal round ++ (codes " " ++ (decimal first ++ (codes " " ++ (decimal second ++ codes "\n")))))))
+complaint_of (OtherComponent group round least first second) =
+    codes "meteragg: component " ++ (decimal group ++ (codes " " ++ (decimal round ++ (codes " " ++ (decimal least ++ (codes " " ++ (decimal first ++ (codes " " ++ (decimal second ++ codes "\n")))))))))
 complaint_of (BadLane fault) = codes "meteragg: lane row " ++ (decimal fault.row ++ (codes ": " ++ (rack_cause_name fault.cause ++ codes "\n")))
 complaint_of (NoPartner group round meter) =
     codes "meteragg: alone " ++ (decimal group ++ (codes " " ++ (decimal round ++ (codes " " ++ (decimal meter ++ codes "\n")))))
@@ -106,6 +111,7 @@ IsText CannotPrint = ⊤
 IsText (OtherPresence group round meter) = ⊤
 IsText (OtherKnown group round meter) = ⊤
 IsText (OtherTotal group round first second) = ⊤
+IsText (OtherComponent group round least first second) = ⊤
 IsText (BadLane fault) = ⊤
 IsText (NoPartner group round meter) = ⊤
 IsText other = ⊥
@@ -121,6 +127,7 @@ HasName (BadTranscript name fault) = ⊤
 HasName (BadReport name line) = ⊤
 HasName (Impossible name line) = ⊤
 HasName (NotInTime name line) = ⊤
+HasName (NotThisRun name line) = ⊤
 HasName (OtherPlan name) = ⊤
 HasName other = ⊥
 
@@ -144,11 +151,13 @@ IsFault (BadTranscript name fault) = ⊥
 IsFault (BadReport name line) = ⊥
 IsFault (Impossible name line) = ⊥
 IsFault (NotInTime name line) = ⊥
+IsFault (NotThisRun name line) = ⊥
 IsFault (OtherRow at from_frames reported) = ⊥
 IsFault (OtherPlan name) = ⊥
 IsFault (OtherLine name line expected) = ⊥
 IsFault (OtherPresence group round meter) = ⊥
 IsFault (OtherKnown group round meter) = ⊥
 IsFault (OtherTotal group round first second) = ⊥
+IsFault (OtherComponent group round least first second) = ⊥
 IsFault (BadLane fault) = ⊥
 IsFault (NoPartner group round meter) = ⊥

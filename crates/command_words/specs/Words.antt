@@ -9,10 +9,18 @@ use Rattle.command_words.specs.declared.words.Place.{Place}
 use Rattle.command_words.specs.Known.{known_of}
 use Rattle.command_words.specs.declared.words.RunFiles.{RunFiles}
 
--- the names of the files of `run`
+-- the names of the files of `run` and of `ring`
 pub record RunNames : Type 0 where
   pub plan : List ℕ
   pub readings : List ℕ
+  pub report : List ℕ
+  pub transcript : List ℕ
+
+-- the names of the files of `resume`
+pub record ResumeNames : Type 0 where
+  pub plan : List ℕ
+  pub readings : List ℕ
+  pub cut : List ℕ
   pub report : List ℕ
   pub transcript : List ℕ
 
@@ -24,7 +32,7 @@ pub record RegisterNames : Type 0 where
   pub transcript : List ℕ
   pub words : List ℕ
 
--- the names of the files of `twin`, and of those of `pooled`
+-- the names of the files of `twin`, of `ringtwin` and of `pooled`
 pub record TwinNames : Type 0 where
   pub plan : List ℕ
   pub readings : List ℕ
@@ -61,9 +69,12 @@ pub record HideNames : Type 0 where
 -- what the words ask for
 pub data Command : Type 0 where
   Run : (names : RunNames) (workers : ℕ) → Command
+  Ring : (width : ℕ) (names : RunNames) (workers : ℕ) → Command
+  Resume : (names : ResumeNames) (workers : ℕ) → Command
   Registers : (count : ℕ) (names : RegisterNames) (workers : ℕ) → Command
   Audit : (transcript report : List ℕ) → Command
   Twin : (names : TwinNames) → Command
+  RingTwin : (width : ℕ) (names : TwinNames) → Command
   Pooled : (known : List KnownMeter) (names : TwinNames) → Command
   Make : (size : Size) (plan readings : List ℕ) → Command
   Load : (size : Size) (workers : ℕ) (transcript : Option (List ℕ)) → Command
@@ -132,6 +143,37 @@ run_of (plan ∷ readings ∷ report ∷ transcript ∷ []) = run_with plan read
 run_of (plan ∷ readings ∷ report ∷ transcript ∷ workers ∷ []) = with_number (workers_of workers) (run_with plan readings report transcript)
 run_of _ = None
 
+-- masks with the meters at most 1 to 128 places away
+abbrev pub width_of : List ℕ → Option ℕ
+width_of word = within 1 129 (number_of word)
+
+-- `ring` with these files, where they are names, this width and so many workers
+unfoldable pub ring_with : RunNames → (width workers : ℕ) → Option Command
+ring_with names width workers =
+    if are_names (names.plan ∷ names.readings ∷ names.report ∷ names.transcript ∷ []) then Some (Ring width names workers) else None
+
+-- `ring PLAN READINGS WIDTH REPORT TRANSCRIPT [WORKERS]`; 4 workers where no number is given
+abbrev pub ring_of : List (List ℕ) → Option Command
+ring_of (plan ∷ readings ∷ width ∷ report ∷ transcript ∷ []) =
+    with_number (width_of width) (λ width. ring_with (record { plan = plan; readings = readings; report = report; transcript = transcript }) width 4)
+ring_of (plan ∷ readings ∷ width ∷ report ∷ transcript ∷ workers ∷ []) =
+    with_number (width_of width) (λ width. with_number (workers_of workers)
+    (ring_with (record { plan = plan; readings = readings; report = report; transcript = transcript }) width))
+ring_of _ = None
+
+-- `resume` with these files, where they are names, and so many workers
+unfoldable pub resume_with : ResumeNames → ℕ → Option Command
+resume_with names workers =
+    if are_names (names.plan ∷ names.readings ∷ names.cut ∷ names.report ∷ names.transcript ∷ []) then Some (Resume names workers) else None
+
+-- `resume PLAN READINGS CUT REPORT TRANSCRIPT [WORKERS]`; 4 workers where no number is given
+abbrev pub resume_of : List (List ℕ) → Option Command
+resume_of (plan ∷ readings ∷ cut ∷ report ∷ transcript ∷ []) =
+    resume_with (record { plan = plan; readings = readings; cut = cut; report = report; transcript = transcript }) 4
+resume_of (plan ∷ readings ∷ cut ∷ report ∷ transcript ∷ workers ∷ []) =
+    with_number (workers_of workers) (resume_with (record { plan = plan; readings = readings; cut = cut; report = report; transcript = transcript }))
+resume_of _ = None
+
 -- 2 to 8 registers
 abbrev pub registers_of_word : List ℕ → Option ℕ
 registers_of_word word = within 2 9 (number_of word)
@@ -169,6 +211,17 @@ twin_with plan readings other transcript masks =
 abbrev pub twin_of : List (List ℕ) → Option Command
 twin_of (plan ∷ readings ∷ other ∷ transcript ∷ masks ∷ []) = twin_with plan readings other transcript masks
 twin_of _ = None
+
+-- `ringtwin` with these files, where they are names, and this width
+unfoldable pub ring_twin_with : TwinNames → (width : ℕ) → Option Command
+ring_twin_with names width =
+    if are_names (names.plan ∷ names.readings ∷ names.other ∷ names.transcript ∷ names.masks ∷ []) then Some (RingTwin width names) else None
+
+-- `ringtwin PLAN READINGS OTHER WIDTH TRANSCRIPT MASKS`
+abbrev pub ring_twin_of : List (List ℕ) → Option Command
+ring_twin_of (plan ∷ readings ∷ other ∷ width ∷ transcript ∷ masks ∷ []) =
+    with_number (width_of width) (ring_twin_with (record { plan = plan; readings = readings; other = other; transcript = transcript; masks = masks }))
+ring_twin_of _ = None
 
 -- a command that takes meters, where they are named
 abbrev pub with_known : Option (List KnownMeter) → (List KnownMeter → Option Command) → Option Command
@@ -309,9 +362,12 @@ asks_version verb = bytes_eq verb (codes "version") || bytes_eq verb (codes "--v
 unfoldable pub command_by : List ℕ → List (List ℕ) → Option Command
 command_by verb words =
     if bytes_eq verb (codes "run") then run_of words
+    else if bytes_eq verb (codes "ring") then ring_of words
+    else if bytes_eq verb (codes "resume") then resume_of words
     else if bytes_eq verb (codes "registers") then registers_of words
     else if bytes_eq verb (codes "audit") then audit_of words
     else if bytes_eq verb (codes "twin") then twin_of words
+    else if bytes_eq verb (codes "ringtwin") then ring_twin_of words
     else if bytes_eq verb (codes "pooled") then pooled_of words
     else if bytes_eq verb (codes "make") then make_of words
     else if bytes_eq verb (codes "load") then load_of words

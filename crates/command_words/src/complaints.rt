@@ -265,6 +265,7 @@ fn name_complaint(alloc: Global, outcome: &Outcome<'_>) -> Result<Vec<u8>, Alloc
         Outcome::BadReport(name, line) => line_complaint(alloc, name, *line, "Line"),
         Outcome::Impossible(name, line) => line_complaint(alloc, name, *line, "impossible"),
         Outcome::NotInTime(name, line) => line_complaint(alloc, name, *line, "not in time"),
+        Outcome::NotThisRun(name, line) => line_complaint(alloc, name, *line, "not this run"),
         Outcome::OtherPlan(name) => named(alloc, "meteragg: ", name, ": other plan\n"),
         _ => Ok(Vec::new(alloc)),
     }
@@ -295,6 +296,13 @@ fn text_complaint(alloc: Global, outcome: &Outcome<'_>) -> Result<String, AllocE
             first,
             second,
         } => format!(in alloc; "meteragg: total {group} {round} {first} {second}\n"),
+        Outcome::OtherComponent {
+            group,
+            round,
+            least,
+            first,
+            second,
+        } => { format!(in alloc; "meteragg: component {group} {round} {least} {first} {second}\n") }
         Outcome::BadLane(fault) => {
             let row = fault.row;
             let cause = rack_cause_name(fault.cause);
@@ -333,6 +341,7 @@ pub fn complaint(alloc: Global, outcome: &Outcome<'_>) -> Result<Vec<u8>, AllocE
         | Outcome::OtherPresence { .. }
         | Outcome::OtherKnown { .. }
         | Outcome::OtherTotal { .. }
+        | Outcome::OtherComponent { .. }
         | Outcome::BadLane(_)
         | Outcome::NoPartner { .. } => Ok(text_complaint(alloc, outcome)?.into_bytes()),
         _ => name_complaint(alloc, outcome),

@@ -4,7 +4,7 @@ ghost use Rattle.std.specs.Prelude.{◌≡◌, Some, [], IfOk, length, replicate
 ghost use Rattle.command_words.specs.Known.{meter_of, comes_after, after_last, known_of, known_in, IsKnown, GivesSets};
 ghost use Rattle.command_words.specs.KnownParts.{Adds, named_by};
 
-use crate::words::MOST_OF_EACH;
+use crate::parsing::MOST_OF_EACH;
 use field_texts::{cut, read_number_within};
 use group_plan::Plan;
 use missing_round::MeterSet;

@@ -4,15 +4,17 @@
 mod complaints;
 mod known;
 mod outcome;
+mod parsing;
 mod usage;
 mod words;
 
 pub use complaints::complaint;
 pub use known::{KnownMeter, known_sets};
 pub use outcome::Outcome;
+pub use parsing::parse;
 pub use usage::{USAGE, VERSION};
 pub use words::{
     AuditFiles, BillFiles, BillWords, Command, ConvertFiles, HideFiles, HideWords, InspectFiles,
     LoadWords, MakeWords, Period, Place, PooledWords, PublicFiles, RegisterFiles, RegisterWords,
-    RunFiles, RunWords, Size, TwinFiles, parse,
+    ResumeFiles, ResumeWords, RingTwinWords, RingWords, RunFiles, RunWords, Size, TwinFiles,
 };

@@ -43,6 +43,8 @@ pub enum Outcome<'a> {
     /// The line of this entry, counted from 1, is the first with which no run of the plan begins; or all entries begin one that goes
     /// on, and this is the line behind them.
     NotInTime(&'a str, u64),
+    /// The entry of this line of a cut transcript, counted from 1, is the first with which the run of the files does not begin.
+    NotThisRun(&'a str, u64),
     /// The transcript is one of another plan.
     OtherPlan(&'a str),
     /// This line of the transcript, counted from 1, is the first that isn't the one of the readings under the keys; the
@@ -70,6 +72,15 @@ pub enum Outcome<'a> {
     OtherTotal {
         group: u16,
         round: u32,
+        first: u64,
+        second: u64,
+    },
+    /// The two tables have these sums, in watt-hours, over the opened component of masks in this round that has this least member; all
+    /// numbers of places are counted from 0.
+    OtherComponent {
+        group: u16,
+        round: u32,
+        least: u8,
         first: u64,
         second: u64,
     },

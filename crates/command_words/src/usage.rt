@@ -6,6 +6,12 @@ pub const USAGE: &str = "meteragg: the total of each group of smart meters, from
 Commands
   run PLAN READINGS REPORT TRANSCRIPT [WORKERS]
       run the plan on the readings; write the report and the transcript
+  ring PLAN READINGS WIDTH REPORT TRANSCRIPT [WORKERS]
+      the same with masks between meters at most WIDTH places away on the ring of
+      their group alone; print besides the fewest meters whose sum is open
+  resume PLAN READINGS CUT REPORT TRANSCRIPT [WORKERS]
+      go on from the transcript CUT of a run that was cut short: write the report
+      and the transcript of the run, beginning with the entries of CUT
   registers K PLAN READINGS REPORT TRANSCRIPT WORDS [WORKERS]
       run the plan on readings of K registers, as day and night; write the report
       with a total of each, the transcript, and the words of the further registers
@@ -16,6 +22,9 @@ Commands
       write the mask words that would differ. For those who hold the keys:
       whoever has MASKS and OTHER has the readings. Keep MASKS, and show a
       regulator what is printed
+  ringtwin PLAN READINGS OTHER WIDTH TRANSCRIPT MASKS
+      the same for a transcript of ring: OTHER has the same sum over each open
+      piece of the ring
   pooled KNOWN PLAN READINGS OTHER TRANSCRIPT MASKS
       the same against the meters KNOWN, who share their keys and readings: OTHER
       has the same readings of these, and the same totals of the others
@@ -41,6 +50,7 @@ Commands
       print the name and the version
 
 Words
+  WIDTH    1 to 128
   K        2 to 8 registers
   WORKERS  1 to 16 threads that make the ticks of the groups, one for about 1000
            meters and no more than groups; 4 where it may be left out and is
@@ -65,8 +75,8 @@ Statuses
    5  the plan has a fault
    6  the readings have a fault
    7  the transcript or the report has a fault, or is not that of these files
-   8  the two tables of readings differ in a place, in a reading of KNOWN, or in
-      an opened total
+   8  the two tables of readings differ in a place, in a reading of KNOWN, in an
+      opened total, or in the sum over an open piece of a ring
    9  the report says something else than the transcript
   10  a lane of the plan does not exist or does not take its argument
   11  no other reading of the period can hide this one
