@@ -1,7 +1,6 @@
 -- Accepted files are done.
-use Rattle.std.proofs.Common.{◌≡◌, ◌≢◌, ◌≤◌, ◌<◌, ◌^◌, ◌⊎◌, ℕ, false, List, [], ◌∷◌, length, drop, refl, sym, ap, ◌∙◌, subst, inl, inr, arith, Result, Ok, Err}
-use Rattle.std.specs.Prelude.{Option, Some, None, ◌*◌, ◌+◌, ◌-◌, slice_get, codes}
-use Rattle.std.proofs.lemmas.Bool.{false≢true}
+use Rattle.std.proofs.Common.{◌≡◌, ◌≤◌, ℕ, List, [], ◌∷◌, length, drop, refl, sym, ap, ◌∙◌, subst, inl, inr, arith, Ok, Err}
+use Rattle.std.specs.Prelude.{Option, Some, None, ◌*◌, ◌+◌, ◌-◌, slice_get}
 use Rattle.std.proofs.lemmas.List.{take-append-drop}
 use Rattle.transcript_log.specs.Frames.{IsPossible}
 use Rattle.transcript_text.specs.declared.version.Version.TheVariants.{Two}
@@ -12,7 +11,7 @@ use Rattle.audit_check.specs.Audits.{lines_in, rows_by_frames, IsFirstImpossible
 use Rattle.audit_check.proofs.PossibleLemmas.{possible_up_to}
 use Rattle.command_words.specs.declared.usage.TheConstants.{USAGE, VERSION}
 use Rattle.commands.specs.Audits.{AreAuditTexts, AuditRefuses}
-use Rattle.desk_outside.specs.Desk.{View, Held, Holds, IsLonger, Rose}
+use Rattle.desk_outside.specs.Desk.{View, Rose}
 use Rattle.link_lanes.specs.Lanes.{Meaning}
 use Rattle.link_lanes.specs.Fits.{hung_by}
 use Rattle.link_lanes.specs.declared.cupboard.RackError.{RackError}
@@ -25,29 +24,15 @@ use Rattle.transcript_text.specs.declared.version.Version.TheVariants.{One}
 use Rattle.transcript_text.specs.ReadBack.{ReadsEach}
 use Rattle.transcript_text.specs.Heads.{read_of}
 use Rattle.transcript_text.proofs.ReadAgain.{reads_each}
-use Rattle.mask_stream.specs.KeyStreams.{streams}
-use Rattle.ideal_masks.specs.declared.Differ.TheVariants.{Presence, Total}
-use Rattle.twin_worlds.specs.declared.answers.TwinError.{TwinError}
-use Rattle.twin_worlds.specs.declared.answers.TwinError.TheVariants as twin
-use Rattle.twin_worlds.specs.MasksText.{masks_text}
-use Rattle.twin_worlds.specs.declared.answers.PoolTwinError.{PoolTwinError}
-use Rattle.twin_worlds.specs.declared.answers.PoolTwinError.TheVariants as pool_twin
-use Rattle.twin_worlds.specs.Twins.{TwinEnds, PooledTwinEnds}
-use Rattle.twin_worlds.specs.Statements.{FindsTwins, IsHonest, FindsPooledTwins, IsHonestFor}
-use Rattle.twin_worlds.proofs.HonestLemmas.{honest-have-twins, honest-have-pooled}
-use Rattle.commands.specs.Twins.{TwinBytes, AreReadBy, TwinValues, AreTwinValues, Compared, RefusesFirst, RefusesSecond, TwinRefuses}
-use Rattle.commands.specs.Pooled.{PooledCompared, RefusesPlanFor, PooledRefuses}
 use Rattle.command_words.specs.declared.outcome.Outcome.{Outcome}
-use Rattle.command_words.specs.declared.outcome.Outcome.TheVariants.{Done, NoMemory, BadWords, CannotRead, TooLong, CannotWrite, CannotPrint, BadPlan, BadReadings, BadTranscript, BadReport, Impossible, NotInTime, OtherRow, OtherPlan, OtherLine, OtherPresence, OtherKnown, OtherTotal, BadLane, NoPartner}
-use Rattle.command_words.specs.declared.known.KnownMeter.{KnownMeter}
-use Rattle.command_words.specs.Known.{is_known, are_in_plan}
-use Rattle.command_words.specs.Words.{RunNames, TwinNames, Size, Command, Run, Audit, Twin, Pooled, Make, Load, Convert, Public, Help, Version, BillNames, HideNames, Bill, Hide, InspectNames, Inspect, Registers, RegisterNames}
-use Rattle.commands.specs.Calls.{most_bytes, EndsAtFetch, IsRead, after_fetches, Unread, Putting, putting, PutsEnd, names_of, Unwritable}
+use Rattle.command_words.specs.declared.outcome.Outcome.TheVariants.{Done, NoMemory, BadWords, CannotRead, TooLong, CannotWrite, CannotPrint, BadPlan, BadReadings, BadTranscript, BadReport, Impossible, NotInTime, NotThisRun, OtherRow, OtherPlan, OtherLine, OtherPresence, OtherKnown, OtherTotal, OtherComponent, BadLane, NoPartner}
+use Rattle.command_words.specs.Words.{RunNames, Size, Command, Run, Ring, Audit, Twin, RingTwin, Pooled, Make, Load, Convert, Public, Help, Version, BillNames, HideNames, Bill, Hide, InspectNames, Inspect, Registers, RegisterNames, Resume}
+use Rattle.commands.specs.Calls.{most_bytes, IsRead, after_fetches, putting}
 use Rattle.transcript_text.specs.Spelling.{transcript_text}
-use Rattle.commands.specs.Ends.{fetched_by, put_by, converted_line, RefusesReadings, RunRefuses, RunEnds, audited_line, AuditCommandEnds, compared_by, moved_line, TwinCommandEnds, counted_line, PooledCommandEnds, made_plan_text, made_readings_text, made_line, MakeEnds, put_where, LoadRefuses, LoadEnds, ConvertRefuses, ConvertEnds, public_line, PublicRefuses, PublicEnds, Ends}
+use Rattle.commands.specs.Ends.{fetched_by, put_by, converted_line, RefusesReadings, RunRefuses, RunEndsBy, audited_line, AuditCommandEnds, made_plan_text, made_readings_text, made_line, MakeEnds, put_where, LoadRefuses, LoadEnds, ConvertRefuses, ConvertEnds, public_line, PublicRefuses, PublicEnds, Ends}
 use Rattle.commands.specs.Runs.{RefusesLane}
 use Rattle.command_words.specs.Outcomes.{status_of, IsFault}
-use Rattle.commands.specs.Accepted.{HoldsFile, RunAccepts, AuditAccepts, TwinAccepts, PooledAccepts, LoadAccepts, ConvertAccepts, PublicAccepts, InspectAccepts, Accepts, AcceptedIsDone, BillAccepts, HideAccepts, RegistersAccept}
+use Rattle.commands.specs.Accepted.{RunAccepts, AuditAccepts, LoadAccepts, ConvertAccepts, PublicAccepts, InspectAccepts, Accepts, AcceptedIsDone, BillAccepts, HideAccepts, RegistersAccept}
 use Rattle.commands.specs.RegisterEnds.{RefusesTables, RegistersEnds, RegistersRefuse, registers_fetched, registers_put}
 use Rattle.plan_files.specs.Registers.{tables_of}
 use Rattle.command_words.specs.declared.words.Period.{Period}
@@ -59,100 +44,11 @@ use Rattle.commands.specs.Billing.{Metered, AreMetered, MeteredRefuses, bills_in
 use Rattle.commands.specs.BillingEnds.{billed_by, bills_line, BillEnds, hidden_by, hidden_line, HideRefuses, HideEnds}
 use Rattle.run_course.specs.Beginnings.{IsSomeRun}
 use Rattle.commands.specs.Inspecting.{InspectBytes, AreInspectBytes, PublicTextRefuses, TextsRefuse, IsNotInTime, JudgeRefuses, InspectRefuses, inspected_by, line_of, InspectCommandEnds}
-use Rattle.commands.proofs.CommandEndings.{unwritable_puts}
-
--- ---- what was read
-
--- the bytes that were read are those that the name holds
-same_bytes : (held : Held) (told bytes : List ℕ) → held ≡ Some (Some told) → Holds held bytes → told ≡ bytes
-same_bytes held told bytes is holds =
-    let h : Holds (Some (Some told)) bytes = subst (λ held. Holds held bytes) is holds in
-    cc
-
-pub read_is : (v : View) (name told bytes : List ℕ) → HoldsFile v name told → IsRead (v.held name) bytes → told ≡ bytes
-read_is v name told bytes file is = same_bytes (v.held name) told bytes file.held is.0
-
-not_longer : (v : View) (name told last : List ℕ) → HoldsFile v name told → last ≡ name → IsLonger (v.held last) most_bytes → ⊥
-not_longer v name told last file is longer =
-    let here : IsLonger (v.held name) most_bytes = subst (λ n. IsLonger (v.held n) most_bytes) is longer in
-    let h : IsLonger (Some (Some told)) most_bytes = subst (λ held. IsLonger held most_bytes) file.held here in
-    let short = file.short in
-    omega arith
-
-ok_or_err : {A E : Type 0} (r : Result A E) (a : A) (e : E) → r ≡ Ok a → r ≡ Err e → ⊥
-ok_or_err r a e well refused = cc
-
-ok_same : {A E : Type 0} (r : Result A E) (a b : A) → r ≡ Ok a → r ≡ Ok b → a ≡ b
-ok_same r a b first second = cc
-
--- ---- ends that are none of refusals
-
--- the command is done, or found no memory, or ended with a fault of the desk
-abbrev pub IsCalm : Outcome → Type 0
-IsCalm outcome = IsFault outcome ⊎ ((status_of outcome ≡ 0) ⊎ (status_of outcome ≡ 1))
-
--- the ends of the puts
-pub puts_calm : (files : List Putting) (line : List ℕ) (v w : View) (outcome : Outcome) → PutsEnd files line v w outcome → IsCalm outcome
-puts_calm files line v w Done ends = inr (inl refl)
-puts_calm files line v w NoMemory ends = inr (inr refl)
-puts_calm files line v w BadWords ends = absurd ends
-puts_calm files line v w (CannotRead name) ends = absurd ends
-puts_calm files line v w (TooLong name) ends = absurd ends
-puts_calm files line v w (CannotWrite name) ends = inl tt
-puts_calm files line v w CannotPrint ends = inl tt
-puts_calm files line v w (BadPlan name fault) ends = absurd ends
-puts_calm files line v w (BadReadings name fault) ends = absurd ends
-puts_calm files line v w (BadTranscript name fault) ends = absurd ends
-puts_calm files line v w (BadReport name number) ends = absurd ends
-puts_calm files line v w (Impossible name number) ends = absurd ends
-puts_calm files line v w (NotInTime name number) ends = absurd ends
-puts_calm files line v w (OtherRow at from_frames reported) ends = absurd ends
-puts_calm files line v w (OtherPlan name) ends = absurd ends
-puts_calm files line v w (OtherLine name number expected) ends = absurd ends
-puts_calm files line v w (OtherPresence group round meter) ends = absurd ends
-puts_calm files line v w (OtherKnown group round meter) ends = absurd ends
-puts_calm files line v w (OtherTotal group round first second) ends = absurd ends
-puts_calm files line v w (BadLane fault) ends = absurd ends
-puts_calm files line v w (NoPartner group round meter) ends = absurd ends
-
--- a name that can't be written
-unwritable_calm : (files : List Putting) (v w : View) (outcome : Outcome) → Unwritable (names_of files) v w outcome → IsCalm outcome
-unwritable_calm files v w outcome ends = puts_calm files [] v w outcome (unwritable_puts files [] v w outcome ends)
-
--- fetches of which none finds too many bytes
-unread_calm : (names : List (List ℕ)) (v w : View) (outcome : Outcome)
-    → ((last : List ℕ) → EndsAtFetch names false v w last → IsLonger (v.held last) most_bytes → ⊥) → Unread names v w outcome → IsCalm outcome
-unread_calm names v w Done short ends = absurd ends
-unread_calm names v w NoMemory short ends = inr (inr refl)
-unread_calm names v w BadWords short ends = absurd ends
-unread_calm names v w (CannotRead name) short ends = inl tt
-unread_calm names v w (TooLong name) short ends = absurd (short name.now ends.0 ends.1)
-unread_calm names v w (CannotWrite name) short ends = absurd ends
-unread_calm names v w CannotPrint short ends = absurd ends
-unread_calm names v w (BadPlan name fault) short ends = absurd ends
-unread_calm names v w (BadReadings name fault) short ends = absurd ends
-unread_calm names v w (BadTranscript name fault) short ends = absurd ends
-unread_calm names v w (BadReport name line) short ends = absurd ends
-unread_calm names v w (Impossible name line) short ends = absurd ends
-unread_calm names v w (NotInTime name line) short ends = absurd ends
-unread_calm names v w (OtherRow at from_frames reported) short ends = absurd ends
-unread_calm names v w (OtherPlan name) short ends = absurd ends
-unread_calm names v w (OtherLine name line expected) short ends = absurd ends
-unread_calm names v w (OtherPresence group round meter) short ends = absurd ends
-unread_calm names v w (OtherKnown group round meter) short ends = absurd ends
-unread_calm names v w (OtherTotal group round first second) short ends = absurd ends
-unread_calm names v w (BadLane fault) short ends = absurd ends
-unread_calm names v w (NoPartner group round meter) short ends = absurd ends
-
-one_is_short : (v w : View) (name told : List ℕ) → HoldsFile v name told → (last : List ℕ) → EndsAtFetch (name ∷ []) false v w last → IsLonger (v.held last) most_bytes → ⊥
-one_is_short v w name told file last (inl here) longer = not_longer v name told last file here.0 longer
-one_is_short v w name told file last (inr none) longer = absurd none
-
-two_are_short : (v w : View) (one two told other : List ℕ) → HoldsFile v one told → HoldsFile v two other
-    → (last : List ℕ) → EndsAtFetch (one ∷ two ∷ []) false v w last → IsLonger (v.held last) most_bytes → ⊥
-two_are_short v w one two told other first second last (inl here) longer = not_longer v one told last first here.0 longer
-two_are_short v w one two told other first second last (inr (inl here)) longer = not_longer v two other last second here.0 longer
-two_are_short v w one two told other first second last (inr (inr none)) longer = absurd none
+use Rattle.commands.specs.declared.sharing.Sharing.{Sharing}
+use Rattle.commands.specs.declared.sharing.Sharing.TheVariants.{WithEach, WithNeighbours}
+use Rattle.commands.proofs.CalmLemmas.{read_is, ok_or_err, ok_same, IsCalm, puts_calm, unwritable_calm, unread_calm, one_is_short, two_are_short, three_are_short}
+use Rattle.commands.proofs.AcceptedResume.{resume_calm}
+use Rattle.commands.proofs.AcceptedTwins.{twin_calm, ring_twin_calm, pooled_calm}
 
 -- ---- `run`
 
@@ -188,22 +84,24 @@ nothing_refused cupboard names v p r (BadTranscript name fault) good p_read r_re
 nothing_refused cupboard names v p r (BadReport name line) good p_read r_read ends = absurd ends
 nothing_refused cupboard names v p r (Impossible name line) good p_read r_read ends = absurd ends
 nothing_refused cupboard names v p r (NotInTime name line) good p_read r_read ends = absurd ends
+nothing_refused cupboard names v p r (NotThisRun name line) good p_read r_read ends = absurd ends
 nothing_refused cupboard names v p r (OtherRow at from_frames reported) good p_read r_read ends = absurd ends
 nothing_refused cupboard names v p r (OtherPlan name) good p_read r_read ends = absurd ends
 nothing_refused cupboard names v p r (OtherLine name line expected) good p_read r_read ends = absurd ends
 nothing_refused cupboard names v p r (OtherPresence group round meter) good p_read r_read ends = absurd ends
 nothing_refused cupboard names v p r (OtherKnown group round meter) good p_read r_read ends = absurd ends
 nothing_refused cupboard names v p r (OtherTotal group round first second) good p_read r_read ends = absurd ends
+nothing_refused cupboard names v p r (OtherComponent group round least first second) good p_read r_read ends = absurd ends
 nothing_refused cupboard names v p r (BadLane fault) good p_read r_read ends = absurd (lanes_are_right cupboard names v good p fault p_read ends)
 nothing_refused cupboard names v p r (NoPartner group round meter) good p_read r_read ends = absurd ends
 
-run_calm : (cupboard : List Meaning) (names : RunNames) (v w : View) (outcome : Outcome) → RunAccepts cupboard names v → RunEnds cupboard names v w outcome → IsCalm outcome
-run_calm cupboard names v w outcome good (inl unread) =
+run_calm : (sharing : Sharing) (cupboard : List Meaning) (names : RunNames) (v w : View) (outcome : Outcome) → RunAccepts cupboard names v → RunEndsBy sharing cupboard names v w outcome → IsCalm outcome
+run_calm sharing cupboard names v w outcome good (inl unread) =
     unread_calm (fetched_by names) v w outcome (two_are_short v w names.plan names.readings good.plan_bytes good.readings_bytes good.plan good.readings) unread
-run_calm cupboard names v w outcome good (inr (p, r, p_read, r_read, inl refused)) = nothing_refused cupboard names v p r outcome good p_read r_read refused.0
-run_calm cupboard names v w outcome good (inr (p, r, p_read, r_read, inr (inl (values, ends)))) =
+run_calm sharing cupboard names v w outcome good (inr (p, r, p_read, r_read, inl refused)) = nothing_refused cupboard names v p r outcome good p_read r_read refused.0
+run_calm sharing cupboard names v w outcome good (inr (p, r, p_read, r_read, inr (inl (values, ends)))) =
     unwritable_calm (putting names.transcript [] ∷ putting names.report [] ∷ []) (after_fetches (fetched_by names) v) w outcome ends
-run_calm cupboard names v w outcome good (inr (p, r, p_read, r_read, inr (inr (texts, made, only, ends)))) =
+run_calm sharing cupboard names v w outcome good (inr (p, r, p_read, r_read, inr (inr (texts, made, only, ends)))) =
     puts_calm (put_by names texts) texts.summary (after_fetches (fetched_by names) v) w outcome ends
 
 -- ---- `registers`
@@ -239,12 +137,14 @@ registers_not_refused cupboard count names v p r (BadTranscript name fault) good
 registers_not_refused cupboard count names v p r (BadReport name line) good p_read r_read ends = absurd ends
 registers_not_refused cupboard count names v p r (Impossible name line) good p_read r_read ends = absurd ends
 registers_not_refused cupboard count names v p r (NotInTime name line) good p_read r_read ends = absurd ends
+registers_not_refused cupboard count names v p r (NotThisRun name line) good p_read r_read ends = absurd ends
 registers_not_refused cupboard count names v p r (OtherRow at from_frames reported) good p_read r_read ends = absurd ends
 registers_not_refused cupboard count names v p r (OtherPlan name) good p_read r_read ends = absurd ends
 registers_not_refused cupboard count names v p r (OtherLine name line expected) good p_read r_read ends = absurd ends
 registers_not_refused cupboard count names v p r (OtherPresence group round meter) good p_read r_read ends = absurd ends
 registers_not_refused cupboard count names v p r (OtherKnown group round meter) good p_read r_read ends = absurd ends
 registers_not_refused cupboard count names v p r (OtherTotal group round first second) good p_read r_read ends = absurd ends
+registers_not_refused cupboard count names v p r (OtherComponent group round least first second) good p_read r_read ends = absurd ends
 registers_not_refused cupboard count names v p r (BadLane fault) good p_read r_read ends = absurd (registers_lanes_are_right cupboard count names v good p fault p_read ends)
 registers_not_refused cupboard count names v p r (NoPartner group round meter) good p_read r_read ends = absurd ends
 
@@ -302,6 +202,7 @@ audit_not_refused transcript report v tb rb (Impossible name line) good t_read r
     let same = audited_same transcript report v good tb rb t rows t_read r_read texts in
     absurd (all_possible t k (subst (λ t. IsPossible t.plan.groups (lines_in t)) same.0 good.possible) first)
 audit_not_refused transcript report v tb rb (NotInTime name line) good t_read r_read ends = absurd ends
+audit_not_refused transcript report v tb rb (NotThisRun name line) good t_read r_read ends = absurd ends
 audit_not_refused transcript report v tb rb (OtherRow at one other) good t_read r_read (t, rows, texts, ends) =
     let same = audited_same transcript report v good tb rb t rows t_read r_read texts in
     absurd (no_difference t rows at one other (sym same.1 ∙ good.given ∙ ap rows_by_frames same.0) ends.first)
@@ -310,6 +211,7 @@ audit_not_refused transcript report v tb rb (OtherLine name line expected) good 
 audit_not_refused transcript report v tb rb (OtherPresence group round meter) good t_read r_read ends = absurd ends
 audit_not_refused transcript report v tb rb (OtherKnown group round meter) good t_read r_read ends = absurd ends
 audit_not_refused transcript report v tb rb (OtherTotal group round first second) good t_read r_read ends = absurd ends
+audit_not_refused transcript report v tb rb (OtherComponent group round least first second) good t_read r_read ends = absurd ends
 audit_not_refused transcript report v tb rb (BadLane fault) good t_read r_read ends = absurd ends
 audit_not_refused transcript report v tb rb (NoPartner group round meter) good t_read r_read ends = absurd ends
 
@@ -319,205 +221,6 @@ audit_calm transcript report v w outcome good (inl unread) =
 audit_calm transcript report v w outcome good (inr (tb, rb, t_read, r_read, inl refused)) = audit_not_refused transcript report v tb rb outcome good t_read r_read refused.0
 audit_calm transcript report v w outcome good (inr (tb, rb, t_read, r_read, inr (counts, audited, ends))) =
     puts_calm [] (audited_line counts.rows counts.totals) (after_fetches (transcript ∷ report ∷ []) v) w outcome ends
-
--- ---- `twin`
-
-four_are_short : (v w : View) (one two three four a b c d : List ℕ) → HoldsFile v one a → HoldsFile v two b → HoldsFile v three c → HoldsFile v four d
-    → (last : List ℕ) → EndsAtFetch (one ∷ two ∷ three ∷ four ∷ []) false v w last → IsLonger (v.held last) most_bytes → ⊥
-four_are_short v w one two three four a b c d first second third fourth last (inl here) longer = not_longer v one a last first here.0 longer
-four_are_short v w one two three four a b c d first second third fourth last (inr (inl here)) longer = not_longer v two b last second here.0 longer
-four_are_short v w one two three four a b c d first second third fourth last (inr (inr (inl here))) longer = not_longer v three c last third here.0 longer
-four_are_short v w one two three four a b c d first second third fourth last (inr (inr (inr (inl here)))) longer = not_longer v four d last fourth here.0 longer
-four_are_short v w one two three four a b c d first second third fourth last (inr (inr (inr (inr none)))) longer = absurd none
-
--- the four files are held with these bytes
-record FourHeld (names : TwinNames) (v : View) (bytes : TwinBytes) : Type 0 where
-  plan : HoldsFile v names.plan bytes.plan
-  readings : HoldsFile v names.readings bytes.readings
-  other : HoldsFile v names.other bytes.other
-  transcript : HoldsFile v names.transcript bytes.transcript
-
--- the bytes that were read are the ones that are held
-same_four : (names : TwinNames) (v : View) (held bytes : TwinBytes) → FourHeld names v held → AreReadBy names v bytes → held ≡ bytes
-same_four names v held bytes are read =
-    let plan : held.plan ≡ bytes.plan = read_is v names.plan held.plan bytes.plan are.plan read.plan in
-    let readings : held.readings ≡ bytes.readings = read_is v names.readings held.readings bytes.readings are.readings read.readings in
-    let other : held.other ≡ bytes.other = read_is v names.other held.other bytes.other are.other read.other in
-    let transcript : held.transcript ≡ bytes.transcript = read_is v names.transcript held.transcript bytes.transcript are.transcript read.transcript in
-    ap (λ p. record { plan = p; readings = held.readings; other = held.other; transcript = held.transcript }) plan
-    ∙ ap (λ r. record { plan = bytes.plan; readings = r; other = held.other; transcript = held.transcript }) readings
-    ∙ ap (λ o. record { plan = bytes.plan; readings = bytes.readings; other = o; transcript = held.transcript }) other
-    ∙ ap (λ t. record { plan = bytes.plan; readings = bytes.readings; other = bytes.other; transcript = t }) transcript
-
-four_calm : (names : TwinNames) (v w : View) (outcome : Outcome) (bytes : TwinBytes) → FourHeld names v bytes → Unread (compared_by names) v w outcome → IsCalm outcome
-four_calm names v w outcome bytes held unread =
-    unread_calm (compared_by names) v w outcome
-    (four_are_short v w names.plan names.readings names.other names.transcript bytes.plan bytes.readings bytes.other bytes.transcript
-    held.plan held.readings held.other held.transcript)
-    unread
-
--- no fault of the first three files is that of files with values
-plan_not_refused : (bytes : TwinBytes) (good : TwinValues) → AreTwinValues bytes good → (fault : FileError) → plan_of bytes.plan ≡ Err fault → ⊥
-plan_not_refused bytes good well fault bad = ok_or_err _ _ _ well.plan bad
-
-first_not_refused : (bytes : TwinBytes) (good : TwinValues) → AreTwinValues bytes good → (fault : FileError) → RefusesFirst bytes fault → ⊥
-first_not_refused bytes good well fault (file, plan, bad) =
-    let same : good.file ≡ file = ok_same _ _ _ well.plan plan in
-    ok_or_err _ _ _ (ap (λ f. readings_of f.plan bytes.readings) (sym same) ∙ well.first) bad
-
-second_not_refused : (bytes : TwinBytes) (good : TwinValues) → AreTwinValues bytes good → (fault : FileError) → RefusesSecond bytes fault → ⊥
-second_not_refused bytes good well fault (file, first, plan, is, bad) =
-    let same : good.file ≡ file = ok_same _ _ _ well.plan plan in
-    ok_or_err _ _ _ (ap (λ f. readings_of f.plan bytes.other) (sym same) ∙ well.second) bad
-
--- bytes have one value
-same_values : (bytes : TwinBytes) (good values : TwinValues) → AreTwinValues bytes good → AreTwinValues bytes values → good ≡ values
-same_values bytes good values well are =
-    let file : good.file ≡ values.file = ok_same _ _ _ well.plan are.plan in
-    let first : good.first ≡ values.first =
-    ok_same _ _ _ (ap (λ f. readings_of f.plan bytes.readings) (sym file) ∙ well.first) are.first
-    in
-    let second : good.second ≡ values.second =
-    ok_same _ _ _ (ap (λ f. readings_of f.plan bytes.other) (sym file) ∙ well.second) are.second
-    in
-    ap (λ f. record { file = f; first = good.first; second = good.second }) file
-    ∙ ap (λ x. record { file = values.file; first = x; second = good.second }) first
-    ∙ ap (λ y. record { file = values.file; first = values.first; second = y }) second
-
-twin_held : (names : TwinNames) (v : View) (good : TwinAccepts names v) → FourHeld names v good.bytes
-twin_held names v good = record { plan = good.plan; readings = good.readings; other = good.other; transcript = good.transcript }
-
--- an accepted transcript is that of the first table, and the second one agrees
-is_honest : (names : TwinNames) (v : View) (good : TwinAccepts names v)
-    → IsHonest (streams good.values.file.keys) good.values.first good.values.second good.bytes.transcript good.lines
-is_honest names v good =
-    let short = good.transcript.short in
-    let few : length good.bytes.transcript < 2 ^ 64 = omega arith in
-    let text = good.recorded.text_of in
-    record { sound = text.sound; text_is = text.text_is; few = few; plan_is = good.recorded.plan_is; lines_are = good.recorded.lines_are; agree = good.agree }
-
--- where twins are found, no cause but want of memory is answered
-no_cause : (error : TwinError) → error ≢ twin.Memory → FindsTwins (Err error) → ⊥
-no_cause (twin.Transcript refusal) known found = found
-no_cause twin.Head known found = found
-no_cause (twin.NotThis line expected other tick fate) known found = found
-no_cause (twin.Differ cause) known found = found
-no_cause twin.Memory known found = known refl
-
--- of which `twin` answers no cause
-none_compared : (names : TwinNames) (v : View) (good : TwinAccepts names v) (error : TwinError) → Compared good.bytes (Err error) → error ≢ twin.Memory → ⊥
-none_compared names v good error (values, are, ends) known =
-    let here : TwinEnds (streams good.values.file.keys) good.values.first good.values.second good.bytes.transcript (Err error) =
-    subst (λ values. TwinEnds (streams values.file.keys) values.first values.second good.bytes.transcript (Err error)) (sym (same_values good.bytes good.values values good.of_bytes are)) ends
-    in
-    no_cause error known (honest-have-twins (streams good.values.file.keys) good.values.first good.values.second good.bytes.transcript good.lines (Err error) (is_honest names v good) here)
-
-twin_not_refused : (names : TwinNames) (v : View) (good : TwinAccepts names v) (outcome : Outcome) → TwinRefuses names good.bytes outcome → IsCalm outcome
-twin_not_refused names v good Done ends = absurd ends
-twin_not_refused names v good NoMemory ends = inr (inr refl)
-twin_not_refused names v good BadWords ends = absurd ends
-twin_not_refused names v good (CannotRead name) ends = absurd ends
-twin_not_refused names v good (TooLong name) ends = absurd ends
-twin_not_refused names v good (CannotWrite name) ends = absurd ends
-twin_not_refused names v good CannotPrint ends = absurd ends
-twin_not_refused names v good (BadPlan name fault) ends = absurd (plan_not_refused good.bytes good.values good.of_bytes fault ends.1)
-twin_not_refused names v good (BadReadings name fault) (inl ends) = absurd (first_not_refused good.bytes good.values good.of_bytes fault ends.1)
-twin_not_refused names v good (BadReadings name fault) (inr ends) = absurd (second_not_refused good.bytes good.values good.of_bytes fault ends.1)
-twin_not_refused names v good (BadTranscript name fault) ends = absurd (none_compared names v good (twin.Transcript fault) ends.1 (λ is. cc))
-twin_not_refused names v good (BadReport name line) ends = absurd ends
-twin_not_refused names v good (Impossible name line) ends = absurd ends
-twin_not_refused names v good (NotInTime name line) ends = absurd ends
-twin_not_refused names v good (OtherRow at from_frames reported) ends = absurd ends
-twin_not_refused names v good (OtherPlan name) ends = absurd (none_compared names v good twin.Head ends.1 (λ is. cc))
-twin_not_refused names v good (OtherLine name line expected) (named, (found, ends)) = absurd (none_compared names v good (twin.NotThis line expected.line found expected.tick expected.fate) ends (λ is. cc))
-twin_not_refused names v good (OtherPresence group round meter) ends = absurd (none_compared names v good (twin.Differ (Presence group round meter)) ends (λ is. cc))
-twin_not_refused names v good (OtherKnown group round meter) ends = absurd ends
-twin_not_refused names v good (OtherTotal group round first second) ends = absurd (none_compared names v good (twin.Differ (Total group round first second)) ends (λ is. cc))
-twin_not_refused names v good (BadLane fault) ends = absurd ends
-twin_not_refused names v good (NoPartner group round meter) ends = absurd ends
-
-twin_calm : (names : TwinNames) (v w : View) (outcome : Outcome) → TwinAccepts names v → TwinCommandEnds names v w outcome → IsCalm outcome
-twin_calm names v w outcome good (inl unread) = four_calm names v w outcome good.bytes (twin_held names v good) unread
-twin_calm names v w outcome good (inr (bytes, read, inl refused)) =
-    twin_not_refused names v good outcome
-    (subst (λ bytes. TwinRefuses names bytes outcome) (sym (same_four names v good.bytes bytes (twin_held names v good) read)) refused.0)
-twin_calm names v w outcome good (inr (bytes, read, inr (rows, compared, ends))) =
-    puts_calm (putting names.masks (masks_text rows) ∷ []) (moved_line (length rows)) (after_fetches (compared_by names) v) w outcome ends
-
--- ---- `pooled`
-
-pooled_held : (known : List KnownMeter) (names : TwinNames) (v : View) (good : PooledAccepts known names v) → FourHeld names v good.bytes
-pooled_held known names v good = record { plan = good.plan; readings = good.readings; other = good.other; transcript = good.transcript }
-
--- the plan has each known meter
-not_outside : (known : List KnownMeter) (names : TwinNames) (v : View) (good : PooledAccepts known names v) (fault : FileError) → RefusesPlanFor known good.bytes fault → ⊥
-not_outside known names v good fault (inl bad) = plan_not_refused good.bytes good.values good.of_bytes fault bad
-not_outside known names v good fault (inr (file, plan, outside, fault_is)) =
-    let same : good.values.file ≡ file = ok_same _ _ _ good.of_bytes.plan plan in
-    false≢true (sym outside ∙ ap (λ f. are_in_plan f.plan known) (sym same) ∙ good.within)
-
--- an accepted transcript is that of the first table, and the second one agrees for the known meters
-is_honest_for : (known : List KnownMeter) (names : TwinNames) (v : View) (good : PooledAccepts known names v)
-    → IsHonestFor (is_known known) (streams good.values.file.keys) good.values.first good.values.second good.bytes.transcript good.lines
-is_honest_for known names v good =
-    let short = good.transcript.short in
-    let few : length good.bytes.transcript < 2 ^ 64 = omega arith in
-    let text = good.recorded.text_of in
-    record { sound = text.sound; text_is = text.text_is; few = few; plan_is = good.recorded.plan_is; lines_are = good.recorded.lines_are; agree = good.agree }
-
--- where twins are found for a pool, no cause but want of memory is answered
-no_cause_for : (error : PoolTwinError) → error ≢ pool_twin.Other twin.Memory → FindsPooledTwins (Err error) → ⊥
-no_cause_for (pool_twin.Known g r i) free found = found
-no_cause_for (pool_twin.Other (twin.Transcript refusal)) free found = found
-no_cause_for (pool_twin.Other twin.Head) free found = found
-no_cause_for (pool_twin.Other (twin.NotThis line expected other tick fate)) free found = found
-no_cause_for (pool_twin.Other (twin.Differ cause)) free found = found
-no_cause_for (pool_twin.Other twin.Memory) free found = free refl
-
--- of which `pooled_twin` answers no cause
-none_pooled : (known : List KnownMeter) (names : TwinNames) (v : View) (good : PooledAccepts known names v) (error : PoolTwinError) → PooledCompared known good.bytes (Err error)
-    → error ≢ pool_twin.Other twin.Memory → ⊥
-none_pooled known names v good error (values, are, within, ends) free =
-    let here : PooledTwinEnds (is_known known) (streams good.values.file.keys) good.values.first good.values.second good.bytes.transcript (Err error) =
-    subst (λ values. PooledTwinEnds (is_known known) (streams values.file.keys) values.first values.second good.bytes.transcript (Err error))
-    (sym (same_values good.bytes good.values values good.of_bytes are)) ends
-    in
-    no_cause_for error free
-    (honest-have-pooled (is_known known) (streams good.values.file.keys) good.values.first good.values.second good.bytes.transcript good.lines (Err error)
-    (is_honest_for known names v good) here)
-
-pooled_not_refused : (known : List KnownMeter) (names : TwinNames) (v : View) (good : PooledAccepts known names v) (outcome : Outcome) → PooledRefuses known names good.bytes outcome → IsCalm outcome
-pooled_not_refused known names v good Done ends = absurd ends
-pooled_not_refused known names v good NoMemory ends = inr (inr refl)
-pooled_not_refused known names v good BadWords ends = absurd ends
-pooled_not_refused known names v good (CannotRead name) ends = absurd ends
-pooled_not_refused known names v good (TooLong name) ends = absurd ends
-pooled_not_refused known names v good (CannotWrite name) ends = absurd ends
-pooled_not_refused known names v good CannotPrint ends = absurd ends
-pooled_not_refused known names v good (BadPlan name fault) ends = absurd (not_outside known names v good fault ends.1)
-pooled_not_refused known names v good (BadReadings name fault) (inl (named, (file, plan, within, bad))) = absurd (first_not_refused good.bytes good.values good.of_bytes fault (file, plan, bad))
-pooled_not_refused known names v good (BadReadings name fault) (inr (named, (file, first, plan, within, is, bad))) =
-    absurd (second_not_refused good.bytes good.values good.of_bytes fault (file, first, plan, is, bad))
-pooled_not_refused known names v good (BadTranscript name fault) ends = absurd (none_pooled known names v good (pool_twin.Other (twin.Transcript fault)) ends.1 (λ is. cc))
-pooled_not_refused known names v good (BadReport name line) ends = absurd ends
-pooled_not_refused known names v good (Impossible name line) ends = absurd ends
-pooled_not_refused known names v good (NotInTime name line) ends = absurd ends
-pooled_not_refused known names v good (OtherRow at from_frames reported) ends = absurd ends
-pooled_not_refused known names v good (OtherPlan name) ends = absurd (none_pooled known names v good (pool_twin.Other twin.Head) ends.1 (λ is. cc))
-pooled_not_refused known names v good (OtherLine name line expected) (named, (found, ends)) = absurd (none_pooled known names v good (pool_twin.Other (twin.NotThis line expected.line found expected.tick expected.fate)) ends (λ is. cc))
-pooled_not_refused known names v good (OtherPresence group round meter) ends = absurd (none_pooled known names v good (pool_twin.Other (twin.Differ (Presence group round meter))) ends (λ is. cc))
-pooled_not_refused known names v good (OtherKnown group round meter) ends = absurd (none_pooled known names v good (pool_twin.Known group round meter) ends (λ is. cc))
-pooled_not_refused known names v good (OtherTotal group round first second) ends = absurd (none_pooled known names v good (pool_twin.Other (twin.Differ (Total group round first second))) ends (λ is. cc))
-pooled_not_refused known names v good (BadLane fault) ends = absurd ends
-pooled_not_refused known names v good (NoPartner group round meter) ends = absurd ends
-
-pooled_calm : (known : List KnownMeter) (names : TwinNames) (v w : View) (outcome : Outcome) → PooledAccepts known names v → PooledCommandEnds known names v w outcome → IsCalm outcome
-pooled_calm known names v w outcome good (inl unread) = four_calm names v w outcome good.bytes (pooled_held known names v good) unread
-pooled_calm known names v w outcome good (inr (bytes, read, inl refused)) =
-    pooled_not_refused known names v good outcome
-    (subst (λ bytes. PooledRefuses known names bytes outcome) (sym (same_four names v good.bytes bytes (pooled_held known names v good) read)) refused.0)
-pooled_calm known names v w outcome good (inr (bytes, read, inr (rows, compared, ends))) =
-    puts_calm (putting names.masks (masks_text rows) ∷ []) (counted_line (codes "pooled") (length rows)) (after_fetches (compared_by names) v) w outcome ends
 
 -- ---- `make` and `load`
 
@@ -539,12 +242,14 @@ load_not_refused cupboard size (BadTranscript name fault) good ends = absurd end
 load_not_refused cupboard size (BadReport name line) good ends = absurd ends
 load_not_refused cupboard size (Impossible name line) good ends = absurd ends
 load_not_refused cupboard size (NotInTime name line) good ends = absurd ends
+load_not_refused cupboard size (NotThisRun name line) good ends = absurd ends
 load_not_refused cupboard size (OtherRow at one other) good ends = absurd ends
 load_not_refused cupboard size (OtherPlan name) good ends = absurd ends
 load_not_refused cupboard size (OtherLine name line expected) good ends = absurd ends
 load_not_refused cupboard size (OtherPresence group round meter) good ends = absurd ends
 load_not_refused cupboard size (OtherKnown group round meter) good ends = absurd ends
 load_not_refused cupboard size (OtherTotal group round first second) good ends = absurd ends
+load_not_refused cupboard size (OtherComponent group round least first second) good ends = absurd ends
 load_not_refused cupboard size (BadLane fault) good ends = absurd (ok_or_err _ _ _ good.lanes ends)
 load_not_refused cupboard size (NoPartner group round meter) good ends = absurd ends
 
@@ -578,12 +283,14 @@ text_not_refused old v bytes (BadTranscript name fault) good is ends = absurd (o
 text_not_refused old v bytes (BadReport name line) good is ends = absurd ends
 text_not_refused old v bytes (Impossible name line) good is ends = absurd ends
 text_not_refused old v bytes (NotInTime name line) good is ends = absurd ends
+text_not_refused old v bytes (NotThisRun name line) good is ends = absurd ends
 text_not_refused old v bytes (OtherRow at from_frames reported) good is ends = absurd ends
 text_not_refused old v bytes (OtherPlan name) good is ends = absurd ends
 text_not_refused old v bytes (OtherLine name line expected) good is ends = absurd ends
 text_not_refused old v bytes (OtherPresence group round meter) good is ends = absurd ends
 text_not_refused old v bytes (OtherKnown group round meter) good is ends = absurd ends
 text_not_refused old v bytes (OtherTotal group round first second) good is ends = absurd ends
+text_not_refused old v bytes (OtherComponent group round least first second) good is ends = absurd ends
 text_not_refused old v bytes (BadLane fault) good is ends = absurd ends
 text_not_refused old v bytes (NoPartner group round meter) good is ends = absurd ends
 
@@ -609,12 +316,14 @@ public_not_refused plan v bytes (BadTranscript name fault) good is ends = absurd
 public_not_refused plan v bytes (BadReport name line) good is ends = absurd ends
 public_not_refused plan v bytes (Impossible name line) good is ends = absurd ends
 public_not_refused plan v bytes (NotInTime name line) good is ends = absurd ends
+public_not_refused plan v bytes (NotThisRun name line) good is ends = absurd ends
 public_not_refused plan v bytes (OtherRow at from_frames reported) good is ends = absurd ends
 public_not_refused plan v bytes (OtherPlan name) good is ends = absurd ends
 public_not_refused plan v bytes (OtherLine name line expected) good is ends = absurd ends
 public_not_refused plan v bytes (OtherPresence group round meter) good is ends = absurd ends
 public_not_refused plan v bytes (OtherKnown group round meter) good is ends = absurd ends
 public_not_refused plan v bytes (OtherTotal group round first second) good is ends = absurd ends
+public_not_refused plan v bytes (OtherComponent group round least first second) good is ends = absurd ends
 public_not_refused plan v bytes (BadLane fault) good is ends = absurd ends
 public_not_refused plan v bytes (NoPartner group round meter) good is ends = absurd ends
 
@@ -625,13 +334,6 @@ public_calm plan public v w outcome good (inr (bytes, is, inr (file, value, agai
     puts_calm (putting public (public_text file.plan) ∷ []) (public_line (length file.plan.groups) file.plan.rounds) (after_fetches (plan ∷ []) v) w outcome ends
 
 -- ---- `inspect`
-
-three_are_short : (v w : View) (one two three a b c : List ℕ) → HoldsFile v one a → HoldsFile v two b → HoldsFile v three c
-    → (last : List ℕ) → EndsAtFetch (one ∷ two ∷ three ∷ []) false v w last → IsLonger (v.held last) most_bytes → ⊥
-three_are_short v w one two three a b c first second third last (inl here) longer = not_longer v one a last first here.0 longer
-three_are_short v w one two three a b c first second third last (inr (inl here)) longer = not_longer v two b last second here.0 longer
-three_are_short v w one two three a b c first second third last (inr (inr (inl here))) longer = not_longer v three c last third here.0 longer
-three_are_short v w one two three a b c first second third last (inr (inr (inr none))) longer = absurd none
 
 -- the bytes that were read are the accepted ones
 same_inspected : (names : InspectNames) (v : View) (good : InspectAccepts names v) (bytes : InspectBytes) → AreInspectBytes names v bytes → good.bytes ≡ bytes
@@ -761,10 +463,13 @@ hide_calm names period place v w outcome good (inr (bytes, read, inr (p, y, of, 
 -- ---- all commands
 
 command_calm : (cupboard : List Meaning) (command : Command) (v w : View) (outcome : Outcome) → Accepts cupboard command v → Ends cupboard (Some command) v w outcome → IsCalm outcome
-command_calm cupboard (Run names workers) v w outcome good ends = run_calm cupboard names v w outcome good ends
+command_calm cupboard (Run names workers) v w outcome good ends = run_calm WithEach cupboard names v w outcome good ends
+command_calm cupboard (Ring width names workers) v w outcome good ends = run_calm (WithNeighbours width) cupboard names v w outcome good ends
+command_calm cupboard (Resume names workers) v w outcome good ends = resume_calm cupboard names v w outcome good ends
 command_calm cupboard (Registers count names workers) v w outcome good ends = registers_calm cupboard count names v w outcome good ends
 command_calm cupboard (Audit transcript report) v w outcome good ends = audit_calm transcript report v w outcome good ends
 command_calm cupboard (Twin names) v w outcome good ends = twin_calm names v w outcome good ends
+command_calm cupboard (RingTwin width names) v w outcome good ends = ring_twin_calm width names v w outcome good ends
 command_calm cupboard (Pooled known names) v w outcome good ends = pooled_calm known names v w outcome good ends
 command_calm cupboard (Make size plan readings) v w outcome good ends = make_calm size plan readings v w outcome ends
 command_calm cupboard (Load size workers transcript) v w outcome good ends = load_calm cupboard size transcript v w outcome good ends

@@ -1,14 +1,15 @@
 -- A transcript's file that is written ahead.
-use Rattle.std.proofs.Common.{◌≡◌, ◌+◌, ◌-◌, ◌^◌, ◌<◌, ◌≤◌, ℕ, min, zero, suc, List, [], ◌∷◌, ◌++◌, length, take, refl, sym, ap, ◌∙◌, subst, length-append, append-nil, arith}
-use Rattle.std.proofs.lemmas.List.{length-take-le}
+use Rattle.std.proofs.Common.{◌≡◌, ◌<◌, ◌≤◌, ◌-◌, ◌^◌, ℕ, min, zero, suc, Bool, true, List, [], ◌∷◌, ◌++◌, length, take, drop, refl, sym, ap, ◌∙◌, subst, length-append, arith, ◌+◌}
+use Rattle.std.specs.Prelude.{Option, Some, None, IfSome}
+use Rattle.std.proofs.lemmas.List.{length-take-le, take-append-le, take_all, take-append-drop}
 use Rattle.group_plan.specs.Plans.{PlanView}
 use Rattle.transcript_log.specs.declared.Entry.{Entry}
 use Rattle.transcript_log.specs.Transcripts.{TranscriptView}
 use Rattle.transcript_text.specs.Writing.{lines_text, begun_text}
 use Rattle.transcript_text.specs.Spelling.{transcript_text}
 use Rattle.transcript_text.proofs.BegunText.{begun_more}
-use Rattle.tick_run.specs.Recorded.{IsRecorded, Records}
-use Rattle.commands.specs.Ahead.{text_ahead, IsAhead}
+use Rattle.tick_run.specs.Runs.{RunView, MakesTicks, told_by}
+use Rattle.commands.specs.Ahead.{text_ahead, IsAhead, IsNext, SameFile}
 
 -- the text ahead, once a part is written behind it
 ahead-first : (plan : PlanView) (es part : List Entry) → length es ≡ 0 → 0 < length part → text_ahead plan es ++ begun_text plan part ≡ text_ahead plan (es ++ part)
@@ -29,66 +30,59 @@ ahead-none : (plan : PlanView) (es : List Entry) → length es ≡ 0 → text_ah
 ahead-none plan [] none = refl
 ahead-none plan (e ∷ es) none = absurd (omega (arith, none))
 
--- a count of entries, up to the most that it can say
-abbrev most : ℕ
-most = 2 ^ 64 - 1
+-- ---- the file
 
--- the file once a part is appended: the first one with the head, the others without it
-module _ {B : Type 0} (has : B → List ℕ → Type 0) (file after : B) (part : TranscriptView) (rest : List ℕ) (some : 0 < length part.entries)
-    (grows : (bytes : List ℕ) → has file bytes → has after (bytes ++ rest)) where
-  has-after : (before : TranscriptView) → has file (text_ahead before.plan before.entries)
-      → text_ahead before.plan before.entries ++ rest ≡ text_ahead before.plan (before.entries ++ part.entries)
-      → has after (text_ahead before.plan (before.entries ++ part.entries))
-  has-after before is text = subst (has after) text (grows (text_ahead before.plan before.entries) is)
+-- it has nothing yet
+pub ahead-fresh : {B : Type 0} (has : B → List ℕ → Type 0) (file : B) (t : TranscriptView) → has file [] → IsAhead has file 0 t
+ahead-fresh has file t is =
+    let long = length-take-le 0 t.entries (omega arith) in
+    record { within = omega arith; text = subst (has file) (sym (ahead-none t.plan (take 0 t.entries) (omega (arith, long)))) is }
 
-  text-after : (entries : ℕ) (before : TranscriptView) → before.plan ≡ part.plan → entries ≡ min (length before.entries) most
-      → (entries ≡ 0 → rest ≡ begun_text part.plan part.entries) → (0 < entries → rest ≡ lines_text part.entries)
-      → text_ahead before.plan before.entries ++ rest ≡ text_ahead before.plan (before.entries ++ part.entries)
-  text-after zero before plan count first next =
-      ap (λ l. text_ahead before.plan before.entries ++ l) (first refl ∙ ap (λ p. begun_text p part.entries) (sym plan))
-      ∙ ahead-first before.plan before.entries part.entries (omega (arith, count)) some
-  text-after (suc n) before plan count first next =
-      ap (λ l. text_ahead before.plan before.entries ++ l) (next (omega arith))
-      ∙ ahead-then before.plan before.entries part.entries (omega (arith, count))
+-- what comes next is written behind the text ahead: the first part with the head, the others without it
+next-text : (plan : PlanView) (es : List Entry) (count : ℕ) (rest : List ℕ) → count < length es
+    → (count ≡ 0 → rest ≡ begun_text plan (drop count es)) → (0 < count → rest ≡ lines_text (drop count es))
+    → text_ahead plan (take count es) ++ rest ≡ text_ahead plan es
+next-text plan es zero rest some first next =
+    let long = length-take-le 0 es (omega arith) in
+    let parts = take-append-drop 0 es in
+    let both = ap length parts in
+    let added = length-append (take 0 es) (drop 0 es) in
+    ap (λ l. text_ahead plan (take 0 es) ++ l) (first refl)
+    ∙ ahead-first plan (take 0 es) (drop 0 es) (omega (arith, long)) (omega (arith, some, long, both, added))
+    ∙ ap (text_ahead plan) parts
+next-text plan es (suc n) rest some first next =
+    let long = length-take-le (suc n) es (omega (arith, some)) in
+    ap (λ l. text_ahead plan (take (suc n) es) ++ l) (next (omega arith))
+    ∙ ahead-then plan (take (suc n) es) (drop (suc n) es) (omega (arith, long))
+    ∙ ap (text_ahead plan) (take-append-drop (suc n) es)
 
-  pub part-appended : (entries more now : ℕ) → more ≡ length part.entries → now ≡ min (entries + more) most
-      → (entries ≡ 0 → rest ≡ begun_text part.plan part.entries) → (0 < entries → rest ≡ lines_text part.entries)
-      → Records (IsAhead has file entries) (IsAhead has after now) part
-  part-appended entries more now more_is now_is first next = record {
-    by = λ before plan ahead.
-        let count = ahead.0 in
-        let long = length-append before.entries part.entries in (
-          omega (arith, count, long, more_is, now_is),
-          has-after before ahead.1 (text-after entries before plan ahead.0 first next),
-        );
-  }
+pub ahead-next : {B : Type 0} (has : B → List ℕ → Type 0) (file after : B) (count more all : ℕ) (t part : TranscriptView) (rest : List ℕ) → more ≡ length part.entries → all ≡ min (count + more) (2 ^ 64 - 1)
+    → (count ≡ 0 → rest ≡ begun_text part.plan part.entries) → (0 < count → rest ≡ lines_text part.entries)
+    → ((bytes : List ℕ) → has file bytes → has after (bytes ++ rest)) → IsNext count t part → IsAhead has file count t → IsAhead has after all t
+ahead-next has file after count more all t part rest more_is all_is first next grows is ahead =
+    let some = is.some in
+    let few = is.few in
+    let text = next-text t.plan t.entries count rest is.some
+    (λ none. first none ∙ ap (λ (p : TranscriptView). begun_text p.plan p.entries) is.is)
+    (λ some. next some ∙ ap (λ (p : TranscriptView). lines_text p.entries) is.is) in
+    let left = ap (λ (p : TranscriptView). length p.entries) is.is in
+    let parts = ap length (take-append-drop count t.entries) in
+    let added = length-append (take count t.entries) (drop count t.entries) in
+    let long = length-take-le count t.entries ahead.within in
+    record {
+      within = omega (arith, some, few, left, parts, added, long, more_is, all_is);
+      text = subst (λ es. has after (text_ahead t.plan es)) (sym (take_all all t.entries (omega (arith, some, few, left, parts, added, long, more_is, all_is)))) (subst (has after) text (grows (text_ahead t.plan (take count t.entries)) ahead.text));
+    }
 
-empty : (es : List Entry) → length es ≡ 0 → es ≡ []
-empty [] none = refl
-empty (e ∷ es) none = absurd (omega (arith, none))
-
--- an empty part changes nothing
-pub none-appended : {B : Type 0} (has : B → List ℕ → Type 0) (file : B) (entries : ℕ) (part : TranscriptView) → length part.entries ≡ 0
-    → Records (IsAhead has file entries) (IsAhead has file entries) part
-none-appended has file entries part none = record {
-  by = λ before plan ahead.
-      subst (λ es. IsAhead has file entries (record before { entries = es }))
-      (sym (ap (λ l. before.entries ++ l) (empty part.entries none) ∙ append-nil before.entries)) ahead;
-}
-
--- so many entries of a transcript are ahead
-ahead-count : {B : Type 0} (has : B → List ℕ → Type 0) (file : B) (entries : ℕ) (t : TranscriptView) → length t.entries < 2 ^ 63 → IsRecorded (IsAhead has file entries) t
-    → (entries ≤ length t.entries) × ((count : ℕ) × (count ≡ entries) × has file (text_ahead t.plan (take count t.entries)))
-ahead-count has file entries t few recorded =
-    let at = recorded.is in
-    let within = at.within in
-    let count = at.kept.0 in
-    let long = length-take-le recorded.count t.entries at.within in
-    (omega (arith, count, long, within, few), (recorded.count, omega (arith, count, long, within, few), at.kept.1))
-
-pub ahead-within : {B : Type 0} (has : B → List ℕ → Type 0) (file : B) (entries : ℕ) (t : TranscriptView) → length t.entries < 2 ^ 63 → IsRecorded (IsAhead has file entries) t
-    → entries ≤ length t.entries
-ahead-within has file entries t few recorded = (ahead-count has file entries t few recorded).0
+-- entries that come behind those of a run leave it ahead
+pub ahead-ticks : {B M : Type 0} (has : B → List ℕ → Type 0) (file : B) (count ticks : ℕ) (run now : RunView M) → MakesTicks ticks run now → IsAhead has file count (told_by run) → IsAhead has file count (told_by now)
+ahead-ticks has file count ticks run now makes ahead =
+    let within = ahead.within in
+    let long = length-append run.entries makes.more in
+    subst (λ (v : RunView _). IsAhead has file count (told_by v)) (sym makes.is) (record {
+      within = omega (arith, within, long);
+      text = subst (λ es. has file (text_ahead run.readings.plan es)) (sym (take-append-le count run.entries makes.more ahead.within)) ahead.text;
+    })
 
 -- what is left of the text behind the first entries
 left-behind : (t : TranscriptView) (entries : ℕ) (rest : List ℕ) → entries ≤ length t.entries → (entries ≡ 0 → rest ≡ transcript_text t)
@@ -101,11 +95,36 @@ left-behind t (suc n) rest within whole left =
     ap (λ l. l ++ rest) (ahead-some t.plan (take (suc n) t.entries) (omega (arith, long))) ∙ left (omega arith)
 
 -- with what is left behind them the file has the whole text
-pub ahead-finished : {B : Type 0} (has : B → List ℕ → Type 0) (file after : B) (entries : ℕ) (t : TranscriptView) (rest : List ℕ) → length t.entries < 2 ^ 63
-    → IsRecorded (IsAhead has file entries) t → (entries ≡ 0 → rest ≡ transcript_text t)
+pub ahead-finished : {B : Type 0} (has : B → List ℕ → Type 0) (file after : B) (entries : ℕ) (t : TranscriptView) (rest : List ℕ) → IsAhead has file entries t → (entries ≡ 0 → rest ≡ transcript_text t)
     → (0 < entries → begun_text t.plan (take entries t.entries) ++ rest ≡ transcript_text t) → ((bytes : List ℕ) → has file bytes → has after (bytes ++ rest))
     → has after (transcript_text t)
-ahead-finished has file after entries t rest few recorded whole left grows =
-    let counted = ahead-count has file entries t few recorded in
-    let here : has file (text_ahead t.plan (take entries t.entries)) = subst (λ n. has file (text_ahead t.plan (take n t.entries))) counted.1.1 counted.1.2 in
-    subst (has after) (left-behind t entries rest counted.0 whole left) (grows (text_ahead t.plan (take entries t.entries)) here)
+ahead-finished has file after entries t rest ahead whole left grows =
+    subst (has after) (left-behind t entries rest ahead.within whole left) (grows (text_ahead t.plan (take entries t.entries)) ahead.text)
+
+-- ---- where there is a file
+
+module _ {A : Type 0} (name : A → List ℕ) (failed : A → Bool) where
+  pub same-file : (o : Option A) → SameFile o o name failed
+  same-file None = tt
+  same-file (Some a) = (refl, λ is. is)
+
+  pub same-then : (o p q : Option A) → SameFile o p name failed → SameFile p q name failed → SameFile o q name failed
+  same-then None None None first next = tt
+  same-then (Some a) (Some b) (Some c) first next = (next.0 ∙ first.0, λ is. next.1 (first.1 is))
+  same-then None (Some b) q first next = absurd first
+  same-then (Some a) None q first next = absurd first
+  same-then None None (Some c) first next = absurd next
+  same-then (Some a) (Some b) None first next = absurd next
+
+  pub same-some : (a b : A) (o : Option A) → o ≡ Some b → SameFile (Some a) o name failed → (name b ≡ name a) × (failed a ≡ true → failed b ≡ true)
+  same-some a b o is same = subst (λ (p : Option A). SameFile (Some a) p name failed) is same
+
+  pub never-none : (a : A) (o : Option A) → o ≡ None → SameFile (Some a) o name failed → ⊥
+  never-none a o is same = subst (λ (p : Option A). SameFile (Some a) p name failed) is same
+
+pub some-by : {A : Type 0} (P Q : A → Type 0) (o : Option A) → ((a : A) → P a → Q a) → IfSome o P → IfSome o Q
+some-by P Q None by all = tt
+some-by P Q (Some a) by all = by a all
+
+pub some-is : {A : Type 0} (P : A → Type 0) (a : A) (o : Option A) → o ≡ Some a → IfSome o P → P a
+some-is P a o is all = subst (λ (p : Option _). IfSome p P) is all

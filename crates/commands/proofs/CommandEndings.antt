@@ -15,15 +15,13 @@ use Rattle.commands.specs.declared.texts.Refusal.{Refusal}
 use Rattle.commands.specs.declared.texts.Refusal.TheVariants as refusal
 use Rattle.commands.specs.RunTexts.{TextsEnd}
 use Rattle.command_words.specs.declared.outcome.Outcome.{Outcome}
-use Rattle.command_words.specs.declared.outcome.Outcome.TheVariants.{Done, NoMemory, BadWords, CannotRead, TooLong, CannotWrite, CannotPrint, BadPlan, BadReadings, BadTranscript, BadReport, Impossible, NotInTime, OtherRow, OtherPlan, OtherLine, OtherPresence, OtherKnown, OtherTotal, BadLane, NoPartner}
+use Rattle.command_words.specs.declared.outcome.Outcome.TheVariants.{Done, NoMemory, BadWords, CannotRead, TooLong, CannotWrite, CannotPrint, BadPlan, BadReadings, BadTranscript, BadReport, Impossible, NotInTime, NotThisRun, OtherRow, OtherPlan, OtherLine, OtherPresence, OtherKnown, OtherTotal, OtherComponent, BadLane, NoPartner}
 use Rattle.twin_worlds.specs.declared.rows.MovedRow.{MovedRow}
 use Rattle.twin_worlds.specs.MasksText.{masks_text}
 use Rattle.commands.specs.Twins.{TwinBytes, AreReadBy}
-use Rattle.commands.specs.Pooled.{PooledCompared, PooledRefuses}
-use Rattle.command_words.specs.declared.known.KnownMeter.{KnownMeter}
 use Rattle.command_words.specs.Words.{RunNames, TwinNames, Size}
 use Rattle.commands.specs.Calls.{most_bytes, HasFetched, EndsAtFetch, Unread, IsRead, after_fetches, Putting, putting, HasPut, names_of, Unwritable, PutsEnd}
-use Rattle.commands.specs.Ends.{fetched_by, put_by, RunEnds, RefusesReadings, audited_line, AuditCommandEnds, compared_by, counted_line, PooledEndsAs, made_file_of, made_plan_text, made_readings_text, IsMade, put_where, LoadEnds, converted_line, ConvertEnds}
+use Rattle.commands.specs.Ends.{fetched_by, put_by, RunEndsBy, RefusesReadings, audited_line, AuditCommandEnds, compared_by, counted_line, MovedAreSaid, ComparedEndsAs, made_file_of, made_plan_text, made_readings_text, IsMade, put_where, LoadEnds, converted_line, ConvertEnds}
 use Rattle.audit_check.specs.declared.answers.AuditCounts.{AuditCounts}
 use Rattle.plan_files.specs.declared.fault.FileError.{FileError}
 use Rattle.plan_files.specs.PlanFiles.{plan_of}
@@ -31,7 +29,9 @@ use Rattle.plan_files.specs.Readings.{readings_of}
 use Rattle.load_maker.specs.Made.{made_plan, made_file, made_readings}
 use Rattle.load_maker.specs.MadeFiles.{AreRead}
 use Rattle.commands.specs.Audits.{Audited, ReportRefuses, AuditRefuses}
-use Rattle.commands.specs.Runs.{HasValues, Texts, Makes, RefusesLane}
+use Rattle.commands.specs.declared.sharing.Sharing.{Sharing}
+use Rattle.commands.specs.declared.sharing.Sharing.TheVariants.{WithEach}
+use Rattle.commands.specs.Runs.{HasValues, Texts, MakesBy, Makes, RefusesLane}
 use Rattle.commands.proofs.RunLemmas.{is_only}
 
 -- ---- fetches
@@ -73,12 +73,14 @@ then_unread names more v u w (BadTranscript name fault) after ends = absurd ends
 then_unread names more v u w (BadReport name line) after ends = absurd ends
 then_unread names more v u w (Impossible name line) after ends = absurd ends
 then_unread names more v u w (NotInTime name line) after ends = absurd ends
+then_unread names more v u w (NotThisRun name line) after ends = absurd ends
 then_unread names more v u w (OtherRow at from_frames reported) after ends = absurd ends
 then_unread names more v u w (OtherPlan name) after ends = absurd ends
 then_unread names more v u w (OtherLine name line expected) after ends = absurd ends
 then_unread names more v u w (OtherPresence group round meter) after ends = absurd ends
 then_unread names more v u w (OtherKnown group round meter) after ends = absurd ends
 then_unread names more v u w (OtherTotal group round first second) after ends = absurd ends
+then_unread names more v u w (OtherComponent group round least first second) after ends = absurd ends
 then_unread names more v u w (BadLane fault) after ends = absurd ends
 then_unread names more v u w (NoPartner group round meter) after ends = absurd ends
 
@@ -111,12 +113,14 @@ unwritable_puts files line v w (BadTranscript name fault) ends = absurd ends
 unwritable_puts files line v w (BadReport name number) ends = absurd ends
 unwritable_puts files line v w (Impossible name number) ends = absurd ends
 unwritable_puts files line v w (NotInTime name number) ends = absurd ends
+unwritable_puts files line v w (NotThisRun name number) ends = absurd ends
 unwritable_puts files line v w (OtherRow at from_frames reported) ends = absurd ends
 unwritable_puts files line v w (OtherPlan name) ends = absurd ends
 unwritable_puts files line v w (OtherLine name number expected) ends = absurd ends
 unwritable_puts files line v w (OtherPresence group round meter) ends = absurd ends
 unwritable_puts files line v w (OtherKnown group round meter) ends = absurd ends
 unwritable_puts files line v w (OtherTotal group round first second) ends = absurd ends
+unwritable_puts files line v w (OtherComponent group round least first second) ends = absurd ends
 unwritable_puts files line v w (BadLane fault) ends = absurd ends
 unwritable_puts files line v w (NoPartner group round meter) ends = absurd ends
 
@@ -130,13 +134,13 @@ puts_named n m first second one two line v w outcome n_is m_is ends =
 -- ---- `run`, `convert`, `audit` and `load`
 
 -- the texts of a run are put and said
-pub run_ends : (cupboard : List Meaning) (names : RunNames) (v u w : View) (texts : Texts) (outcome : Outcome) (plan readings p r transcript report summary : List ℕ)
+pub run_ends : (sharing : Sharing) (cupboard : List Meaning) (names : RunNames) (v u w : View) (texts : Texts) (outcome : Outcome) (plan readings p r transcript report summary : List ℕ)
     → IsRead (v.held names.plan) plan → IsRead (v.held names.readings) readings → u ≡ after_fetches (fetched_by names) v → p ≡ plan → r ≡ readings
-    → Makes cupboard p r texts → transcript ≡ texts.transcript → report ≡ texts.report → summary ≡ texts.summary
-    → PutsEnd (putting names.transcript transcript ∷ putting names.report report ∷ []) summary u w outcome → RunEnds cupboard names v w outcome
-run_ends cupboard names v u w texts outcome plan readings p r transcript report summary plan_read readings_read after plan_is readings_is made t_is r_is s_is ends =
-    let made_here : Makes cupboard plan readings texts =
-    subst (λ bytes. Makes cupboard plan bytes texts) readings_is (subst (λ bytes. Makes cupboard bytes r texts) plan_is made)
+    → MakesBy sharing cupboard p r texts → transcript ≡ texts.transcript → report ≡ texts.report → summary ≡ texts.summary
+    → PutsEnd (putting names.transcript transcript ∷ putting names.report report ∷ []) summary u w outcome → RunEndsBy sharing cupboard names v w outcome
+run_ends sharing cupboard names v u w texts outcome plan readings p r transcript report summary plan_read readings_read after plan_is readings_is made t_is r_is s_is ends =
+    let made_here : MakesBy sharing cupboard plan readings texts =
+    subst (λ bytes. MakesBy sharing cupboard plan bytes texts) readings_is (subst (λ bytes. MakesBy sharing cupboard bytes r texts) plan_is made)
     in
     let by_transcript : PutsEnd (putting names.transcript texts.transcript ∷ putting names.report report ∷ []) summary u w outcome =
     subst (λ t. PutsEnd (putting names.transcript t ∷ putting names.report report ∷ []) summary u w outcome) t_is ends
@@ -148,15 +152,15 @@ run_ends cupboard names v u w texts outcome plan readings p r transcript report 
     let here : PutsEnd (put_by names texts) texts.summary (after_fetches (fetched_by names) v) w outcome =
     subst (λ u. PutsEnd (put_by names texts) texts.summary u w outcome) after by_summary
     in
-    inr (plan, readings, plan_read, readings_read, inr (inr (texts, made_here, is_only cupboard plan readings texts made_here, here)))
+    inr (plan, readings, plan_read, readings_read, inr (inr (texts, made_here, is_only sharing cupboard plan readings texts made_here, here)))
 
 -- the files of a run have values, but a name can't be written
-pub run_unwritable : (cupboard : List Meaning) (names : RunNames) (v u w : View) (outcome : Outcome) (why : Refusal) (plan readings p r : List ℕ) (is_writable : Bool) (n m : List ℕ)
+pub run_unwritable : (sharing : Sharing) (cupboard : List Meaning) (names : RunNames) (v u w : View) (outcome : Outcome) (why : Refusal) (plan readings p r : List ℕ) (is_writable : Bool) (n m : List ℕ)
     → IsRead (v.held names.plan) plan → IsRead (v.held names.readings) readings → u ≡ after_fetches (fetched_by names) v → p ≡ plan → r ≡ readings
-    → why ≡ refusal.Unwritable → TextsEnd cupboard p r is_writable (Err why) → n ≡ names.transcript → m ≡ names.report
-    → Unwritable (n ∷ m ∷ []) u w outcome → RunEnds cupboard names v w outcome
-run_unwritable cupboard names v u w outcome why plan readings p r is_writable n m plan_read readings_read after plan_is readings_is why_is ends n_is m_is unwritable =
-    let values : HasValues cupboard p r = (subst (λ why. TextsEnd cupboard p r is_writable (Err why)) why_is ends).1 in
+    → why ≡ refusal.Unwritable → TextsEnd sharing cupboard p r is_writable (Err why) → n ≡ names.transcript → m ≡ names.report
+    → Unwritable (n ∷ m ∷ []) u w outcome → RunEndsBy sharing cupboard names v w outcome
+run_unwritable sharing cupboard names v u w outcome why plan readings p r is_writable n m plan_read readings_read after plan_is readings_is why_is ends n_is m_is unwritable =
+    let values : HasValues cupboard p r = (subst (λ why. TextsEnd sharing cupboard p r is_writable (Err why)) why_is ends).1 in
     let here : HasValues cupboard plan readings =
     subst (λ bytes. HasValues cupboard plan bytes) readings_is (subst (λ bytes. HasValues cupboard bytes r) plan_is values)
     in
@@ -166,28 +170,28 @@ run_unwritable cupboard names v u w outcome why plan readings p r is_writable n 
     inr (plan, readings, plan_read, readings_read, inr (inl (here, subst (λ u. Unwritable (names.transcript ∷ names.report ∷ []) u w outcome) after by_names)))
 
 -- the plan file of a run is refused
-pub run_refuses_plan : (cupboard : List Meaning) (names : RunNames) (v w : View) (name : Bor (List ℕ)) (fault got : FileError) (why : Refusal) (is_writable : Bool) (plan readings p r : List ℕ)
+pub run_refuses_plan : (sharing : Sharing) (cupboard : List Meaning) (names : RunNames) (v w : View) (name : Bor (List ℕ)) (fault got : FileError) (why : Refusal) (is_writable : Bool) (plan readings p r : List ℕ)
     → IsRead (v.held names.plan) plan → IsRead (v.held names.readings) readings → w ≡ after_fetches (fetched_by names) v → p ≡ plan
-    → name.now ≡ names.plan → why ≡ refusal.Plan fault → TextsEnd cupboard p r is_writable (Err why) → got ≡ fault → RunEnds cupboard names v w (BadPlan name got)
-run_refuses_plan cupboard names v w name fault got why is_writable plan readings p r plan_read readings_read after plan_is name_is why_is ends same =
-    let refuses : plan_of p ≡ Err fault = subst (λ why. TextsEnd cupboard p r is_writable (Err why)) why_is ends in
+    → name.now ≡ names.plan → why ≡ refusal.Plan fault → TextsEnd sharing cupboard p r is_writable (Err why) → got ≡ fault → RunEndsBy sharing cupboard names v w (BadPlan name got)
+run_refuses_plan sharing cupboard names v w name fault got why is_writable plan readings p r plan_read readings_read after plan_is name_is why_is ends same =
+    let refuses : plan_of p ≡ Err fault = subst (λ why. TextsEnd sharing cupboard p r is_writable (Err why)) why_is ends in
     inr (plan, readings, plan_read, readings_read, inl ((name_is, subst (λ f. plan_of plan ≡ Err f) (sym same) (ap plan_of (sym plan_is) ∙ refuses)), after))
 
 -- a lane row of a run is refused
-pub run_refuses_lane : (cupboard : List Meaning) (names : RunNames) (v w : View) (fault got : RackError) (why : Refusal) (is_writable : Bool) (plan readings p r : List ℕ)
+pub run_refuses_lane : (sharing : Sharing) (cupboard : List Meaning) (names : RunNames) (v w : View) (fault got : RackError) (why : Refusal) (is_writable : Bool) (plan readings p r : List ℕ)
     → IsRead (v.held names.plan) plan → IsRead (v.held names.readings) readings → w ≡ after_fetches (fetched_by names) v → p ≡ plan → r ≡ readings
-    → why ≡ refusal.Lane fault → TextsEnd cupboard p r is_writable (Err why) → got ≡ fault → RunEnds cupboard names v w (BadLane got)
-run_refuses_lane cupboard names v w fault got why is_writable plan readings p r plan_read readings_read after plan_is readings_is why_is ends same =
-    let refuses : RefusesLane cupboard p fault = subst (λ why. TextsEnd cupboard p r is_writable (Err why)) why_is ends in
+    → why ≡ refusal.Lane fault → TextsEnd sharing cupboard p r is_writable (Err why) → got ≡ fault → RunEndsBy sharing cupboard names v w (BadLane got)
+run_refuses_lane sharing cupboard names v w fault got why is_writable plan readings p r plan_read readings_read after plan_is readings_is why_is ends same =
+    let refuses : RefusesLane cupboard p fault = subst (λ why. TextsEnd sharing cupboard p r is_writable (Err why)) why_is ends in
     let here : RefusesLane cupboard plan fault = subst (λ bytes. RefusesLane cupboard bytes fault) plan_is refuses in
     inr (plan, readings, plan_read, readings_read, inl (subst (RefusesLane cupboard plan) (sym same) here, after))
 
 -- the readings file of a run is refused
-pub run_refuses_readings : (cupboard : List Meaning) (names : RunNames) (v w : View) (name : Bor (List ℕ)) (fault got : FileError) (why : Refusal) (is_writable : Bool) (plan readings p r : List ℕ)
+pub run_refuses_readings : (sharing : Sharing) (cupboard : List Meaning) (names : RunNames) (v w : View) (name : Bor (List ℕ)) (fault got : FileError) (why : Refusal) (is_writable : Bool) (plan readings p r : List ℕ)
     → IsRead (v.held names.plan) plan → IsRead (v.held names.readings) readings → w ≡ after_fetches (fetched_by names) v → p ≡ plan → r ≡ readings
-    → name.now ≡ names.readings → why ≡ refusal.Readings fault → TextsEnd cupboard p r is_writable (Err why) → got ≡ fault → RunEnds cupboard names v w (BadReadings name got)
-run_refuses_readings cupboard names v w name fault got why is_writable plan readings p r plan_read readings_read after plan_is readings_is name_is why_is ends same =
-    let refuses : RefusesReadings cupboard p r fault = subst (λ why. TextsEnd cupboard p r is_writable (Err why)) why_is ends in
+    → name.now ≡ names.readings → why ≡ refusal.Readings fault → TextsEnd sharing cupboard p r is_writable (Err why) → got ≡ fault → RunEndsBy sharing cupboard names v w (BadReadings name got)
+run_refuses_readings sharing cupboard names v w name fault got why is_writable plan readings p r plan_read readings_read after plan_is readings_is name_is why_is ends same =
+    let refuses : RefusesReadings cupboard p r fault = subst (λ why. TextsEnd sharing cupboard p r is_writable (Err why)) why_is ends in
     let here : RefusesReadings cupboard plan readings fault =
     subst (λ bytes. RefusesReadings cupboard plan bytes fault) readings_is (subst (λ bytes. RefusesReadings cupboard bytes r fault) plan_is refuses)
     in
@@ -252,19 +256,20 @@ readings_not_refused cupboard size p r fault p_is r_is made (file, slots, plan_i
     let plan : file.plan ≡ made_plan size.groups size.meters size.rounds = ap (λ f. f.plan) (sym same) ∙ plan_of_made size in
     not_both (readings_of file.plan r) (made_readings size.seed size.groups size.meters size.rounds) fault (ap (λ plan. readings_of plan r) plan ∙ ap (readings_of (made_plan size.groups size.meters size.rounds)) r_is ∙ made.readings) bad
 
-pub made_readings_are_read : (cupboard : List Meaning) (size : Size) (is_writable : Bool) (p r : List ℕ) (why : Refusal) (fault : FileError) → p ≡ made_plan_text size → r ≡ made_readings_text size
-    → AreRead size.seed size.groups size.meters size.rounds → why ≡ refusal.Readings fault → TextsEnd cupboard p r is_writable (Err why) → ⊥
-made_readings_are_read cupboard size is_writable p r why fault p_is r_is made why_is ends =
-    readings_not_refused cupboard size p r fault p_is r_is made (subst (λ x. TextsEnd cupboard p r is_writable (Err x)) why_is ends)
+pub made_readings_are_read : (sharing : Sharing) (cupboard : List Meaning) (size : Size) (is_writable : Bool) (p r : List ℕ) (why : Refusal) (fault : FileError) → p ≡ made_plan_text size → r ≡ made_readings_text size
+    → AreRead size.seed size.groups size.meters size.rounds → why ≡ refusal.Readings fault → TextsEnd sharing cupboard p r is_writable (Err why) → ⊥
+made_readings_are_read sharing cupboard size is_writable p r why fault p_is r_is made why_is ends =
+    readings_not_refused cupboard size p r fault p_is r_is made (subst (λ x. TextsEnd sharing cupboard p r is_writable (Err x)) why_is ends)
 
 -- the texts of a load are put, where there is a name, and said
-pub load_ends : (cupboard : List Meaning) (size : Size) (name given : Option (List ℕ)) (v w : View) (texts : Texts) (outcome : Outcome) (p r transcript summary : List ℕ)
-    → name ≡ given → p ≡ made_plan_text size → r ≡ made_readings_text size → Makes cupboard p r texts
+pub load_ends : (sharing : Sharing) (cupboard : List Meaning) (size : Size) (name given : Option (List ℕ)) (v w : View) (texts : Texts) (outcome : Outcome) (p r transcript summary : List ℕ)
+    → name ≡ given → p ≡ made_plan_text size → r ≡ made_readings_text size → sharing ≡ WithEach → MakesBy sharing cupboard p r texts
     → transcript ≡ texts.transcript → summary ≡ texts.summary
     → PutsEnd (put_where given transcript) summary v w outcome → LoadEnds cupboard size name v w outcome
-load_ends cupboard size name given v w texts outcome p r transcript summary name_is p_is r_is made t_is s_is ends =
+load_ends sharing cupboard size name given v w texts outcome p r transcript summary name_is p_is r_is each made t_is s_is ends =
+    let made_so : Makes cupboard p r texts = subst (λ sharing. MakesBy sharing cupboard p r texts) each made in
     let here : Makes cupboard (made_plan_text size) (made_readings_text size) texts =
-    subst (λ bytes. Makes cupboard (made_plan_text size) bytes texts) r_is (subst (λ bytes. Makes cupboard bytes r texts) p_is made)
+    subst (λ bytes. Makes cupboard (made_plan_text size) bytes texts) r_is (subst (λ bytes. Makes cupboard bytes r texts) p_is made_so)
     in
     let by_transcript : PutsEnd (put_where given texts.transcript) summary v w outcome = subst (λ t. PutsEnd (put_where given t) summary v w outcome) t_is ends in
     let by_summary : PutsEnd (put_where given texts.transcript) texts.summary v w outcome =
@@ -273,26 +278,26 @@ load_ends cupboard size name given v w texts outcome p r transcript summary name
     inr (inr (
       texts,
       here,
-      is_only cupboard (made_plan_text size) (made_readings_text size) texts here,
+      is_only WithEach cupboard (made_plan_text size) (made_readings_text size) texts here,
       subst (λ n. PutsEnd (put_where n texts.transcript) texts.summary v w outcome) (sym name_is) by_summary,
     ))
 
 -- the lane row of a load gets its lane, but the name can't be written
-pub load_unwritable : (cupboard : List Meaning) (size : Size) (is_writable : Bool) (n name : List ℕ) (v w : View) (outcome : Outcome) (p r : List ℕ) (why : Refusal)
-    → IsMade size p r → why ≡ refusal.Unwritable → TextsEnd cupboard p r is_writable (Err why) → n ≡ name → Unwritable (n ∷ []) v w outcome
+pub load_unwritable : (sharing : Sharing) (cupboard : List Meaning) (size : Size) (is_writable : Bool) (n name : List ℕ) (v w : View) (outcome : Outcome) (p r : List ℕ) (why : Refusal)
+    → IsMade size p r → why ≡ refusal.Unwritable → TextsEnd sharing cupboard p r is_writable (Err why) → n ≡ name → Unwritable (n ∷ []) v w outcome
     → LoadEnds cupboard size (Some name) v w outcome
-load_unwritable cupboard size is_writable n name v w outcome p r why made why_is ends n_is unwritable =
-    let values : HasValues cupboard p r = (subst (λ why. TextsEnd cupboard p r is_writable (Err why)) why_is ends).1 in
+load_unwritable sharing cupboard size is_writable n name v w outcome p r why made why_is ends n_is unwritable =
+    let values : HasValues cupboard p r = (subst (λ why. TextsEnd sharing cupboard p r is_writable (Err why)) why_is ends).1 in
     let here : HasValues cupboard (made_plan_text size) (made_readings_text size) =
     subst (λ bytes. HasValues cupboard (made_plan_text size) bytes) made.readings (subst (λ bytes. HasValues cupboard bytes r) made.plan values)
     in
     inr (inl (here, subst (λ x. Unwritable (x ∷ []) v w outcome) n_is unwritable))
 
 -- the lane row of the made plan is refused
-pub load_refuses_lane : (cupboard : List Meaning) (size : Size) (is_writable : Bool) (name : Option (List ℕ)) (v w : View) (p r : List ℕ) (why : Refusal) (fault : RackError)
-    → IsMade size p r → why ≡ refusal.Lane fault → TextsEnd cupboard p r is_writable (Err why) → w ≡ v → LoadEnds cupboard size name v w (BadLane fault)
-load_refuses_lane cupboard size is_writable name v w p r why fault made why_is ends same =
-    let refuses : RefusesLane cupboard p fault = subst (λ why. TextsEnd cupboard p r is_writable (Err why)) why_is ends in
+pub load_refuses_lane : (sharing : Sharing) (cupboard : List Meaning) (size : Size) (is_writable : Bool) (name : Option (List ℕ)) (v w : View) (p r : List ℕ) (why : Refusal) (fault : RackError)
+    → IsMade size p r → why ≡ refusal.Lane fault → TextsEnd sharing cupboard p r is_writable (Err why) → w ≡ v → LoadEnds cupboard size name v w (BadLane fault)
+load_refuses_lane sharing cupboard size is_writable name v w p r why fault made why_is ends same =
+    let refuses : RefusesLane cupboard p fault = subst (λ why. TextsEnd sharing cupboard p r is_writable (Err why)) why_is ends in
     let well : plan_of p ≡ Ok (made_file_of size) = ap plan_of made.plan ∙ made.read.plan in
     let file : made_file_of size ≡ refuses.0 = (let is = refuses.1 in cc) in
     inl (ap (λ f. hung_by cupboard f.lanes) file ∙ refuses.2, same)
@@ -310,7 +315,7 @@ some_made size p r plan readings read = (size, record { plan = plan; readings = 
 pub load_named : (cupboard : List Meaning) (size : Size) (given name : Option (List ℕ)) (v w : View) (outcome : Outcome) → given ≡ name → LoadEnds cupboard size name v w outcome → LoadEnds cupboard size given v w outcome
 load_named cupboard size given name v w outcome same = subst (λ name. LoadEnds cupboard size name v w outcome) (sym same)
 
--- ---- `twin` and `pooled`
+-- ---- `twin`, `pooled` and `ringtwin`
 
 -- the bytes of four files that were read one after the other
 four_read : (names : TwinNames) (v u : View) (p r o t : List ℕ) → IsRead (v.held names.plan) p → IsRead (v.held names.readings) r
@@ -337,37 +342,36 @@ same_texts P p r o t gp gr go gt p_is r_is o_is t_is holds =
     (subst (λ x. P (record { plan = x; readings = gr; other = go; transcript = gt })) p_is holds)))
 
 -- what the four files say is refused
-pub twin_refused : (verb : List ℕ) (known : List KnownMeter) (names : TwinNames) (v u w : View) (outcome : Outcome) (p r o t gp gr go gt : List ℕ) → IsRead (v.held names.plan) p
+pub twin_refused : (verb : List ℕ) (refuses : TwinBytes → Outcome → Type 0) (compares : TwinBytes → List MovedRow → Type 0) (names : TwinNames) (v u w : View) (outcome : Outcome) (p r o t gp gr go gt : List ℕ) → IsRead (v.held names.plan) p
     → IsRead (v.held names.readings) r → u ≡ after_fetches (names.plan ∷ names.readings ∷ []) v → IsRead (u.held names.other) o → IsRead (u.held names.transcript) t
     → w ≡ after_fetches (names.other ∷ names.transcript ∷ []) u → gp ≡ p → gr ≡ r → go ≡ o → gt ≡ t
-    → PooledRefuses known names (record { plan = gp; readings = gr; other = go; transcript = gt }) outcome → PooledEndsAs verb known names v w outcome
-twin_refused verb known names v u w outcome p r o t gp gr go gt p_read r_read first o_read t_read second p_is r_is o_is t_is refused =
+    → refuses (record { plan = gp; readings = gr; other = go; transcript = gt }) outcome → ComparedEndsAs verb refuses compares names v w outcome
+twin_refused verb refuses compares names v u w outcome p r o t gp gr go gt p_read r_read first o_read t_read second p_is r_is o_is t_is refused =
     inr (
       record { plan = p; readings = r; other = o; transcript = t },
       four_read names v u p r o t p_read r_read first o_read t_read,
-      inl (same_texts (λ bytes. PooledRefuses known names bytes outcome) p r o t gp gr go gt p_is r_is o_is t_is refused, four_after names v u w first second),
+      inl (same_texts (λ bytes. refuses bytes outcome) p r o t gp gr go gt p_is r_is o_is t_is refused, four_after names v u w first second),
     )
 
 -- the file of the moved words is put
-pub twin_ends : (verb : List ℕ) (known : List KnownMeter) (names : TwinNames) (v u x w : View) (outcome : Outcome) (rows : List MovedRow) (count : ℕ) (p r o t gp gr go gt text line : List ℕ)
+pub moved_are_said : (verb name : List ℕ) (rows : List MovedRow) (count : ℕ) (v w : View) (outcome : Outcome) (text line : List ℕ) → text ≡ masks_text rows → line ≡ counted_line verb count
+    → count ≡ length rows → PutsEnd (putting name text ∷ []) line v w outcome → MovedAreSaid verb name rows v w outcome
+moved_are_said verb name rows count v w outcome text line text_is line_is count_is ends =
+    subst (λ line. PutsEnd (putting name (masks_text rows) ∷ []) line v w outcome) (line_is ∙ ap (counted_line verb) count_is)
+    (subst (λ text. PutsEnd (putting name text ∷ []) line v w outcome) text_is ends)
+
+pub twin_ends : (verb : List ℕ) (refuses : TwinBytes → Outcome → Type 0) (compares : TwinBytes → List MovedRow → Type 0) (names : TwinNames) (v u x w : View) (outcome : Outcome) (rows : List MovedRow) (p r o t gp gr go gt : List ℕ)
     → IsRead (v.held names.plan) p → IsRead (v.held names.readings) r → u ≡ after_fetches (names.plan ∷ names.readings ∷ []) v
     → IsRead (u.held names.other) o → IsRead (u.held names.transcript) t → x ≡ after_fetches (names.other ∷ names.transcript ∷ []) u
-    → gp ≡ p → gr ≡ r → go ≡ o → gt ≡ t → PooledCompared known (record { plan = gp; readings = gr; other = go; transcript = gt }) (Ok rows)
-    → text ≡ masks_text rows → line ≡ counted_line verb count → count ≡ length rows
-    → PutsEnd (putting names.masks text ∷ []) line x w outcome → PooledEndsAs verb known names v w outcome
-twin_ends verb known names v u x w outcome rows count p r o t gp gr go gt text line p_read r_read first o_read t_read second p_is r_is o_is t_is compared text_is line_is count_is ends =
-    let by_text : PutsEnd (putting names.masks (masks_text rows) ∷ []) line x w outcome =
-    subst (λ text. PutsEnd (putting names.masks text ∷ []) line x w outcome) text_is ends
-    in
-    let by_line : PutsEnd (putting names.masks (masks_text rows) ∷ []) (counted_line verb (length rows)) x w outcome =
-    subst (λ line. PutsEnd (putting names.masks (masks_text rows) ∷ []) line x w outcome) (line_is ∙ ap (counted_line verb) count_is) by_text
-    in
+    → gp ≡ p → gr ≡ r → go ≡ o → gt ≡ t → compares (record { plan = gp; readings = gr; other = go; transcript = gt }) rows
+    → MovedAreSaid verb names.masks rows x w outcome → ComparedEndsAs verb refuses compares names v w outcome
+twin_ends verb refuses compares names v u x w outcome rows p r o t gp gr go gt p_read r_read first o_read t_read second p_is r_is o_is t_is compared ends =
     inr (
       record { plan = p; readings = r; other = o; transcript = t },
       four_read names v u p r o t p_read r_read first o_read t_read,
       inr (
         rows,
-        same_texts (λ bytes. PooledCompared known bytes (Ok rows)) p r o t gp gr go gt p_is r_is o_is t_is compared,
-        subst (λ x. PutsEnd (putting names.masks (masks_text rows) ∷ []) (counted_line verb (length rows)) x w outcome) (four_after names v u x first second) by_line,
+        same_texts (λ bytes. compares bytes rows) p r o t gp gr go gt p_is r_is o_is t_is compared,
+        subst (λ x. MovedAreSaid verb names.masks rows x w outcome) (four_after names v u x first second) ends,
       ),
     )

@@ -2,7 +2,7 @@
 use Rattle.std.proofs.Common.{◌≡◌, ◌⊎◌, List, [], ◌∷◌, ℕ, Bool, inl, inr, subst, Ok, Err}
 use Rattle.desk_outside.specs.Desk.{View, Stored, Unstored, after_step}
 use Rattle.command_words.specs.declared.outcome.Outcome.{Outcome}
-use Rattle.command_words.specs.declared.outcome.Outcome.TheVariants.{Done, NoMemory, BadWords, CannotRead, TooLong, CannotWrite, CannotPrint, BadPlan, BadReadings, BadTranscript, BadReport, Impossible, NotInTime, OtherRow, OtherPlan, OtherLine, OtherPresence, OtherKnown, OtherTotal, BadLane, NoPartner}
+use Rattle.command_words.specs.declared.outcome.Outcome.TheVariants.{Done, NoMemory, BadWords, CannotRead, TooLong, CannotWrite, CannotPrint, BadPlan, BadReadings, BadTranscript, BadReport, Impossible, NotInTime, NotThisRun, OtherRow, OtherPlan, OtherLine, OtherPresence, OtherKnown, OtherTotal, OtherComponent, BadLane, NoPartner}
 use Rattle.commands.specs.Calls.{Putting, putting, HasPut, EndsAtPut, NonePut, Unwritable, PutsEnd, CommitsEnd, Committed}
 
 -- ---- commits
@@ -27,12 +27,14 @@ one_commits p line v w (BadTranscript name fault) ends = absurd ends
 one_commits p line v w (BadReport name number) ends = absurd ends
 one_commits p line v w (Impossible name number) ends = absurd ends
 one_commits p line v w (NotInTime name number) ends = absurd ends
+one_commits p line v w (NotThisRun name number) ends = absurd ends
 one_commits p line v w (OtherRow at from_frames reported) ends = absurd ends
 one_commits p line v w (OtherPlan name) ends = absurd ends
 one_commits p line v w (OtherLine name number expected) ends = absurd ends
 one_commits p line v w (OtherPresence group round meter) ends = absurd ends
 one_commits p line v w (OtherKnown group round meter) ends = absurd ends
 one_commits p line v w (OtherTotal group round first second) ends = absurd ends
+one_commits p line v w (OtherComponent group round least first second) ends = absurd ends
 one_commits p line v w (BadLane fault) ends = absurd ends
 one_commits p line v w (NoPartner group round meter) ends = absurd ends
 
@@ -52,12 +54,14 @@ more_commits p ps line v u w (BadTranscript name fault) put ends = absurd ends
 more_commits p ps line v u w (BadReport name number) put ends = absurd ends
 more_commits p ps line v u w (Impossible name number) put ends = absurd ends
 more_commits p ps line v u w (NotInTime name number) put ends = absurd ends
+more_commits p ps line v u w (NotThisRun name number) put ends = absurd ends
 more_commits p ps line v u w (OtherRow at from_frames reported) put ends = absurd ends
 more_commits p ps line v u w (OtherPlan name) put ends = absurd ends
 more_commits p ps line v u w (OtherLine name number expected) put ends = absurd ends
 more_commits p ps line v u w (OtherPresence group round meter) put ends = absurd ends
 more_commits p ps line v u w (OtherKnown group round meter) put ends = absurd ends
 more_commits p ps line v u w (OtherTotal group round first second) put ends = absurd ends
+more_commits p ps line v u w (OtherComponent group round least first second) put ends = absurd ends
 more_commits p ps line v u w (BadLane fault) put ends = absurd ends
 more_commits p ps line v u w (NoPartner group round meter) put ends = absurd ends
 
@@ -80,12 +84,14 @@ first_fails p ps line v w (BadTranscript name fault) ends = absurd ends
 first_fails p ps line v w (BadReport name number) ends = absurd ends
 first_fails p ps line v w (Impossible name number) ends = absurd ends
 first_fails p ps line v w (NotInTime name number) ends = absurd ends
+first_fails p ps line v w (NotThisRun name number) ends = absurd ends
 first_fails p ps line v w (OtherRow at from_frames reported) ends = absurd ends
 first_fails p ps line v w (OtherPlan name) ends = absurd ends
 first_fails p ps line v w (OtherLine name number expected) ends = absurd ends
 first_fails p ps line v w (OtherPresence group round meter) ends = absurd ends
 first_fails p ps line v w (OtherKnown group round meter) ends = absurd ends
 first_fails p ps line v w (OtherTotal group round first second) ends = absurd ends
+first_fails p ps line v w (OtherComponent group round least first second) ends = absurd ends
 first_fails p ps line v w (BadLane fault) ends = absurd ends
 first_fails p ps line v w (NoPartner group round meter) ends = absurd ends
 
@@ -103,12 +109,14 @@ commits_put files line v w (BadTranscript name fault) ends = absurd ends
 commits_put files line v w (BadReport name number) ends = absurd ends
 commits_put files line v w (Impossible name number) ends = absurd ends
 commits_put files line v w (NotInTime name number) ends = absurd ends
+commits_put files line v w (NotThisRun name number) ends = absurd ends
 commits_put files line v w (OtherRow at from_frames reported) ends = absurd ends
 commits_put files line v w (OtherPlan name) ends = absurd ends
 commits_put files line v w (OtherLine name number expected) ends = absurd ends
 commits_put files line v w (OtherPresence group round meter) ends = absurd ends
 commits_put files line v w (OtherKnown group round meter) ends = absurd ends
 commits_put files line v w (OtherTotal group round first second) ends = absurd ends
+commits_put files line v w (OtherComponent group round least first second) ends = absurd ends
 commits_put files line v w (BadLane fault) ends = absurd ends
 commits_put files line v w (NoPartner group round meter) ends = absurd ends
 

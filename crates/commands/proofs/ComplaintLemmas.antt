@@ -4,8 +4,8 @@ use Rattle.std.specs.Prelude.{Option, None, Some}
 use Rattle.desk_outside.specs.Desk.{View}
 use Rattle.link_lanes.specs.Lanes.{Meaning}
 use Rattle.command_words.specs.declared.outcome.Outcome.{Outcome}
-use Rattle.command_words.specs.declared.outcome.Outcome.TheVariants.{Done, NoMemory, BadWords, CannotRead, TooLong, CannotWrite, CannotPrint, BadPlan, BadReadings, BadTranscript, BadReport, Impossible, NotInTime, OtherRow, OtherPlan, OtherLine, OtherPresence, OtherKnown, OtherTotal, BadLane, NoPartner}
-use Rattle.command_words.specs.Words.{Command, Run, Audit, Twin, Pooled, Make, Load, Convert, Public, Inspect, Help, Version, Bill, Hide, Registers}
+use Rattle.command_words.specs.declared.outcome.Outcome.TheVariants.{Done, NoMemory, BadWords, CannotRead, TooLong, CannotWrite, CannotPrint, BadPlan, BadReadings, BadTranscript, BadReport, Impossible, NotInTime, NotThisRun, OtherRow, OtherPlan, OtherLine, OtherPresence, OtherKnown, OtherTotal, OtherComponent, BadLane, NoPartner}
+use Rattle.command_words.specs.Words.{Command, Run, Ring, RingTwin, Audit, Twin, Pooled, Make, Load, Convert, Public, Inspect, Help, Version, Bill, Hide, Registers, Resume}
 use Rattle.command_words.specs.Outcomes.{HasComplaint}
 use Rattle.commands.specs.Ends.{Ends}
 
@@ -24,12 +24,14 @@ either (BadTranscript name fault) other = tt
 either (BadReport name line) other = tt
 either (Impossible name line) other = tt
 either (NotInTime name line) other = tt
+either (NotThisRun name line) other = tt
 either (OtherRow at from_frames reported) other = tt
 either (OtherPlan name) other = tt
 either (OtherLine name line expected) other = other name line expected refl
 either (OtherPresence group round meter) other = tt
 either (OtherKnown group round meter) other = tt
 either (OtherTotal group round first second) other = tt
+either (OtherComponent group round least first second) other = tt
 either (BadLane fault) other = tt
 either (NoPartner group round meter) other = tt
 
@@ -39,6 +41,14 @@ of_line cupboard (Run names workers) v w name line expected (inl unread) = absur
 of_line cupboard (Run names workers) v w name line expected (inr (p, r, p_read, r_read, inl refused)) = absurd refused.0
 of_line cupboard (Run names workers) v w name line expected (inr (p, r, p_read, r_read, inr (inl (values, ends)))) = absurd ends
 of_line cupboard (Run names workers) v w name line expected (inr (p, r, p_read, r_read, inr (inr (texts, made, only, ends)))) = absurd ends
+of_line cupboard (Ring width names workers) v w name line expected (inl unread) = absurd unread
+of_line cupboard (Ring width names workers) v w name line expected (inr (p, r, p_read, r_read, inl refused)) = absurd refused.0
+of_line cupboard (Ring width names workers) v w name line expected (inr (p, r, p_read, r_read, inr (inl (values, ends)))) = absurd ends
+of_line cupboard (Ring width names workers) v w name line expected (inr (p, r, p_read, r_read, inr (inr (texts, made, only, ends)))) = absurd ends
+of_line cupboard (Resume names workers) v w name line expected (inl unread) = absurd unread
+of_line cupboard (Resume names workers) v w name line expected (inr (bytes, read, inl refused)) = absurd refused.0
+of_line cupboard (Resume names workers) v w name line expected (inr (bytes, read, inr (inl (values, ends)))) = absurd ends
+of_line cupboard (Resume names workers) v w name line expected (inr (bytes, read, inr (inr (texts, make, only, ends)))) = absurd ends
 of_line cupboard (Registers count names workers) v w name line expected (inl unread) = absurd unread
 of_line cupboard (Registers count names workers) v w name line expected (inr (p, r, p_read, r_read, inl refused)) = absurd refused.0
 of_line cupboard (Registers count names workers) v w name line expected (inr (p, r, p_read, r_read, inr (inl (values, ends)))) = absurd ends
@@ -49,6 +59,9 @@ of_line cupboard (Audit transcript report) v w name line expected (inr (tb, rb, 
 of_line cupboard (Twin names) v w name line expected (inl unread) = absurd unread
 of_line cupboard (Twin names) v w name line expected (inr (bytes, read, inl ((named, (found, (values, are, (t, text_is, plan_is, (k, number, first))))), after))) = first.writable
 of_line cupboard (Twin names) v w name line expected (inr (bytes, read, inr (rows, compared, ends))) = absurd ends
+of_line cupboard (RingTwin width names) v w name line expected (inl unread) = absurd unread
+of_line cupboard (RingTwin width names) v w name line expected (inr (bytes, read, inl ((named, (found, (values, are, (t, text_is, plan_is, (k, number, first))))), after))) = first.writable
+of_line cupboard (RingTwin width names) v w name line expected (inr (bytes, read, inr (rows, compared, ends))) = absurd ends
 of_line cupboard (Pooled known names) v w name line expected (inl unread) = absurd unread
 of_line cupboard (Pooled known names) v w name line expected (inr (bytes, read, inl ((named, (found, (values, are, within, (t, text_is, plan_is, (k, number, first))))), after))) = first.writable
 of_line cupboard (Pooled known names) v w name line expected (inr (bytes, read, inr (rows, compared, ends))) = absurd ends

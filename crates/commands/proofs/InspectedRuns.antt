@@ -8,7 +8,6 @@ use Rattle.std.proofs.lemmas.List.Sums.{sum_by-cons}
 use Rattle.group_plan.specs.declared.Tag.{Tag}
 use Rattle.link_lanes.specs.Lanes.{Meaning}
 use Rattle.link_lanes.specs.declared.Post.{Post}
-use Rattle.mask_stream.specs.KeyStreams.{streams}
 use Rattle.plan_files.proofs.SpelledPlan.{spelled_public}
 use Rattle.transcript_log.specs.declared.Entry.{Entry}
 use Rattle.transcript_log.specs.declared.Line.{Line}
@@ -26,7 +25,8 @@ use Rattle.audit_check.specs.declared.answers.AuditError.TheVariants as audit
 use Rattle.command_words.specs.declared.outcome.Outcome.{Outcome}
 use Rattle.command_words.specs.declared.outcome.Outcome.TheVariants.{NoMemory, Impossible, NotInTime, OtherRow}
 use Rattle.commands.specs.Inspecting.{JudgeRefuses, RunsAreInspected}
-use Rattle.commands.specs.Runs.{plan_in, readings_in, shape_in, clock_in, row_in, transcript_in, Texts, Makes}
+use Rattle.commands.specs.declared.sharing.Sharing.{Sharing}
+use Rattle.commands.specs.Runs.{words_by, plan_in, readings_in, shape_in, clock_in, row_in, transcript_in, Texts, MakesBy}
 use Rattle.commands.proofs.AcceptedLemmas.{no_line_late}
 use Rattle.commands.proofs.RunLemmas.{can_run}
 use Rattle.commands.proofs.StoredLemmas.{audited_well}
@@ -76,11 +76,11 @@ all_fates (e ∷ rest) are = All-cons (λ (x : Entry). IsFate x.fate) e rest (Al
 
 -- ---- a run that is stored
 
-is_run : (cupboard : List Meaning) (p r : List ℕ) (texts : Texts) (made : Makes cupboard p r texts) → IsSomeRun (plan_in made.values) made.entries
-is_run cupboard p r texts made =
+is_run : (sharing : Sharing) (cupboard : List Meaning) (p r : List ℕ) (texts : Texts) (made : MakesBy sharing cupboard p r texts) → IsSomeRun (plan_in made.values) made.entries
+is_run sharing cupboard p r texts made =
     let plan = plan_in made.values in
     let x = readings_in made.values in
-    let words : Contents = contents_of_tables plan.groups x (streams made.values.file.keys) in
+    let words : Contents = contents_of_tables plan.groups x (words_by sharing plan made.values.file.keys) in
     let can = can_run plan made.values.readings.table made.sound.limits made.sound.table in
     let counts = summaries (shape_in made.values) (clock_in made.values) made.values.slots made.entries words can made.run.delays made.run.ticks in
     record {
@@ -93,10 +93,10 @@ is_run cupboard p r texts made =
     }
 
 pub runs_are_inspected : RunsAreInspected
-runs_are_inspected cupboard p r texts made =
+runs_are_inspected sharing cupboard p r texts made =
     let plan = plan_in made.values in
     let rows : List ReportRow = report_rows plan (row_in made.values made.entries) in
-    let run = is_run cupboard p r texts made in
+    let run = is_run sharing cupboard p r texts made in
     record {
       file = made.values.file;
       transcript = transcript_in made.values made.entries;
@@ -117,7 +117,7 @@ runs_are_inspected cupboard p r texts made =
     nothing : (name : List ℕ) (outcome : Outcome) → IsSomeRun (plan_in made.values) made.entries
         → JudgeRefuses name (transcript_in made.values made.entries) (report_rows (plan_in made.values) (row_in made.values made.entries)) outcome → outcome ≡ NoMemory
     nothing name NoMemory run refused = refl
-    nothing name (Impossible named line) run refused = absurd (audited_well cupboard p r texts made (Err (audit.Line line)) refused.1)
+    nothing name (Impossible named line) run refused = absurd (audited_well sharing cupboard p r texts made (Err (audit.Line line)) refused.1)
     nothing name (NotInTime named line) run refused = absurd (no_line_late (transcript_in made.values made.entries) line run refused.2)
-    nothing name (OtherRow at one other) run refused = absurd (audited_well cupboard p r texts made (Err (audit.Row at one other)) refused.1)
+    nothing name (OtherRow at one other) run refused = absurd (audited_well sharing cupboard p r texts made (Err (audit.Row at one other)) refused.1)
     nothing name _ run refused = absurd refused

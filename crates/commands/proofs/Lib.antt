@@ -1,5 +1,8 @@
 mod AheadLemmas
-mod PartsLemmas
+mod CalmLemmas
+mod AcceptedTwins
+mod AcceptedResume
+mod ResumeLemmas
 pub mod AcceptedLemmas
 mod BillingLemmas
 mod CommandEndings
@@ -9,6 +12,8 @@ mod InspectLemmas
 mod MadePlanLemmas
 mod PublicLemmas
 pub mod RegisterLemmas
+mod RingLemmas
+mod RingTwinLemmas
 pub mod RunLemmas
 pub mod StoredLemmas
 mod StreamLemmas

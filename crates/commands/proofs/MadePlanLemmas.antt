@@ -13,15 +13,15 @@ use Rattle.load_maker.specs.MadeFiles.{AreRead}
 use Rattle.load_maker.proofs.MadeLane.{made_lane_fits}
 use Rattle.load_maker.proofs.MadeReads.{made_files}
 use Rattle.command_words.specs.declared.outcome.Outcome.{Outcome}
-use Rattle.command_words.specs.declared.outcome.Outcome.TheVariants.{Done, NoMemory, BadWords, CannotRead, TooLong, CannotWrite, CannotPrint, BadPlan, BadReadings, BadTranscript, BadReport, Impossible, NotInTime, OtherRow, OtherPlan, OtherLine, OtherPresence, OtherKnown, OtherTotal, BadLane, NoPartner}
+use Rattle.command_words.specs.declared.outcome.Outcome.TheVariants.{Done, NoMemory, BadWords, CannotRead, TooLong, CannotWrite, CannotPrint, BadPlan, BadReadings, BadTranscript, BadReport, Impossible, NotInTime, NotThisRun, OtherRow, OtherPlan, OtherLine, OtherPresence, OtherKnown, OtherTotal, OtherComponent, BadLane, NoPartner}
 use Rattle.command_words.specs.Outcomes.{status_of}
-use Rattle.command_words.specs.Words.{RunNames, Size, Command, Run, Audit, Twin, Pooled, Make, Load, Convert, Public, Inspect, Bill, Hide, Help, Version, Registers}
+use Rattle.command_words.specs.Words.{RunNames, Size, Command, Run, Ring, RingTwin, Audit, Twin, Pooled, Make, Load, Convert, Public, Inspect, Bill, Hide, Help, Version, Registers, Resume}
 use Rattle.commands.specs.Accepted.{HoldsFile, RunAccepts, Accepts, AcceptedIsDone}
 use Rattle.commands.specs.Cupboard.{full_cupboard, IsMade, RunsMadePlan, MadePlansGetLanes, RunsMadeFiles, MadeFilesAreDone}
 use Rattle.commands.specs.Ends.{made_file_of, made_plan_text, made_readings_text, Ends}
 use Rattle.commands.specs.Runs.{RefusesLane}
 use Rattle.commands.specs.Promise.{EndsAndTells}
-use Rattle.commands.proofs.AcceptedLemmas.{read_is}
+use Rattle.commands.proofs.CalmLemmas.{read_is}
 
 -- ---- the lane
 
@@ -62,9 +62,12 @@ run_accepted size is names v plan readings =
 made_accepted : (command : Command) (v : View) → RunsMadeFiles command v → Accepts full_cupboard command v
 made_accepted (Load size workers transcript) v is = let hung = made_hung size is in record { slots = hung.0; lanes = hung.1 }
 made_accepted (Run names workers) v (size, is, plan, readings) = run_accepted size is names v plan readings
+made_accepted (Ring width names workers) v (size, is, plan, readings) = run_accepted size is names v plan readings
+made_accepted (Resume names workers) v is = absurd is
 made_accepted (Registers count names workers) v is = absurd is
 made_accepted (Audit transcript report) v is = absurd is
 made_accepted (Twin names) v is = absurd is
+made_accepted (RingTwin width names) v is = absurd is
 made_accepted (Pooled known names) v is = absurd is
 made_accepted (Make size plan readings) v is = absurd is
 made_accepted (Convert old transcript) v is = absurd is
@@ -95,12 +98,14 @@ by_lane (BadTranscript name fault) is = absurd (omega (arith, is))
 by_lane (BadReport name line) is = absurd (omega (arith, is))
 by_lane (Impossible name line) is = absurd (omega (arith, is))
 by_lane (NotInTime name line) is = absurd (omega (arith, is))
+by_lane (NotThisRun name line) is = absurd (omega (arith, is))
 by_lane (OtherRow at one other) is = absurd (omega (arith, is))
 by_lane (OtherPlan name) is = absurd (omega (arith, is))
 by_lane (OtherLine name line expected) is = absurd (omega (arith, is))
 by_lane (OtherPresence group round meter) is = absurd (omega (arith, is))
 by_lane (OtherKnown group round meter) is = absurd (omega (arith, is))
 by_lane (OtherTotal group round first second) is = absurd (omega (arith, is))
+by_lane (OtherComponent group round least first second) is = absurd (omega (arith, is))
 by_lane (BadLane fault) is = (fault, refl)
 by_lane (NoPartner group round meter) is = absurd (omega (arith, is))
 
@@ -127,6 +132,18 @@ no_lane (Run names workers) v w fault (size, is, held) (inr (p, r, p_read, r_rea
     run_hung size is fault (subst (λ bytes. RefusesLane full_cupboard bytes fault) (sym same) refused.0)
 no_lane (Run names workers) v w fault is (inr (p, r, p_read, r_read, inr (inl (values, ends)))) = ends
 no_lane (Run names workers) v w fault is (inr (p, r, p_read, r_read, inr (inr (texts, made, only, ends)))) = ends
+no_lane (Ring width names workers) v w fault is (inl unread) = unread
+no_lane (Ring width names workers) v w fault (size, is, held) (inr (p, r, p_read, r_read, inl refused)) =
+    let same = read_is v names.plan (made_plan_text size) p (plan_held size is names.plan v held) p_read in
+    run_hung size is fault (subst (λ bytes. RefusesLane full_cupboard bytes fault) (sym same) refused.0)
+no_lane (Ring width names workers) v w fault is (inr (p, r, p_read, r_read, inr (inl (values, ends)))) = ends
+no_lane (Ring width names workers) v w fault is (inr (p, r, p_read, r_read, inr (inr (texts, made, only, ends)))) = ends
+no_lane (Resume names workers) v w fault is (inl unread) = unread
+no_lane (Resume names workers) v w fault (size, is, held) (inr (bytes, read, inl refused)) =
+    let same = read_is v names.plan (made_plan_text size) bytes.plan (plan_held size is names.plan v held) read.plan in
+    run_hung size is fault (subst (λ p. RefusesLane full_cupboard p fault) (sym same) refused.0)
+no_lane (Resume names workers) v w fault is (inr (bytes, read, inr (inl (values, ends)))) = ends
+no_lane (Resume names workers) v w fault is (inr (bytes, read, inr (inr (texts, make, only, ends)))) = ends
 no_lane (Registers count names workers) v w fault is (inl unread) = unread
 no_lane (Registers count names workers) v w fault (size, is, held) (inr (p, r, p_read, r_read, inl refused)) =
     let same = read_is v names.plan (made_plan_text size) p (plan_held size is names.plan v held) p_read in
@@ -135,6 +152,7 @@ no_lane (Registers count names workers) v w fault is (inr (p, r, p_read, r_read,
 no_lane (Registers count names workers) v w fault is (inr (p, r, p_read, r_read, inr (inr (texts, make, ends)))) = ends
 no_lane (Audit transcript report) v w fault is ends = absurd is
 no_lane (Twin names) v w fault is ends = absurd is
+no_lane (RingTwin width names) v w fault is ends = absurd is
 no_lane (Pooled known names) v w fault is ends = absurd is
 no_lane (Make size plan readings) v w fault is ends = absurd is
 no_lane (Convert old transcript) v w fault is ends = absurd is

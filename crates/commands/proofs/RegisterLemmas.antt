@@ -68,6 +68,7 @@ use Rattle.commands.specs.RegisterRuns.{HasPlainSums, HasRegisterValues, HasRowT
 use Rattle.commands.specs.declared.source.WordsStage.{WordsStage}
 use Rattle.commands.specs.declared.source.WordsStage.TheVariants.{Head, Rows}
 use Rattle.commands.specs.RunTexts.{AreTextsOf}
+use Rattle.commands.specs.declared.sharing.Sharing.TheVariants.{WithEach}
 use Rattle.commands.specs.Sources.{words_after}
 use Rattle.commands.specs.Runs.{AreSound, AreTexts, IsRunOf, RefusesLane, Texts, readings_in, row_in, shape_in}
 use Rattle.commands.proofs.RunLemmas.{but_memory, made, with_plan}
@@ -86,7 +87,7 @@ rows_long plan row_at =
     ∙ same_sum plan.rounds (range_with_len 0 (length plan.groups)) ∙ ap (λ n. n * plan.rounds) (length-range_with_len 0 (length plan.groups))
 
 -- the rows of a finished run's report, of which there is one for each group and round
-pub rows_fit : (readings : ReadingsView) (keys : Keys) (slots : List Slot) (book : BookView) (t : TranscriptView) (first : Texts) → IsFinished readings keys slots book t → AreTextsOf book t first
+pub rows_fit : (readings : ReadingsView) (keys : Keys) (slots : List Slot) (book : BookView) (t : TranscriptView) (first : Texts) → IsFinished readings keys slots book t → AreTextsOf WithEach book t first
     → (rows : List ReportRow) × (rows_of_text first.report ≡ Ok rows) × (length rows ≤ length t.plan.groups * t.plan.rounds)
 rows_fit readings keys slots book t first finished written =
     let plan : t.plan ≡ book.presence.plan = finished.plan ∙ sym (ap (λ (p : PresenceView). p.plan) finished.presence) in
@@ -202,7 +203,7 @@ with_entries plan entries = record { plan = plan; entries = entries }
 pub registers_make : (cupboard : List Meaning) (count : ℕ) (p r : List ℕ) (file : PlanFileView) (lanes : List LaneRow) (slots : List Slot) (registers : RegistersView) (readings : ReadingsView) (book : BookView) (t : TranscriptView) (first : Texts) (kept : Kept)
     → plan_of p ≡ Ok file → lanes ≡ file.lanes → hung_by cupboard lanes ≡ Ok slots → RegistersEnd file.plan count r (Ok registers) → AreRegisters registers
     → readings ≡ record { plan = registers.plan; table = table registers 0 }
-    → IsFinished readings file.keys slots book t → AreTextsOf book t first → AreWordsOf registers file.keys t first kept
+    → IsFinished readings file.keys slots book t → AreTextsOf WithEach book t first → AreWordsOf registers file.keys t first kept
     → RegistersMake cupboard count p r (register_texts_of kept)
 unfolding with_plan with_entries
 registers_make cupboard count p r file lanes slots registers readings book t first kept plan_is rows hang read are readings_are finished written words =
@@ -212,7 +213,7 @@ registers_make cupboard count p r file lanes slots registers readings book t fir
     × IsRunOf (with_plan file slots (record { plan = registers.plan; table = table registers 0 }) plan) t.entries
     × AreTexts (with_plan file slots (record { plan = registers.plan; table = table registers 0 }) plan) t.entries first in
     let here : IsFinished (record { plan = registers.plan; table = table registers 0 }) file.keys slots book t = subst (λ (x : ReadingsView). IsFinished x file.keys slots book t) readings_are finished in
-    let both : P file.plan = subst P same (made file slots (record { plan = registers.plan; table = table registers 0 }) book t first here written) in
+    let both : P file.plan = subst P same (made WithEach file slots (record { plan = registers.plan; table = table registers 0 }) book t first here written) in
     let plan_here : t.plan ≡ file.plan = here.plan ∙ same in
     let whole : t ≡ with_entries file.plan t.entries = ap (λ (plan : PlanView). with_entries plan t.entries) plan_here in
     let rows_here : kept.words ≡ side_rows_in v t.entries = words.words ∙ ap (rows_of registers file.keys) whole in

@@ -1,5 +1,5 @@
 -- From what the crates below say of a run to what the program says of it.
-use Rattle.std.proofs.Common.{◌≡◌, ℕ, zero, suc, ◌^◌, ◌<◌, ◌≤◌, ◌+◌, Bool, true, false, not, List, [], ◌∷◌, length, map, get_or, refl, sym, ap, ◌∙◌, subst, inl, inr, arith, Ok, Err}
+use Rattle.std.proofs.Common.{◌≡◌, ℕ, zero, suc, ◌^◌, ◌<◌, ◌≤◌, ◌+◌, Bool, true, false, not, List, [], ◌∷◌, ◌++◌, length, map, get_or, refl, sym, ap, ◌∙◌, subst, inl, inr, arith, Ok, Err}
 use Rattle.std.specs.Prelude.{Option, Some, None, is_some, unwrap_or, if◌then◌else◌, reverse, count_by}
 use mathlib.Core.Path.{fun_ext}
 use Rattle.std.proofs.lemmas.Bool.{cases_Bool, false≢true}
@@ -8,8 +8,8 @@ use Rattle.group_plan.specs.Tables.{Table, ReadingsView, reading, IsReadingTable
 use Rattle.group_plan.proofs.TableLemmas.{entry_outside}
 use Rattle.group_plan.proofs.MeterNumbers.{group-lt, in_place}
 use Rattle.link_lanes.specs.Lanes.{Meaning, Slot}
-use Rattle.mask_stream.specs.KeyStreams.{streams}
 use Rattle.transcript_log.specs.declared.Line.{Line}
+use Rattle.transcript_log.specs.declared.Event.{Event}
 use Rattle.transcript_log.specs.declared.Entry.{Entry}
 use Rattle.transcript_log.specs.Events.{event_of, events_of, lines_of}
 use Rattle.transcript_log.specs.Schedule.{Shape, shape_of_presence, survivors, Running, EndedThin, Published, Unpublished, is_ended, is_announced, is_published, is_opened, all_taken, lacking}
@@ -30,7 +30,6 @@ use Rattle.run_rows.specs.Posts.{posts_by_lanes}
 use Rattle.run_rows.specs.Runs.{IsReported}
 use Rattle.run_rows.proofs.RunLemmas.{reported}
 use Rattle.run_rows.proofs.PostLemmas.{posts_are}
-use Rattle.pair_keys.specs.Keys.{Keys}
 use Rattle.link_lanes.specs.Fits.{hung_by}
 use Rattle.plan_files.specs.declared.fault.FileError.{FileError}
 use Rattle.plan_files.specs.declared.fault.FileCause.{FileCause}
@@ -47,13 +46,16 @@ use Rattle.transcript_text.specs.Heads.{read_of}
 use Rattle.transcript_text.specs.Spelling.{transcript_text}
 use Rattle.transcript_text.proofs.ReadAgain.{read_again}
 use Rattle.totals_report.specs.Books.{row_in as book_row, summary_in as book_summary}
-use Rattle.tick_run.specs.Finished.{IsFinished}
-use Rattle.commands.specs.Runs.{Values, HasValues, plan_in, readings_in, shape_in, clock_in, AreValues, AreSound, IsRunOf, row_in, Texts, AreTexts, Makes, IsOnly}
+use Rattle.tick_run.specs.Finished.{IsFinishedUnder}
+use Rattle.commands.specs.declared.sharing.Sharing.{Sharing}
+use Rattle.commands.specs.declared.sharing.Sharing.TheVariants.{WithEach, WithNeighbours}
+use Rattle.commands.specs.Runs.{Values, HasValues, plan_in, readings_in, shape_in, clock_in, words_by, summary_in, least_line, AreValues, AreSound, IsRunBy, IsIsolatedBy, row_in, Texts, IsSaidBy, AreTextsBy, MakesBy, IsOneSummary, IsOnlyBy}
 use Rattle.commands.specs.RunTexts.{AreTextsOf, TextsEnd}
 use Rattle.commands.specs.declared.texts.Refusal.TheVariants.{Readings as ReadingsRefusal}
 use Rattle.ideal_masks.proofs.Isolation.{isolated}
 use Rattle.ideal_masks.proofs.FiniteTables.{is_table, keeps_lines}
-use Rattle.commands.proofs.StreamLemmas.{streams_small}
+use Rattle.commands.proofs.StreamLemmas.{words_small}
+use Rattle.commands.proofs.RingLemmas.{ring_isolated}
 
 -- ---- who has a reading
 
@@ -179,11 +181,11 @@ record IsGood (readings : ReadingsView) (m : Masks) (slots : List Slot) (entries
   posts : posts_of entries ≡ posts_by_lanes (shape_of_readings readings.plan.groups (reading readings.table)) (clock_of readings.plan) slots
   reports : IsReported (shape_of_readings readings.plan.groups (reading readings.table)) (clock_of readings.plan) slots (contents_of_tables readings.plan.groups (reading readings.table) m) entries
 
-good : (readings : ReadingsView) (keys : Keys) (slots : List Slot) (book : BookView) (t : TranscriptView) → IsFinished readings keys slots book t → IsGood readings (streams keys) slots t.entries
-good readings keys slots book t finished =
+good : (readings : ReadingsView) (m : Masks) (slots : List Slot) (book : BookView) (t : TranscriptView) → IsFinishedUnder readings m slots book t → IsGood readings m slots t.entries
+good readings m slots book t finished =
     let s : Shape = shape_of_readings readings.plan.groups (reading readings.table) in
     let c : Clock = clock_of readings.plan in
-    let words : Contents = contents_of_tables readings.plan.groups (reading readings.table) (streams keys) in
+    let words : Contents = contents_of_tables readings.plan.groups (reading readings.table) m in
     let runs : IsRunPlan s c = can_run readings.plan readings.table finished.limits finished.table in
     let P : Shape → Type 0 = λ shape. IsTickRun shape c slots t.entries in
     let ticks : IsTickRun s c slots t.entries = subst P (same_shape readings) finished.ticks in
@@ -208,23 +210,33 @@ plan_of_readings plan bytes readings is = plan_of_value (rows_fault reading_of p
 unfoldable pub with_plan : PlanFileView → List Slot → ReadingsView → PlanView → Values
 with_plan file slots readings plan = record { file = record file { plan = plan }; slots = slots; readings = readings }
 
--- the run of a finished run
-run_of : (readings : ReadingsView) (file : PlanFileView) (slots : List Slot) (book : BookView) (t : TranscriptView)
-    → IsFinished readings file.keys slots book t → IsGood readings (streams file.keys) slots t.entries → IsRunOf (with_plan file slots readings readings.plan) t.entries
+-- each table is isolated
+isolated_by : (sharing : Sharing) (readings : ReadingsView) (file : PlanFileView) (slots : List Slot) (events : List Event) → IsWithinLimits readings.plan → IsReadingTable readings.plan readings.table
+    → IsIsolatedBy sharing (with_plan file slots readings readings.plan) events
 unfolding with_plan
-run_of readings file slots book t finished is =
+isolated_by WithEach readings file slots events limits fits = isolated readings.plan readings.table events fits
+isolated_by (WithNeighbours w) readings file slots events limits fits =
+    ring_isolated w readings.plan readings.table events fits.of_members (λ y fits. bounded readings.plan y limits fits) (bounded readings.plan readings.table limits fits)
+
+-- the run of a finished run
+run_of : (sharing : Sharing) (readings : ReadingsView) (file : PlanFileView) (slots : List Slot) (book : BookView) (t : TranscriptView)
+    → IsFinishedUnder readings (words_by sharing readings.plan file.keys) slots book t → IsGood readings (words_by sharing readings.plan file.keys) slots t.entries
+    → IsRunBy sharing (with_plan file slots readings readings.plan) t.entries
+unfolding with_plan
+run_of sharing readings file slots book t finished is =
+    let m : Masks = words_by sharing readings.plan file.keys in
     let s : Shape = shape_of_readings readings.plan.groups (reading readings.table) in
     let c : Clock = clock_of readings.plan in
     record {
       ticks = is.ticks;
       delays = finished.delays;
       lines = finished.lines;
-      words = is_table readings.plan (streams file.keys) (streams_small file.keys);
-      finite = finished.lines ∙ sym (keeps_lines readings.plan readings.table (streams file.keys) (events_of t.entries) finished.table);
+      words = is_table readings.plan m (words_small sharing readings.plan file.keys);
+      finite = finished.lines ∙ sym (keeps_lines readings.plan readings.table m (events_of t.entries) finished.table);
       fates = is.posts;
       rows = λ g r g_in r_in.
           is.reports.rows g r g_in r_in ∙ sym (ap (λ posts. row s c (fate_at posts) (plain_sum (reading readings.table)) g r) is.posts);
-      isolated = isolated readings.plan readings.table (events_of t.entries) finished.table;
+      isolated = isolated_by sharing readings file slots (events_of t.entries) finished.limits finished.table;
     }
 
 -- the rows of a book, and its summary
@@ -234,12 +246,12 @@ told_rows p j = report_rows p.plan (λ g r. outcome_row (shape_of_presence p) (c
 told_summary : PresenceView → List Line → List ℕ
 told_summary p j = summary_text (summary_of_lines (shape_of_presence p) (clock_of p.plan) (contents_of_lines j).total j)
 
-report_is : (readings : ReadingsView) (file : PlanFileView) (slots : List Slot) (book : BookView) (t : TranscriptView)
-    → IsTold readings.plan.groups (reading readings.table) (streams file.keys) (lines_of t.entries)
-    → IsFinished readings file.keys slots book t → IsRunOf (with_plan file slots readings readings.plan) t.entries
+report_is : (sharing : Sharing) (readings : ReadingsView) (m : Masks) (file : PlanFileView) (slots : List Slot) (book : BookView) (t : TranscriptView)
+    → IsTold readings.plan.groups (reading readings.table) m (lines_of t.entries)
+    → IsFinishedUnder readings m slots book t → IsRunBy sharing (with_plan file slots readings readings.plan) t.entries
     → told_rows book.presence book.journal ≡ report_rows readings.plan (row_in (with_plan file slots readings readings.plan) t.entries)
 unfolding told_rows with_plan
-report_is readings file slots book t is finished run =
+report_is sharing readings m file slots book t is finished run =
     let x : Readings = reading readings.table in
     let s : Shape = shape_of_readings readings.plan.groups x in
     let ls : List Line = lines_of t.entries in
@@ -248,17 +260,17 @@ report_is readings file slots book t is finished run =
     ∙ ap (told_rows (presence_of readings)) finished.journal
     ∙ ap by_shape (same_shape readings)
     ∙ same_report readings.plan _ _ (λ g r g_in r_in.
-    same_row readings.plan.groups x (streams file.keys) ls is g r
+    same_row readings.plan.groups x m ls is g r
     ∙ ap (λ es. outcome_row s (plain_sum x) g r (reverse es)) (events-lines t.entries)
     ∙ run.rows g r g_in r_in)
 
-summary_is : (readings : ReadingsView) (file : PlanFileView) (slots : List Slot) (book : BookView) (t : TranscriptView)
-    → IsTold readings.plan.groups (reading readings.table) (streams file.keys) (lines_of t.entries)
-    → IsFinished readings file.keys slots book t → IsGood readings (streams file.keys) slots t.entries
+summary_is : (readings : ReadingsView) (m : Masks) (slots : List Slot) (book : BookView) (t : TranscriptView)
+    → IsTold readings.plan.groups (reading readings.table) m (lines_of t.entries)
+    → IsFinishedUnder readings m slots book t → IsGood readings m slots t.entries
     → told_summary book.presence book.journal
     ≡ summary_text (summary_of_posts (shape_of_readings readings.plan.groups (reading readings.table)) (clock_of readings.plan) (plain_sum (reading readings.table)) (posts_of t.entries))
 unfolding told_summary
-summary_is readings file slots book t is finished well =
+summary_is readings m slots book t is finished well =
     let x : Readings = reading readings.table in
     let s : Shape = shape_of_readings readings.plan.groups x in
     let c : Clock = clock_of readings.plan in
@@ -267,19 +279,25 @@ summary_is readings file slots book t is finished well =
     ap (λ p. told_summary p book.journal) finished.presence
     ∙ ap (told_summary (presence_of readings)) finished.journal
     ∙ ap by_shape (same_shape readings)
-    ∙ ap summary_text (same_summary readings.plan.groups x (streams file.keys) ls is c
+    ∙ ap summary_text (same_summary readings.plan.groups x m ls is c
     ∙ well.reports.summary
     ∙ sym (ap (summary_of_posts s c (plain_sum x)) well.posts))
 
+-- what is said of a book is what is said of its entries
+said_is : (sharing : Sharing) (s z : Shape) (p q : List Event) (one other text : List ℕ) → s ≡ z → p ≡ q → one ≡ other → IsSaidBy sharing s p one text → IsSaidBy sharing z q other text
+said_is sharing s z p q one other text shape past same said =
+    subst (λ summary. IsSaidBy sharing z q summary text) same (subst (λ whole. IsSaidBy sharing z whole one text) past (subst (λ shape. IsSaidBy sharing shape p one text) shape said))
+
 -- the texts of a finished run of the values of the files are those that the files make
-pub made : (file : PlanFileView) (slots : List Slot) (readings : ReadingsView) (book : BookView) (t : TranscriptView) (texts : Texts)
-    → IsFinished readings file.keys slots book t → AreTextsOf book t texts
-    → AreSound (with_plan file slots readings readings.plan) × IsRunOf (with_plan file slots readings readings.plan) t.entries × AreTexts (with_plan file slots readings readings.plan) t.entries texts
+pub made : (sharing : Sharing) (file : PlanFileView) (slots : List Slot) (readings : ReadingsView) (book : BookView) (t : TranscriptView) (texts : Texts)
+    → IsFinishedUnder readings (words_by sharing readings.plan file.keys) slots book t → AreTextsOf sharing book t texts
+    → AreSound (with_plan file slots readings readings.plan) × IsRunBy sharing (with_plan file slots readings readings.plan) t.entries × AreTextsBy sharing (with_plan file slots readings readings.plan) t.entries texts
 unfolding with_plan told_rows told_summary book_row book_summary
-made file slots readings book t texts finished written =
-    let well : IsGood readings (streams file.keys) slots t.entries = good readings file.keys slots book t finished in
-    let is = told readings (streams file.keys) t.entries finished.limits finished.table finished.lines in
-    let run = run_of readings file slots book t finished well in
+made sharing file slots readings book t texts finished written =
+    let m : Masks = words_by sharing readings.plan file.keys in
+    let well : IsGood readings m slots t.entries = good readings m slots book t finished in
+    let is = told readings m t.entries finished.limits finished.table finished.lines in
+    let run = run_of sharing readings file slots book t finished well in
     let with_entries : PlanView → TranscriptView = λ plan. record { plan = plan; entries = t.entries } in (
       record { limits = finished.limits; table = finished.table },
       run,
@@ -287,20 +305,21 @@ made file slots readings book t texts finished written =
         sound = subst (λ plan. IsTranscript (with_entries plan)) finished.plan written.sound;
         transcript = written.transcript ∙ ap (λ plan. transcript_text (with_entries plan)) finished.plan;
         read_back = written.read_back ∙ ap (λ plan. Ok (with_entries plan)) finished.plan;
-        report = written.report ∙ ap rows_text (report_is readings file slots book t is finished run);
-        rows_back = written.rows_back ∙ ap Ok (report_is readings file slots book t is finished run);
-        summary = written.summary ∙ summary_is readings file slots book t is finished well;
+        report = written.report ∙ ap rows_text (report_is sharing readings m file slots book t is finished run);
+        rows_back = written.rows_back ∙ ap Ok (report_is sharing readings m file slots book t is finished run);
+        summary = said_is sharing _ _ _ _ _ _ texts.summary (ap shape_of_presence finished.presence ∙ same_shape readings)
+            (ap past_of finished.journal ∙ ap reverse (events-lines t.entries)) (summary_is readings m slots book t is finished well) written.summary;
       },
     )
 
-pub makes : (cupboard : List Meaning) (plan_bytes readings_bytes : List ℕ) (file : PlanFileView) (lanes : List LaneRow) (slots : List Slot) (readings : ReadingsView) (book : BookView) (t : TranscriptView) (texts : Texts)
+pub makes : (sharing : Sharing) (cupboard : List Meaning) (plan_bytes readings_bytes : List ℕ) (file : PlanFileView) (lanes : List LaneRow) (slots : List Slot) (readings : ReadingsView) (book : BookView) (t : TranscriptView) (texts : Texts)
     → plan_of plan_bytes ≡ Ok file → lanes ≡ file.lanes → hung_by cupboard lanes ≡ Ok slots → readings_of file.plan readings_bytes ≡ Ok readings
-    → IsFinished readings file.keys slots book t → AreTextsOf book t texts
-    → Makes cupboard plan_bytes readings_bytes texts
+    → IsFinishedUnder readings (words_by sharing readings.plan file.keys) slots book t → AreTextsOf sharing book t texts
+    → MakesBy sharing cupboard plan_bytes readings_bytes texts
 unfolding with_plan
-makes cupboard plan_bytes readings_bytes file lanes slots readings book t texts plan_is rows hang readings_are finished written =
-    let P : PlanView → Type 0 = λ plan. AreSound (with_plan file slots readings plan) × IsRunOf (with_plan file slots readings plan) t.entries × AreTexts (with_plan file slots readings plan) t.entries texts in
-    let both : P file.plan = subst P (plan_of_readings file.plan readings_bytes readings readings_are) (made file slots readings book t texts finished written) in
+makes sharing cupboard plan_bytes readings_bytes file lanes slots readings book t texts plan_is rows hang readings_are finished written =
+    let P : PlanView → Type 0 = λ plan. AreSound (with_plan file slots readings plan) × IsRunBy sharing (with_plan file slots readings plan) t.entries × AreTextsBy sharing (with_plan file slots readings plan) t.entries texts in
+    let both : P file.plan = subst P (plan_of_readings file.plan readings_bytes readings readings_are) (made sharing file slots readings book t texts finished written) in
     record {
       values = with_plan file slots readings file.plan;
       entries = t.entries;
@@ -329,10 +348,10 @@ but_memory (cause.Member e) claim other is = is
 but_memory cause.NotMember claim other is = is
 
 -- the readings file has a fault, where the plan file has none and its lanes hang
-pub readings_refused : (cupboard : List Meaning) (plan_bytes readings_bytes : List ℕ) (is_writable : Bool) (file : PlanFileView) (lanes : List LaneRow) (slots : List Slot) (fault : FileError)
+pub readings_refused : (sharing : Sharing) (cupboard : List Meaning) (plan_bytes readings_bytes : List ℕ) (is_writable : Bool) (file : PlanFileView) (lanes : List LaneRow) (slots : List Slot) (fault : FileError)
     → plan_of plan_bytes ≡ Ok file → lanes ≡ file.lanes → hung_by cupboard lanes ≡ Ok slots → ReadingsEnd file.plan readings_bytes (Err fault)
-    → (fault.cause ≡ cause.Memory → ⊥) → TextsEnd cupboard plan_bytes readings_bytes is_writable (Err (ReadingsRefusal fault))
-readings_refused cupboard plan_bytes readings_bytes is_writable file lanes slots fault plan_is rows hang ends other =
+    → (fault.cause ≡ cause.Memory → ⊥) → TextsEnd sharing cupboard plan_bytes readings_bytes is_writable (Err (ReadingsRefusal fault))
+readings_refused sharing cupboard plan_bytes readings_bytes is_writable file lanes slots fault plan_is rows hang ends other =
     (file, slots, plan_is, ap (hung_by cupboard) (sym rows) ∙ hang, but_memory fault.cause _ other ends)
 
 -- neither file has a fault and the lanes hang
@@ -346,7 +365,7 @@ has_values cupboard plan_bytes readings_bytes file lanes slots readings plan_is 
 
 -- ---- what the files and the lanes alone decide
 
-same_values : (cupboard : List Meaning) (p r : List ℕ) (v w : Values) → AreValues cupboard p r v → AreValues cupboard p r w → v ≡ w
+pub same_values : (cupboard : List Meaning) (p r : List ℕ) (v w : Values) → AreValues cupboard p r v → AreValues cupboard p r w → v ≡ w
 same_values cupboard p r v w first second =
     let file : v.file ≡ w.file = (let one = first.plan in let two = second.plan in cc) in
     let slots : v.slots ≡ w.slots =
@@ -371,24 +390,30 @@ report_of v =
 summary_of : Values → List ℕ
 summary_of v = summary_text (summary_of_posts (shape_in v) (clock_in v) (plain_sum (readings_in v)) (posts_by_lanes (shape_in v) (clock_in v) v.slots))
 
-report_decided : (v : Values) (entries : List Entry) (texts : Texts) → IsRunOf v entries → AreTexts v entries texts → texts.report ≡ report_of v
+report_decided : (sharing : Sharing) (v : Values) (entries : List Entry) (texts : Texts) → IsRunBy sharing v entries → AreTextsBy sharing v entries texts → texts.report ≡ report_of v
 unfolding report_of
-report_decided v entries texts run told =
+report_decided sharing v entries texts run told =
     told.report ∙ ap (λ posts. report_text (plan_in v) (λ g r. row (shape_in v) (clock_in v) (fate_at posts) (plain_sum (readings_in v)) g r)) run.fates
 
-summary_decided : (v : Values) (entries : List Entry) (texts : Texts) → IsRunOf v entries → AreTexts v entries texts → texts.summary ≡ summary_of v
+summary_decided : (sharing : Sharing) (v : Values) (entries : List Entry) → IsRunBy sharing v entries → summary_in v entries ≡ summary_of v
 unfolding summary_of
-summary_decided v entries texts run told =
-    told.summary ∙ ap (λ posts. summary_text (summary_of_posts (shape_in v) (clock_in v) (plain_sum (readings_in v)) posts)) run.fates
+summary_decided sharing v entries run =
+    ap (λ posts. summary_text (summary_of_posts (shape_in v) (clock_in v) (plain_sum (readings_in v)) posts)) run.fates
 
-pub is_only : (cupboard : List Meaning) (p r : List ℕ) (texts : Texts) → Makes cupboard p r texts → IsOnly cupboard p r texts
-is_only cupboard p r texts made = record {
+one_summary : (sharing : Sharing) (s z : Shape) (p q : List Event) (first second one other : List ℕ) → first ≡ second → IsSaidBy sharing s p first one → IsSaidBy sharing z q second other → IsOneSummary sharing one other
+one_summary WithEach s z p q first second one other same mine yours = mine ∙ same ∙ sym yours
+one_summary (WithNeighbours w) s z p q first second one other same (j, is_j, mine) (k, is_k, yours) = (second, j, k, mine ∙ ap (λ summary. summary ++ least_line j) same, yours)
+
+pub is_only : (sharing : Sharing) (cupboard : List Meaning) (p r : List ℕ) (texts : Texts) → MakesBy sharing cupboard p r texts → IsOnlyBy sharing cupboard p r texts
+is_only sharing cupboard p r texts made = record {
   report = λ others theirs.
-      report_decided theirs.values theirs.entries others theirs.run theirs.told
+      report_decided sharing theirs.values theirs.entries others theirs.run theirs.told
       ∙ ap report_of (same_values cupboard p r theirs.values made.values theirs.of_bytes made.of_bytes)
-      ∙ sym (report_decided made.values made.entries texts made.run made.told);
+      ∙ sym (report_decided sharing made.values made.entries texts made.run made.told);
   summary = λ others theirs.
-      summary_decided theirs.values theirs.entries others theirs.run theirs.told
+      one_summary sharing _ _ _ _ (summary_in theirs.values theirs.entries) (summary_in made.values made.entries) _ _
+      (summary_decided sharing theirs.values theirs.entries theirs.run
       ∙ ap summary_of (same_values cupboard p r theirs.values made.values theirs.of_bytes made.of_bytes)
-      ∙ sym (summary_decided made.values made.entries texts made.run made.told);
+      ∙ sym (summary_decided sharing made.values made.entries made.run))
+      theirs.told.summary made.told.summary;
 }

@@ -1,7 +1,6 @@
 -- What a run stored: the audit finds no fault in it, and it is the record of the readings.
 use Rattle.std.proofs.Common.{◌≡◌, ◌≤◌, ℕ, List, length, is_some, sym, ap, ◌∙◌, subst, Result, Ok}
 use Rattle.link_lanes.specs.Lanes.{Meaning}
-use Rattle.mask_stream.specs.KeyStreams.{streams}
 use Rattle.transcript_text.specs.declared.version.Version.TheVariants.{Two}
 use Rattle.transcript_text.specs.Heads.{read_of}
 use Rattle.totals_report.specs.declared.row.ReportRow.{ReportRow}
@@ -16,7 +15,8 @@ use Rattle.audit_check.specs.Statements.{IsHonest, FindsNone}
 use Rattle.audit_check.proofs.HonestLemmas.{honest_are_accepted}
 use Rattle.audit_check.proofs.RunLengths.{transcripts_short, reports_short}
 use Rattle.commands.specs.Calls.{most_bytes}
-use Rattle.commands.specs.Runs.{plan_in, readings_in, shape_in, clock_in, row_in, transcript_in, Texts, Makes}
+use Rattle.commands.specs.declared.sharing.Sharing.{Sharing}
+use Rattle.commands.specs.Runs.{words_by, plan_in, readings_in, shape_in, clock_in, row_in, transcript_in, Texts, MakesBy}
 use Rattle.commands.specs.Audits.{Audited, RunsAreConfirmed, RunsAreShort}
 use Rattle.transcript_log.specs.Events.{events_of}
 use Rattle.transcript_log.specs.Transcript.{Contents, contents_of_tables, transcript}
@@ -27,9 +27,9 @@ same_ok : {A E : Type 0} (r : Result A E) (a b : A) → r ≡ Ok a → r ≡ Ok 
 same_ok r a b first second = cc
 
 -- a run is honest
-honest : (cupboard : List Meaning) (p r : List ℕ) (texts : Texts) (made : Makes cupboard p r texts)
-    → IsHonest (transcript_in made.values made.entries) (readings_in made.values) (streams made.values.file.keys) (row_in made.values made.entries)
-honest cupboard p r texts made = record {
+honest : (sharing : Sharing) (cupboard : List Meaning) (p r : List ℕ) (texts : Texts) (made : MakesBy sharing cupboard p r texts)
+    → IsHonest (transcript_in made.values made.entries) (readings_in made.values) (words_by sharing (plan_in made.values) made.values.file.keys) (row_in made.values made.entries)
+honest sharing cupboard p r texts made = record {
   is_one = made.told.sound;
   explain = record {
     of_plan = made.sound.table.of_members;
@@ -40,25 +40,25 @@ honest cupboard p r texts made = record {
 }
 
 -- so an audit finds no fault in it
-pub audited_well : (cupboard : List Meaning) (p r : List ℕ) (texts : Texts) (made : Makes cupboard p r texts) (result : Result AuditCounts AuditError)
+pub audited_well : (sharing : Sharing) (cupboard : List Meaning) (p r : List ℕ) (texts : Texts) (made : MakesBy sharing cupboard p r texts) (result : Result AuditCounts AuditError)
     → AuditEnds (transcript_in made.values made.entries) (report_rows (plan_in made.values) (row_in made.values made.entries)) result → FindsNone result
-audited_well cupboard p r texts made result ends =
-    honest_are_accepted (transcript_in made.values made.entries) (readings_in made.values) (streams made.values.file.keys) (row_in made.values made.entries) result
-    (honest cupboard p r texts made) ends
+audited_well sharing cupboard p r texts made result ends =
+    honest_are_accepted (transcript_in made.values made.entries) (readings_in made.values) (words_by sharing (plan_in made.values) made.values.file.keys) (row_in made.values made.entries) result
+    (honest sharing cupboard p r texts made) ends
 
 -- nor in its texts
-no_fault : (cupboard : List Meaning) (p r : List ℕ) (texts : Texts) (made : Makes cupboard p r texts) (result : Result AuditCounts AuditError)
+no_fault : (sharing : Sharing) (cupboard : List Meaning) (p r : List ℕ) (texts : Texts) (made : MakesBy sharing cupboard p r texts) (result : Result AuditCounts AuditError)
     → Audited texts.transcript texts.report result → FindsNone result
-no_fault cupboard p r texts made result (t, rows, read, ends) =
+no_fault sharing cupboard p r texts made result (t, rows, read, ends) =
     let mine : List ReportRow = report_rows (plan_in made.values) (row_in made.values made.entries) in
     let same_t : t ≡ transcript_in made.values made.entries = same_ok (read_of Two texts.transcript) t (transcript_in made.values made.entries) read.transcript made.told.read_back in
     let same_rows : rows ≡ mine = same_ok (rows_of_text texts.report) rows mine read.report made.told.rows_back in
     let by_t : AuditEnds (transcript_in made.values made.entries) rows result = subst (λ t. AuditEnds t rows result) same_t ends in
     let by_rows : AuditEnds (transcript_in made.values made.entries) mine result = subst (λ rows. AuditEnds (transcript_in made.values made.entries) rows result) same_rows by_t in
-    audited_well cupboard p r texts made result by_rows
+    audited_well sharing cupboard p r texts made result by_rows
 
 pub runs_are_confirmed : RunsAreConfirmed
-runs_are_confirmed cupboard p r texts made = record {
+runs_are_confirmed sharing cupboard p r texts made = record {
   transcript = transcript_in made.values made.entries;
   rows = report_rows (plan_in made.values) (row_in made.values made.entries);
   read = record {
@@ -68,12 +68,12 @@ runs_are_confirmed cupboard p r texts made = record {
     report_is = made.told.report;
     report = made.told.rows_back;
   };
-  none = no_fault cupboard p r texts made;
+  none = no_fault sharing cupboard p r texts made;
 }
 
 -- the transcript of a run is the record of its readings
 pub runs_are_recorded : RunsAreRecorded
-runs_are_recorded cupboard p r texts made =
+runs_are_recorded sharing cupboard p r texts made =
     let plan : made.values.readings.plan ≡ plan_in made.values =
     plan_of_readings (plan_in made.values) r made.values.readings made.of_bytes.readings
     in (
@@ -86,16 +86,16 @@ runs_are_recorded cupboard p r texts made =
         text_of = record { sound = made.told.sound; text_is = made.told.transcript; read = made.told.read_back };
         plan_is = sym plan;
         lines_are = made.run.lines
-            ∙ ap (λ plan. transcript plan.groups (readings_in made.values) (streams made.values.file.keys) (events_of made.entries)) (sym plan);
+            ∙ ap (λ plan. transcript plan.groups (readings_in made.values) (words_by sharing (plan_in made.values) made.values.file.keys) (events_of made.entries)) (sym plan);
       },
     )
 
 -- the texts of a run are short
 pub runs_are_short : RunsAreShort
-runs_are_short cupboard p r texts made =
+runs_are_short sharing cupboard p r texts made =
     let plan = plan_in made.values in
     let x = readings_in made.values in
-    let words : Contents = contents_of_tables plan.groups x (streams made.values.file.keys) in
+    let words : Contents = contents_of_tables plan.groups x (words_by sharing (plan_in made.values) made.values.file.keys) in
     let run : IsRun (shape_in made.values) (clock_in made.values) made.values.slots words made.entries = record {
       run = made.run.ticks;
       delays = made.run.delays;

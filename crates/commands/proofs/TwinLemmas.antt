@@ -4,6 +4,7 @@ use mathlib.Core.Path.{fun_ext}
 use Rattle.std.specs.Prelude.{codes, length}
 use Rattle.std.proofs.lemmas.Bool.{false≢true}
 use Rattle.desk_outside.specs.Desk.{View}
+use Rattle.group_plan.specs.Plans.{PlanView}
 use Rattle.group_plan.specs.Tables.{ReadingsView}
 use Rattle.plan_files.specs.declared.fault.FileError.{FileError}
 use Rattle.plan_files.specs.declared.fault.FileCause.TheVariants as cause
@@ -24,14 +25,15 @@ use Rattle.twin_worlds.specs.declared.answers.PoolTwinError.TheVariants as pool_
 use Rattle.twin_worlds.specs.MasksText.{masks_text}
 use Rattle.twin_worlds.specs.Twins.{Disagree, DisagreeFor, TwinEnds, PooledTwinEnds}
 use Rattle.command_words.specs.declared.outcome.Outcome.{Outcome}
-use Rattle.command_words.specs.declared.outcome.Outcome.TheVariants.{Done, NoMemory, BadWords, CannotRead, TooLong, CannotWrite, CannotPrint, BadPlan, BadReadings, BadTranscript, BadReport, Impossible, NotInTime, OtherRow, OtherPlan, OtherLine, OtherPresence, OtherKnown, OtherTotal, BadLane, NoPartner}
+use Rattle.command_words.specs.declared.outcome.Outcome.TheVariants.{Done, NoMemory, BadWords, CannotRead, TooLong, CannotWrite, CannotPrint, BadPlan, BadReadings, BadTranscript, BadReport, Impossible, NotInTime, NotThisRun, OtherRow, OtherPlan, OtherLine, OtherPresence, OtherKnown, OtherTotal, OtherComponent, BadLane, NoPartner}
 use Rattle.command_words.specs.declared.known.KnownMeter.{KnownMeter}
 use Rattle.command_words.specs.Known.{known_of, IsKnown, is_known, AreSetsOf}
 use Rattle.command_words.specs.Words.{TwinNames}
 use Rattle.commands.specs.Calls.{after_fetches, putting, PutsEnd}
 use Rattle.commands.specs.Ends.{compared_by, moved_line, counted_line, TwinCommandEnds, PooledEndsAs}
 use Rattle.commands.specs.Twins.{TwinBytes, Compared, TwinRefuses}
-use Rattle.commands.specs.Pooled.{PooledCompared, RefusesSecondFor, PooledRefuses}
+use Rattle.commands.specs.Pooled.{PooledCompared, PooledRefuses}
+use Rattle.commands.specs.TwinTexts.{TablesRefused}
 use Rattle.commands.specs.PooledParts.{IsPlanFor}
 use Rattle.commands.proofs.RunLemmas.{but_memory}
 
@@ -41,10 +43,19 @@ use Rattle.commands.proofs.RunLemmas.{but_memory}
 pool-is : (known : List KnownMeter) (sets : List (List ℕ)) → AreSetsOf known sets → pool_of sets ≡ is_known known
 pool-is known sets are = fun_ext (λ g. fun_ext (λ i. are g i))
 
--- the second table is refused, where the plan file and the first table are not
-pub second_refused_for : (known : List KnownMeter) (bytes : TwinBytes) (file : PlanFileView) (sets : List (List ℕ)) (first : ReadingsView) (fault : FileError) → IsPlanFor known bytes file sets
-    → readings_of file.plan bytes.readings ≡ Ok first → ReadingsEnd file.plan bytes.other (Err fault) → (fault.cause ≡ cause.Memory → ⊥) → RefusesSecondFor known bytes fault
-second_refused_for known bytes file sets first fault is first_is ends other = (file, first, is.plan, is.within, first_is, but_memory fault.cause _ other ends)
+-- the second table is refused, where the first one is not
+pub second_refused : (plan : PlanView) (bytes : TwinBytes) (first : ReadingsView) (fault : FileError)
+    → readings_of plan bytes.readings ≡ Ok first → ReadingsEnd plan bytes.other (Err fault) → (fault.cause ≡ cause.Memory → ⊥)
+    → (first : ReadingsView) × (readings_of plan bytes.readings ≡ Ok first) × (readings_of plan bytes.other ≡ Err fault)
+second_refused plan bytes first fault first_is ends other = (first, first_is, but_memory fault.cause _ other ends)
+
+-- a table is refused, where the plan file is not
+pub tables_refused_for : (known : List KnownMeter) (names : TwinNames) (bytes : TwinBytes) (file : PlanFileView) (sets : List (List ℕ)) (outcome : Outcome) → IsPlanFor known bytes file sets
+    → TablesRefused names bytes file.plan outcome → PooledRefuses known names bytes outcome
+tables_refused_for known names bytes file sets (BadReadings name fault) is (inl (named, bad)) = inl (named, (file, is.plan, is.within, bad))
+tables_refused_for known names bytes file sets (BadReadings name fault) is (inr (named, (first, first_is, bad))) = inr (named, (file, first, is.plan, is.within, first_is, bad))
+tables_refused_for known names bytes file sets NoMemory is refused = tt
+tables_refused_for known names bytes file sets _ is refused = absurd refused
 
 pub pooled_compared : (known : List KnownMeter) (bytes : TwinBytes) (file : PlanFileView) (sets : List (List ℕ)) (first second : ReadingsView) (result : Result (List MovedRow) PoolTwinError)
     → IsPlanFor known bytes file sets → readings_of file.plan bytes.readings ≡ Ok first → readings_of file.plan bytes.other ≡ Ok second
@@ -102,6 +113,7 @@ refuses-nobody names bytes (BadTranscript name fault) (named, compared) = (named
 refuses-nobody names bytes (BadReport name line) ends = ends
 refuses-nobody names bytes (Impossible name line) ends = ends
 refuses-nobody names bytes (NotInTime name line) ends = ends
+refuses-nobody names bytes (NotThisRun name line) ends = ends
 refuses-nobody names bytes (OtherRow at from_frames reported) ends = ends
 refuses-nobody names bytes (OtherPlan name) (named, compared) = (named, compared-nobody bytes twin.Head compared)
 refuses-nobody names bytes (OtherLine name line expected) (named, (found, compared)) =
@@ -109,6 +121,7 @@ refuses-nobody names bytes (OtherLine name line expected) (named, (found, compar
 refuses-nobody names bytes (OtherPresence group round meter) compared = compared-nobody bytes (twin.Differ (differ.Presence group round meter)) compared
 refuses-nobody names bytes (OtherKnown group round meter) (values, are, within, (t, is, apart)) = absurd (false≢true apart.first.known)
 refuses-nobody names bytes (OtherTotal group round first second) compared = compared-nobody bytes (twin.Differ (differ.Total group round first second)) compared
+refuses-nobody names bytes (OtherComponent group round least first second) ends = ends
 refuses-nobody names bytes (BadLane fault) ends = ends
 refuses-nobody names bytes (NoPartner group round meter) ends = ends
 

@@ -21,26 +21,30 @@ use Rattle.plan_files.specs.PlanFiles.{PlanFileView, plan_of, public_of}
 use Rattle.run_course.specs.Beginnings.{IsSomeRun}
 use Rattle.command_words.specs.declared.known.KnownMeter.{KnownMeter}
 use Rattle.command_words.specs.Known.{is_known, are_in_plan}
-use Rattle.command_words.specs.Words.{RunNames, TwinNames, Size, Command, Run, Audit, Twin, Pooled, Make, Load, Convert, Public, Help, Version, BillNames, HideNames, Bill, Hide, InspectNames, Inspect, Registers, RegisterNames}
+use Rattle.command_words.specs.Words.{RunNames, TwinNames, Size, Command, Run, Ring, Audit, Twin, RingTwin, Pooled, Make, Load, Convert, Public, Help, Version, BillNames, HideNames, Bill, Hide, InspectNames, Inspect, Registers, RegisterNames, Resume, ResumeNames}
 use Rattle.command_words.specs.declared.words.Period.{Period}
 use Rattle.command_words.specs.declared.words.Place.{Place}
 use Rattle.billing_read.specs.declared.partners.Partner.{Partner}
 use Rattle.billing_read.specs.Partners.{IsPartner}
 use Rattle.transcript_log.specs.Transcript.{shape_of_readings}
+use Rattle.cut_resume.specs.OnCourse.{OnCourse}
 use Rattle.commands.specs.Billing.{Metered, AreMetered, HideBytes, IsTextIn}
 use Rattle.commands.specs.Calls.{most_bytes}
 use Rattle.commands.specs.Ends.{made_file_of}
 use Rattle.commands.specs.Inspecting.{InspectBytes}
 use Rattle.commands.specs.Twins.{TwinBytes, TwinValues, AreTwinValues}
 use Rattle.commands.specs.RegisterRuns.{RegisterValues, AreRegisterValues}
-use Rattle.commands.specs.Runs.{Values, AreValues}
+use Rattle.commands.specs.RingIsolation.{AgreeOnRing}
+use Rattle.commands.specs.RingTwins.{ring_words}
+use Rattle.commands.specs.ResumeRuns.{ResumeBytes, IsCutOf}
+use Rattle.commands.specs.Runs.{plan_in, Values, AreValues}
 
 -- the desk tells that the name holds these bytes, and they are not too many
 pub record HoldsFile (v : View) (name bytes : List ℕ) : Type 0 where
   pub held : v.held name ≡ Some (Some bytes)
   pub short : length bytes ≤ most_bytes
 
--- the two files of `run` have values, for which the cupboard has the lanes
+-- the two files of `run` or `ring` have values, for which the cupboard has the lanes
 pub record RunAccepts (cupboard : List Meaning) (names : RunNames) (v : View) : Type 0 where
   pub plan_bytes : List ℕ
   pub readings_bytes : List ℕ
@@ -48,6 +52,18 @@ pub record RunAccepts (cupboard : List Meaning) (names : RunNames) (v : View) : 
   pub readings : HoldsFile v names.readings readings_bytes
   pub values : Values
   pub of_bytes : AreValues cupboard plan_bytes readings_bytes values
+
+-- the three files of `resume` have values, for which the cupboard has the lanes, and CUT is a cut of the plan whose entries are on course
+pub record ResumeAccepts (cupboard : List Meaning) (names : ResumeNames) (v : View) : Type 0 where
+  pub bytes : ResumeBytes
+  pub plan : HoldsFile v names.plan bytes.plan
+  pub readings : HoldsFile v names.readings bytes.readings
+  pub cut_file : HoldsFile v names.cut bytes.cut
+  pub values : Values
+  pub of_bytes : AreValues cupboard bytes.plan bytes.readings values
+  pub cut : TranscriptView
+  pub of_plan : IsCutOf (plan_in values) bytes.cut cut
+  pub on_course : OnCourse values.readings (streams values.file.keys) values.slots cut.entries
 
 -- the two files of `registers` have values, for which the cupboard has the lanes
 pub record RegistersAccept (cupboard : List Meaning) (count : ℕ) (names : RegisterNames) (v : View) : Type 0 where
@@ -84,6 +100,20 @@ pub record TwinAccepts (names : TwinNames) (v : View) : Type 0 where
   pub lines : TranscriptView
   pub recorded : IsRecord (streams values.file.keys) values.first bytes.transcript lines
   pub agree : Agree values.first.plan.groups (reading values.first.table) (reading values.second.table) (reverse (events_of lines.entries))
+
+-- the three files of `ringtwin` have values, TRANSCRIPT holds the record of the first table under the ring words of this width, and the second table agrees
+-- with the first on the ring
+pub record RingTwinAccepts (w : ℕ) (names : TwinNames) (v : View) : Type 0 where
+  pub bytes : TwinBytes
+  pub plan : HoldsFile v names.plan bytes.plan
+  pub readings : HoldsFile v names.readings bytes.readings
+  pub other : HoldsFile v names.other bytes.other
+  pub transcript : HoldsFile v names.transcript bytes.transcript
+  pub values : TwinValues
+  pub of_bytes : AreTwinValues bytes values
+  pub lines : TranscriptView
+  pub recorded : IsRecord (ring_words w values) values.first bytes.transcript lines
+  pub agree : AgreeOnRing w values.first.plan values.first.table values.second.table (events_of lines.entries)
 
 -- the three files of `pooled` have values, the plan has each known meter, TRANSCRIPT holds the record of the first table under the stream words of the keys,
 -- and the second table agrees with the first for the known meters
@@ -161,9 +191,12 @@ pub record HideAccepts (names : HideNames) (period : Period) (place : Place) (v 
 -- the files that a command fetches are accepted
 abbrev pub Accepts : List Meaning → Command → View → Type 0
 Accepts cupboard (Run names workers) v = RunAccepts cupboard names v
+Accepts cupboard (Ring width names workers) v = RunAccepts cupboard names v
+Accepts cupboard (Resume names workers) v = ResumeAccepts cupboard names v
 Accepts cupboard (Registers count names workers) v = RegistersAccept cupboard count names v
 Accepts cupboard (Audit transcript report) v = AuditAccepts transcript report v
 Accepts cupboard (Twin names) v = TwinAccepts names v
+Accepts cupboard (RingTwin width names) v = RingTwinAccepts width names v
 Accepts cupboard (Pooled known names) v = PooledAccepts known names v
 Accepts cupboard (Make size plan readings) v = Unit {0}
 Accepts cupboard (Load size workers transcript) v = LoadAccepts cupboard size

@@ -1,15 +1,37 @@
 -- A transcript's file that is written ahead, while the run goes on.
-use Rattle.std.specs.Prelude.{◌≡◌, ◌-◌, ◌^◌, ℕ, min, List, [], ◌∷◌, length}
+use Rattle.std.specs.Prelude.{◌≡◌, ◌<◌, ◌≤◌, ◌^◌, ℕ, Bool, true, List, [], ◌∷◌, length, take, drop, Option, Some, None, Result, IfOk, ⊤}
+use Rattle.std.specs.declared.alloc.AllocError.{AllocError}
 use Rattle.group_plan.specs.Plans.{PlanView}
+use Rattle.link_lanes.specs.declared.Post.{Post}
+use Rattle.link_lanes.specs.Lanes.{Slot}
 use Rattle.transcript_log.specs.declared.Entry.{Entry}
 use Rattle.transcript_log.specs.Transcripts.{TranscriptView}
 use Rattle.transcript_text.specs.Writing.{begun_text}
+use Rattle.tick_run.specs.Runs.{RunView, MakesTicks, HaveMet}
 
 -- what is written ahead of these entries: the head and their lines, or nothing where there is none
 abbrev pub text_ahead : PlanView → List Entry → List ℕ
 text_ahead plan [] = []
 text_ahead plan (e ∷ es) = begun_text plan (e ∷ es)
 
--- the file has the text of this transcript's entries, which are so many, or as many as can be counted
-abbrev pub IsAhead : {B : Type 0} → (B → List ℕ → Type 0) → B → ℕ → TranscriptView → Type 0
-IsAhead has file entries t = (entries ≡ min (length t.entries) (2 ^ 64 - 1)) × has file (text_ahead t.plan t.entries)
+-- the file has the text of the first entries of this transcript, so many of them
+pub record IsAhead {B : Type 0} (has : B → List ℕ → Type 0) (file : B) (entries : ℕ) (t : TranscriptView) : Type 0 where
+  pub within : entries ≤ length t.entries
+  pub text : has file (text_ahead t.plan (take entries t.entries))
+
+-- the part has the entries of this transcript behind the first ones, of which there are some
+pub record IsNext (entries : ℕ) (t part : TranscriptView) : Type 0 where
+  pub is : part ≡ record t { entries = drop entries t.entries }
+  pub some : entries < length t.entries
+  pub few : length t.entries < 2 ^ 64
+
+-- the run makes its next tick, unless memory lacks; its frames met the fates of the lanes
+pub record Ticks {M : Type 0} (run : RunView M) (lanes : List Slot) (posts : List Post) (result : Result (RunView M) AllocError) (hung : List Slot) (all : List Post) : Type 0 where
+  pub makes : IfOk result (MakesTicks 1 run)
+  pub met : (first : List Slot) → HaveMet first run lanes posts → IfOk result (λ after. HaveMet first after hung all)
+
+-- where there is a file, it is still the one of this name, and it remembers what failed
+abbrev pub SameFile : {A : Type 0} → Option A → Option A → (A → List ℕ) → (A → Bool) → Type 0
+SameFile None None name failed = ⊤
+SameFile (Some a) (Some b) name failed = (name b ≡ name a) × (failed a ≡ true → failed b ≡ true)
+SameFile _ _ name failed = ⊥

@@ -16,7 +16,8 @@ use Rattle.audit_check.specs.Statements.{FindsNone}
 use Rattle.command_words.specs.declared.outcome.Outcome.{Outcome}
 use Rattle.command_words.specs.declared.outcome.Outcome.TheVariants.{NoMemory, BadTranscript, BadReport, Impossible, OtherRow}
 use Rattle.commands.specs.Calls.{most_bytes}
-use Rattle.commands.specs.Runs.{Texts, Makes}
+use Rattle.commands.specs.declared.sharing.Sharing.{Sharing}
+use Rattle.commands.specs.Runs.{Texts, MakesBy}
 
 -- the bytes are the texts of a transcript and of a report with these rows, and are read as these
 pub record AreAuditTexts (transcript_bytes report_bytes : List ℕ) (t : TranscriptView) (rows : List ReportRow) : Type 0 where
@@ -61,10 +62,12 @@ pub record IsConfirmedRun (texts : Texts) : Type 0 where
 
 -- whatever files are run, the audit finds no fault in the transcript and the report that are made of them
 abbrev pub RunsAreConfirmed : Type 0
-RunsAreConfirmed = (cupboard : List Meaning) (plan_bytes readings_bytes : List ℕ) (texts : Texts) → Makes cupboard plan_bytes readings_bytes texts → IsConfirmedRun texts
+RunsAreConfirmed =
+    (sharing : Sharing) (cupboard : List Meaning) (plan_bytes readings_bytes : List ℕ) (texts : Texts) → MakesBy sharing cupboard plan_bytes readings_bytes texts
+    → IsConfirmedRun texts
 
 -- whatever files are run, the transcript and the report that are made of them are no longer than a file that is read may be
 abbrev pub RunsAreShort : Type 0
 RunsAreShort =
-    (cupboard : List Meaning) (plan_bytes readings_bytes : List ℕ) (texts : Texts) → Makes cupboard plan_bytes readings_bytes texts
+    (sharing : Sharing) (cupboard : List Meaning) (plan_bytes readings_bytes : List ℕ) (texts : Texts) → MakesBy sharing cupboard plan_bytes readings_bytes texts
     → (length texts.transcript ≤ most_bytes) × (length texts.report ≤ most_bytes)

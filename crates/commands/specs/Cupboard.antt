@@ -2,7 +2,7 @@
 use Rattle.std.specs.Prelude.{◌≡◌, ◌≢◌, ◌⊎◌, ◌<◌, ◌^◌, ℕ, true, List, [], ◌∷◌, ◌++◌, Option, None, Some}
 use Rattle.desk_outside.specs.Desk.{View, Rose}
 use Rattle.load_maker.specs.Sizes.{is_within}
-use Rattle.command_words.specs.Words.{Size, Command, Run, Registers, Load}
+use Rattle.command_words.specs.Words.{Size, Command, Run, Ring, Resume, Registers, Load}
 use Rattle.commands.specs.Ends.{made_plan_text, made_readings_text}
 use Rattle.link_lanes.specs.Lanes.{Meaning}
 use Rattle.link_lanes.specs.Kinds.{clear_by, rules_by, seeded_by, every_by, burst_by}
@@ -22,10 +22,12 @@ pub record IsMade (size : Size) : Type 0 where
   pub seed : size.seed < 2 ^ 64
   pub within : is_within size.groups size.meters size.rounds ≡ true
 
--- a command that runs a made plan: `load`, and `run` or `registers` where the desk tells that PLAN holds the plan file that `make` makes
+-- a command that runs a made plan: `load`, and `run`, `ring` or `registers` where the desk tells that PLAN holds the plan file that `make` makes
 abbrev pub RunsMadePlan : Command → View → Type 0
 RunsMadePlan (Load size workers transcript) v = IsMade size
 RunsMadePlan (Run names workers) v = (size : Size) × IsMade size × (v.held names.plan ≡ Some (Some (made_plan_text size)))
+RunsMadePlan (Ring width names workers) v = (size : Size) × IsMade size × (v.held names.plan ≡ Some (Some (made_plan_text size)))
+RunsMadePlan (Resume names workers) v = (size : Size) × IsMade size × (v.held names.plan ≡ Some (Some (made_plan_text size)))
 RunsMadePlan (Registers count names workers) v = (size : Size) × IsMade size × (v.held names.plan ≡ Some (Some (made_plan_text size)))
 RunsMadePlan _ v = ⊥
 
@@ -33,10 +35,12 @@ RunsMadePlan _ v = ⊥
 abbrev pub MadePlansGetLanes : Option Command → View → (status : ℕ) → Type 0
 MadePlansGetLanes asked v status = (command : Command) → asked ≡ Some command → RunsMadePlan command v → status ≢ 10
 
--- a command that runs made files: `load`, and `run` where the desk tells that PLAN and READINGS hold the files that `make` makes
+-- a command that runs made files: `load`, and `run` or `ring` where the desk tells that PLAN and READINGS hold the files that `make` makes
 abbrev pub RunsMadeFiles : Command → View → Type 0
 RunsMadeFiles (Load size workers transcript) v = IsMade size
 RunsMadeFiles (Run names workers) v =
+    (size : Size) × IsMade size × (v.held names.plan ≡ Some (Some (made_plan_text size))) × (v.held names.readings ≡ Some (Some (made_readings_text size)))
+RunsMadeFiles (Ring width names workers) v =
     (size : Size) × IsMade size × (v.held names.plan ≡ Some (Some (made_plan_text size))) × (v.held names.readings ≡ Some (Some (made_readings_text size)))
 RunsMadeFiles _ v = ⊥
 

@@ -1,11 +1,9 @@
 -- What a command does to the desk, by its outcome.
 use Rattle.std.specs.Prelude.{◌≡◌, ◌⊎◌, ◌*◌, ℕ, List, [], ◌∷◌, ◌++◌, length, Option, Some, None, Ok, Err, codes, decimal, ⊤}
 use Rattle.desk_outside.specs.Desk.{View}
-use Rattle.link_lanes.specs.Lanes.{Meaning, Slot}
+use Rattle.link_lanes.specs.Lanes.{Meaning}
 use Rattle.link_lanes.specs.Fits.{hung_by}
-use Rattle.plan_files.specs.declared.fault.FileError.{FileError}
 use Rattle.plan_files.specs.PlanFiles.{PlanFileView, plan_of}
-use Rattle.plan_files.specs.Readings.{readings_of}
 use Rattle.transcript_text.specs.declared.version.Version.TheVariants.{One}
 use Rattle.transcript_log.specs.Transcripts.{TranscriptView}
 use Rattle.transcript_text.specs.ReadBack.{HasText}
@@ -15,7 +13,7 @@ use Rattle.command_words.specs.declared.usage.TheConstants.{USAGE, VERSION}
 use Rattle.command_words.specs.declared.outcome.Outcome.{Outcome}
 use Rattle.command_words.specs.declared.outcome.Outcome.TheVariants.{NoMemory, BadWords, BadPlan, BadReadings, BadTranscript, BadLane}
 use Rattle.command_words.specs.declared.known.KnownMeter.{KnownMeter}
-use Rattle.command_words.specs.Words.{RunNames, TwinNames, Size, Command, Run, Registers, Audit, Twin, Pooled, Make, Load, Convert, Public, Help, Version, Bill, Hide, Inspect}
+use Rattle.command_words.specs.Words.{RunNames, TwinNames, Size, Command, Run, Ring, Resume, Registers, Audit, Twin, RingTwin, Pooled, Make, Load, Convert, Public, Help, Version, Bill, Hide, Inspect}
 use Rattle.commands.specs.Calls.{IsRead, after_fetches, Unread, Putting, putting, PutsEnd, Unwritable}
 use Rattle.plan_files.specs.PlanFiles.{public_of}
 use Rattle.plan_files.specs.Spelling.{plan_text, public_text, readings_text}
@@ -27,12 +25,17 @@ use Rattle.twin_worlds.specs.declared.rows.MovedRow.{MovedRow}
 use Rattle.twin_worlds.specs.MasksText.{masks_text}
 use Rattle.commands.specs.Twins.{TwinBytes, AreReadBy, Compared, TwinRefuses}
 use Rattle.commands.specs.Pooled.{PooledCompared, PooledRefuses}
+use Rattle.commands.specs.RingTwins.{RingCompared, RingTwinRefuses}
 use Rattle.commands.specs.RegisterEnds.{RegistersEnds}
-use Rattle.commands.specs.Runs.{Texts, Makes, IsOnly, HasValues, RefusesLane}
+use Rattle.commands.specs.ResumeEnds.{ResumeCommandEnds}
+use Rattle.commands.specs.declared.sharing.Sharing.{Sharing}
+use Rattle.commands.specs.declared.sharing.Sharing.TheVariants.{WithEach, WithNeighbours}
+pub use Rattle.commands.specs.Runs.{RefusesReadings}
+use Rattle.commands.specs.Runs.{Texts, MakesBy, Makes, IsOnlyBy, IsOnly, HasValues, RefusesLane}
 use Rattle.commands.specs.BillingEnds.{BillEnds, HideEnds}
 use Rattle.commands.specs.Inspecting.{InspectCommandEnds}
 
--- ---- `run PLAN READINGS REPORT TRANSCRIPT [WORKERS]`
+-- ---- `run PLAN READINGS REPORT TRANSCRIPT [WORKERS]`, and `ring PLAN READINGS WIDTH REPORT TRANSCRIPT [WORKERS]`
 
 -- the files that it fetches, in order
 abbrev pub fetched_by : RunNames → List (List ℕ)
@@ -42,16 +45,11 @@ fetched_by names = names.plan ∷ names.readings ∷ []
 abbrev pub put_by : RunNames → Texts → List Putting
 put_by names texts = putting names.transcript texts.transcript ∷ putting names.report texts.report ∷ []
 
--- the plan file has a value and its lane rows get their lanes, and the readings file has this fault
-abbrev pub RefusesReadings : List Meaning → List ℕ → List ℕ → FileError → Type 0
-RefusesReadings cupboard plan_bytes readings_bytes fault =
-    (file : PlanFileView) × (slots : List Slot) × (plan_of plan_bytes ≡ Ok file) × (hung_by cupboard file.lanes ≡ Ok slots)
-    × (readings_of file.plan readings_bytes ≡ Err fault)
-
 -- the files make these texts, which are put and said up to this end
-abbrev pub TextsPut : List Meaning → RunNames → (plan_bytes readings_bytes : List ℕ) → View → View → Outcome → Type 0
-TextsPut cupboard names plan_bytes readings_bytes v w outcome =
-    (texts : Texts) × Makes cupboard plan_bytes readings_bytes texts × IsOnly cupboard plan_bytes readings_bytes texts × PutsEnd (put_by names texts) texts.summary v w outcome
+abbrev pub TextsPut : Sharing → List Meaning → RunNames → (plan_bytes readings_bytes : List ℕ) → View → View → Outcome → Type 0
+TextsPut sharing cupboard names plan_bytes readings_bytes v w outcome =
+    (texts : Texts) × MakesBy sharing cupboard plan_bytes readings_bytes texts × IsOnlyBy sharing cupboard plan_bytes readings_bytes texts
+    × PutsEnd (put_by names texts) texts.summary v w outcome
 
 -- what they say is refused, by its cause; want of memory is free
 abbrev pub RunRefuses : List Meaning → RunNames → (plan_bytes readings_bytes : List ℕ) → Outcome → Type 0
@@ -65,14 +63,23 @@ RunRefuses cupboard names p r _ = ⊥
 abbrev pub RunUnwritable : List Meaning → RunNames → (plan_bytes readings_bytes : List ℕ) → View → View → Outcome → Type 0
 RunUnwritable cupboard names p r v w outcome = HasValues cupboard p r × Unwritable (names.transcript ∷ names.report ∷ []) v w outcome
 
--- how it ends: a file is not read, or what they say is refused, or a name can't be written, or the texts are put and said
-abbrev pub RunEnds : List Meaning → RunNames → View → View → Outcome → Type 0
-RunEnds cupboard names v w outcome =
+-- how a run ends whose meters share mask words so: a file is not read, or what they say is refused, or a name can't be written, or the texts
+-- are put and said
+abbrev pub RunEndsBy : Sharing → List Meaning → RunNames → View → View → Outcome → Type 0
+RunEndsBy sharing cupboard names v w outcome =
     Unread (fetched_by names) v w outcome
     ⊎ ((p r : List ℕ) × IsRead (v.held names.plan) p × IsRead (v.held names.readings) r
     × ((RunRefuses cupboard names p r outcome × (w ≡ after_fetches (fetched_by names) v))
     ⊎ (RunUnwritable cupboard names p r (after_fetches (fetched_by names) v) w outcome
-    ⊎ TextsPut cupboard names p r (after_fetches (fetched_by names) v) w outcome)))
+    ⊎ TextsPut sharing cupboard names p r (after_fetches (fetched_by names) v) w outcome)))
+
+-- how `run` ends
+abbrev pub RunEnds : List Meaning → RunNames → View → View → Outcome → Type 0
+RunEnds = RunEndsBy WithEach
+
+-- how `ring` ends
+abbrev pub RingEnds : (width : ℕ) → List Meaning → RunNames → View → View → Outcome → Type 0
+RingEnds width = RunEndsBy (WithNeighbours width)
 
 -- ---- `audit TRANSCRIPT REPORT`
 
@@ -121,23 +128,39 @@ TwinCommandEnds names v w outcome =
 unfoldable pub counted_line : List ℕ → ℕ → List ℕ
 counted_line verb rows = verb ++ (codes ": moved=" ++ (decimal rows ++ codes "\n"))
 
--- the tables agree for the known meters, and the file of the moved words is put and their number said
-abbrev pub PooledMasksPut : (verb : List ℕ) → List KnownMeter → TwinNames → TwinBytes → View → View → Outcome → Type 0
-PooledMasksPut verb known names bytes v w outcome =
-    (rows : List MovedRow) × PooledCompared known bytes (Ok rows)
-    × PutsEnd (putting names.masks (masks_text rows) ∷ []) (counted_line verb (length rows)) v w outcome
+-- the file of the moved words is put and their number said, up to this end
+abbrev pub MovedAreSaid : (verb name : List ℕ) → List MovedRow → View → View → Outcome → Type 0
+MovedAreSaid verb name rows v w outcome = PutsEnd (putting name (masks_text rows) ∷ []) (counted_line verb (length rows)) v w outcome
 
--- how a command of this name ends: a file is not read, or what they say is refused, or the file of the moved words is put
-abbrev pub PooledEndsAs : (verb : List ℕ) → List KnownMeter → TwinNames → View → View → Outcome → Type 0
-PooledEndsAs verb known names v w outcome =
+-- four files are compared, and the file of the moved words is put and their number said
+abbrev pub MovedPut : (verb : List ℕ) → (List MovedRow → Type 0) → TwinNames → View → View → Outcome → Type 0
+MovedPut verb compares names v w outcome = (rows : List MovedRow) × compares rows × MovedAreSaid verb names.masks rows v w outcome
+
+-- how a command that compares four files and says this name ends: a file is not read, or what they say is refused, or the file of the moved words is put
+abbrev pub ComparedEndsAs : (verb : List ℕ) → (TwinBytes → Outcome → Type 0) → (TwinBytes → List MovedRow → Type 0) → TwinNames → View → View → Outcome → Type 0
+ComparedEndsAs verb refuses compares names v w outcome =
     Unread (compared_by names) v w outcome
     ⊎ ((bytes : TwinBytes) × AreReadBy names v bytes
-    × ((PooledRefuses known names bytes outcome × (w ≡ after_fetches (compared_by names) v))
-    ⊎ PooledMasksPut verb known names bytes (after_fetches (compared_by names) v) w outcome))
+    × ((refuses bytes outcome × (w ≡ after_fetches (compared_by names) v))
+    ⊎ MovedPut verb (compares bytes) names (after_fetches (compared_by names) v) w outcome))
+
+-- the tables agree for the known meters, and these words move
+abbrev pub MovesPooled : List KnownMeter → TwinBytes → List MovedRow → Type 0
+MovesPooled known bytes rows = PooledCompared known bytes (Ok rows)
+
+-- how a command of this name ends against known meters
+abbrev pub PooledEndsAs : (verb : List ℕ) → List KnownMeter → TwinNames → View → View → Outcome → Type 0
+PooledEndsAs verb known names v w outcome = ComparedEndsAs verb (PooledRefuses known names) (MovesPooled known) names v w outcome
 
 -- how `pooled` ends
 abbrev pub PooledCommandEnds : List KnownMeter → TwinNames → View → View → Outcome → Type 0
 PooledCommandEnds known names v w outcome = PooledEndsAs (codes "pooled") known names v w outcome
+
+-- ---- `ringtwin PLAN READINGS OTHER WIDTH TRANSCRIPT MASKS`
+
+-- how it ends; it says the line of `twin`
+abbrev pub RingTwinEnds : (width : ℕ) → TwinNames → View → View → Outcome → Type 0
+RingTwinEnds width names v w outcome = ComparedEndsAs (codes "twin") (RingTwinRefuses width names) (RingCompared width) names v w outcome
 
 -- ---- `make SEED GROUPS METERS ROUNDS PLAN READINGS`
 
@@ -255,9 +278,12 @@ PublicEnds plan public v w outcome =
 abbrev pub Ends : List Meaning → Option Command → View → View → Outcome → Type 0
 Ends cupboard None v w outcome = (outcome ≡ BadWords) × (w ≡ v)
 Ends cupboard (Some (Run names workers)) v w outcome = RunEnds cupboard names v w outcome
+Ends cupboard (Some (Ring width names workers)) v w outcome = RingEnds width cupboard names v w outcome
+Ends cupboard (Some (Resume names workers)) v w outcome = ResumeCommandEnds cupboard names v w outcome
 Ends cupboard (Some (Registers count names workers)) v w outcome = RegistersEnds cupboard count names v w outcome
 Ends cupboard (Some (Audit transcript report)) v w outcome = AuditCommandEnds transcript report v w outcome
 Ends cupboard (Some (Twin names)) v w outcome = TwinCommandEnds names v w outcome
+Ends cupboard (Some (RingTwin width names)) v w outcome = RingTwinEnds width names v w outcome
 Ends cupboard (Some (Pooled known names)) v w outcome = PooledCommandEnds known names v w outcome
 Ends cupboard (Some (Make size plan readings)) v w outcome = MakeEnds size plan readings v w outcome
 Ends cupboard (Some (Load size workers transcript)) v w outcome = LoadEnds cupboard size transcript v w outcome

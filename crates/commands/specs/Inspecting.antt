@@ -22,7 +22,8 @@ use Rattle.command_words.specs.declared.outcome.Outcome.TheVariants.{NoMemory, B
 use Rattle.command_words.specs.Words.{InspectNames}
 use Rattle.commands.specs.Audits.{AreAuditTexts}
 use Rattle.commands.specs.Calls.{IsRead, after_fetches, Unread, PutsEnd}
-use Rattle.commands.specs.Runs.{Texts, Makes}
+use Rattle.commands.specs.declared.sharing.Sharing.{Sharing}
+use Rattle.commands.specs.Runs.{Texts, MakesBy}
 
 -- ---- the files
 
@@ -147,4 +148,5 @@ pub record IsInspectedRun (plan_bytes : List ℕ) (texts : Texts) : Type 0 where
 -- whatever files are run, under the public plan of the plan file no fault is found in the transcript and the report that are made of them
 abbrev pub RunsAreInspected : Type 0
 RunsAreInspected =
-    (cupboard : List Meaning) (plan_bytes readings_bytes : List ℕ) (texts : Texts) → Makes cupboard plan_bytes readings_bytes texts → IsInspectedRun plan_bytes texts
+    (sharing : Sharing) (cupboard : List Meaning) (plan_bytes readings_bytes : List ℕ) (texts : Texts) → MakesBy sharing cupboard plan_bytes readings_bytes texts
+    → IsInspectedRun plan_bytes texts

@@ -1,9 +1,11 @@
 pub mod Ahead
-pub mod Parts
 pub mod Calls
 pub mod Sources
+pub mod RingIsolation
 pub mod Runs
 pub mod RunTexts
+pub mod ResumeRuns
+pub mod ResumeEnds
 pub mod RegisterRuns
 pub mod RegisterEnds
 pub mod Audits
@@ -11,6 +13,8 @@ pub mod Twins
 pub mod TwinTexts
 pub mod Pooled
 pub mod PooledParts
+pub mod RingTwins
+pub mod RingTwinParts
 pub mod Billing
 pub mod BillingEnds
 pub mod BillingParts

@@ -3,7 +3,7 @@ use Rattle.std.specs.Prelude.{◌≡◌, ◌⊎◌, ℕ, false, true, List, Opti
 use Rattle.desk_outside.specs.Desk.{View, Complained, IsPrefixOf, after_step, Rose}
 use Rattle.link_lanes.specs.Lanes.{Meaning}
 use Rattle.command_words.specs.declared.outcome.Outcome.{Outcome}
-use Rattle.command_words.specs.declared.outcome.Outcome.TheVariants.{Done, NoMemory, BadWords, CannotRead, TooLong, CannotWrite, CannotPrint, BadPlan, BadReadings, BadTranscript, BadReport, Impossible, NotInTime, OtherRow, OtherPlan, OtherLine, OtherPresence, OtherKnown, OtherTotal, BadLane, NoPartner}
+use Rattle.command_words.specs.declared.outcome.Outcome.TheVariants.{Done, NoMemory, BadWords, CannotRead, TooLong, CannotWrite, CannotPrint, BadPlan, BadReadings, BadTranscript, BadReport, Impossible, NotInTime, NotThisRun, OtherRow, OtherPlan, OtherLine, OtherPresence, OtherKnown, OtherTotal, OtherComponent, BadLane, NoPartner}
 use Rattle.command_words.specs.Words.{Command}
 use Rattle.commands.specs.Ends.{Ends}
 use Rattle.command_words.specs.Outcomes.{status_of, complaint_of, IsFault}
@@ -29,12 +29,14 @@ Tells (BadTranscript name fault) v w = Complains (complaint_of (BadTranscript na
 Tells (BadReport name line) v w = Complains (complaint_of (BadReport name line)) v w
 Tells (Impossible name line) v w = Complains (complaint_of (Impossible name line)) v w
 Tells (NotInTime name line) v w = Complains (complaint_of (NotInTime name line)) v w
+Tells (NotThisRun name line) v w = Complains (complaint_of (NotThisRun name line)) v w
 Tells (OtherRow at from_frames reported) v w = Complains (complaint_of (OtherRow at from_frames reported)) v w
 Tells (OtherPlan name) v w = Complains (complaint_of (OtherPlan name)) v w
 Tells (OtherLine name line expected) v w = Complains (complaint_of (OtherLine name line expected)) v w
 Tells (OtherPresence group round meter) v w = Complains (complaint_of (OtherPresence group round meter)) v w
 Tells (OtherKnown group round meter) v w = Complains (complaint_of (OtherKnown group round meter)) v w
 Tells (OtherTotal group round first second) v w = Complains (complaint_of (OtherTotal group round first second)) v w
+Tells (OtherComponent group round least first second) v w = Complains (complaint_of (OtherComponent group round least first second)) v w
 Tells (BadLane fault) v w = Complains (complaint_of (BadLane fault)) v w
 Tells (NoPartner group round meter) v w = Complains (complaint_of (NoPartner group round meter)) v w
 

@@ -18,7 +18,8 @@ use Rattle.command_words.specs.declared.outcome.Outcome.{Outcome}
 use Rattle.command_words.specs.declared.outcome.Outcome.TheVariants.{NoMemory, BadPlan, BadReadings, BadTranscript, OtherPlan, OtherLine, OtherPresence, OtherTotal}
 use Rattle.command_words.specs.Words.{TwinNames}
 use Rattle.commands.specs.Calls.{IsRead}
-use Rattle.commands.specs.Runs.{Texts, Makes}
+use Rattle.commands.specs.declared.sharing.Sharing.{Sharing}
+use Rattle.commands.specs.Runs.{Texts, MakesBy, words_by}
 
 -- the bytes of a plan file, of two readings files, and of a transcript
 pub record TwinBytes : Type 0 where
@@ -83,9 +84,9 @@ BytesCompared names bytes (Err outcome) = TwinRefuses names bytes outcome
 
 -- ---- what a run stores
 
--- whatever files are run, the transcript that is made is the record of the readings under the stream words of the keys
+-- whatever files are run, the transcript that is made is the record of the readings under the words that meters share
 abbrev pub RunsAreRecorded : Type 0
 RunsAreRecorded =
-    (cupboard : List Meaning) (plan_bytes readings_bytes : List ℕ) (texts : Texts) → Makes cupboard plan_bytes readings_bytes texts
+    (sharing : Sharing) (cupboard : List Meaning) (plan_bytes readings_bytes : List ℕ) (texts : Texts) → MakesBy sharing cupboard plan_bytes readings_bytes texts
     → (file : PlanFileView) × (readings : ReadingsView) × (t : TranscriptView)
-    × (plan_of plan_bytes ≡ Ok file) × (readings_of file.plan readings_bytes ≡ Ok readings) × IsRecord (streams file.keys) readings texts.transcript t
+    × (plan_of plan_bytes ≡ Ok file) × (readings_of file.plan readings_bytes ≡ Ok readings) × IsRecord (words_by sharing file.plan file.keys) readings texts.transcript t

@@ -1,23 +1,20 @@
 //! The file of a transcript, of which much is written ahead, while the run goes on.
 
-ghost use Rattle.std.specs.Prelude.{◌≡◌, ◌≤◌, ◌<◌, ◌++◌, [], true, length, take};
-ghost use Rattle.group_plan.specs.Plans.{PlanView};
-ghost use Rattle.transcript_log.specs.Transcripts.{no_entries};
+ghost use Rattle.std.specs.Prelude.{◌≡◌, ◌≤◌, ◌<◌, ◌++◌, [], true, length, take, IfOk, IfSome};
+ghost use Rattle.transcript_log.specs.Transcripts.{TranscriptView};
 ghost use Rattle.transcript_text.specs.Spelling.{transcript_text};
 ghost use Rattle.transcript_text.specs.Writing.{lines_text, begun_text};
-ghost use Rattle.tick_run.specs.Recorded.{IsRecorded, Records};
-ghost use Rattle.rtrb.specs.Ring.{received};
-ghost use Rattle.rtrb.specs.Ends.{SameRing};
-ghost use Rattle.commands.specs.Ahead.{IsAhead};
-ghost use Rattle.commands.specs.Parts.{IsOfParts};
+ghost use Rattle.tick_run.specs.Runs.{told_by};
+ghost use Rattle.commands.specs.Ahead.{IsAhead, IsNext};
 
 use crate::desk_calls::Begun;
-use crate::parts::PartsIn;
 use crate::source::TranscriptPieces;
+use collector_workers::Gate;
 use desk_outside::BegunFile;
-use std::alloc::Global;
-use std::sync::Wait;
+use mask_stream::Masks;
+use std::alloc::{AllocError, Global};
 use std::thread::Threads;
+use tick_run::Run;
 use transcript_log::Transcript;
 use transcript_text::TextPieces;
 
@@ -36,7 +33,7 @@ impl<'n, 'r, R: Threads + Sync, B: BegunFile + Drop> Ahead<'n, 'r, R, B> {
     pub fn new(rt: &'r R, alloc: Global, begun: Begun<'n, B>) -> Ahead<'n, 'r, R, B>
         requires { B.has begun.file [] }
         ensures begun { result.begun ≡ begun.entry }
-        ensures empty { (plan : PlanView) → IsAhead B.has result.begun.file result.entries (no_entries plan) }
+        ensures ahead { (t : TranscriptView) → IsAhead B.has result.begun.file result.entries t }
     {
         Ahead {
             rt,
@@ -46,26 +43,40 @@ impl<'n, 'r, R: Threads + Sync, B: BegunFile + Drop> Ahead<'n, 'r, R, B> {
         }
     }
 
+    /// The newest entries of a run, where there are enough of them that are not in the file, and nothing has failed.
+    pub(crate) fn next_part<M: Masks + Sync, G: Gate>(
+        &self,
+        run: &Run<'_, R, M, G>,
+        enough: usize,
+    ) -> Result<Option<Transcript>, AllocError>
+        requires ahead { IsAhead B.has self.now.begun.file self.now.entries (told_by run.now) }
+        requires enough { 1 ≤ enough }
+        ensures { IfOk result (λ next. IfSome next (IsNext self.now.entries (told_by run.now))) }
+    {
+        let made = run.len();
+        if made - self.entries < enough || self.begun.file.has_failed() {
+            return Ok(None);
+        }
+        let part = run.newest(self.entries)?;
+        Ok(Some(part))
+    }
+
     /// Appends the text of a part.
-    fn append(&mut self, part: &Transcript)
+    pub(crate) fn append(&mut self, part: &Transcript)
         ensures name { self.new.begun.name.now ≡ self.old.begun.name.now }
         ensures remembers { B.failed self.old.begun.file ≡ true → B.failed self.new.begun.file ≡ true }
-        ensures records { Records (IsAhead B.has self.old.begun.file self.old.entries) (IsAhead B.has self.new.begun.file self.new.entries) part.now }
+        ensures ahead { (t : TranscriptView) → IsNext self.old.entries t part.now → IsAhead B.has self.old.begun.file self.old.entries t → IsAhead B.has self.new.begun.file self.new.entries t }
     {
-        let more = part.len();
-        if more == 0 {
-            return;
-        }
         let mut pieces = TranscriptPieces {
             text: part_text(self.rt, self.alloc, self.entries, part),
         };
         self.begun.append(&mut pieces);
-        self.entries = self.entries.saturating_add(more);
+        self.entries = self.entries.saturating_add(part.len());
     }
 
     /// The file with the whole text: what is left of it is appended.
     pub fn finished(self, transcript: &Transcript) -> Begun<'n, B>
-        requires { IsRecorded (IsAhead B.has self.begun.file self.entries) transcript.now }
+        requires { IsAhead B.has self.begun.file self.entries transcript.now }
         ensures name { result.name.now ≡ self.entry.begun.name.now }
         ensures text { B.has result.file (transcript_text transcript.now) }
     {
@@ -75,7 +86,6 @@ impl<'n, 'r, R: Threads + Sync, B: BegunFile + Drop> Ahead<'n, 'r, R, B> {
             mut begun,
             entries,
         } = self;
-        let _all = transcript.len();
         let mut rest = TranscriptPieces {
             text: rest_text(rt, alloc, entries, transcript),
         };
@@ -116,41 +126,5 @@ fn rest_text<'a, R: Threads + Sync>(
         TextPieces::new(rt, alloc, transcript)
     } else {
         TextPieces::after(rt, alloc, transcript, entries)
-    }
-}
-
-/// A file, and the end of the way by which its parts came.
-#[derive(Drop)]
-pub(crate) struct Appended<'n, 'r, R, B: BegunFile + Drop> {
-    pub ahead: Ahead<'n, 'r, R, B>,
-    pub parts: PartsIn,
-}
-
-impl<'n, 'r, R: Threads + Wait + Sync, B: BegunFile + Drop> Ahead<'n, 'r, R, B> {
-    /// Appends the parts as they come, until no part comes any more or the file has failed.
-    pub(crate) fn append_all(self, parts: PartsIn) -> Appended<'n, 'r, R, B>
-        requires { IsOfParts (IsAhead B.has self.begun.file self.entries) (received parts.ring) }
-        ensures name { result.ahead.begun.name.now ≡ self.entry.begun.name.now }
-        ensures remembers { B.failed self.entry.begun.file ≡ true → B.failed result.ahead.begun.file ≡ true }
-        ensures same { SameRing parts.ring.end result.parts.ring.end }
-        ensures written { IsOfParts (IsAhead B.has result.ahead.begun.file result.ahead.entries) (received result.parts.ring) }
-    {
-        let rt = self.rt;
-        let mut ahead = self;
-        let mut parts = parts;
-        'parts: for _ in rt.forever() {
-            if ahead.begun.file.has_failed() {
-                break 'parts;
-            }
-            match parts.ring.pop() {
-                Ok(part) => ahead.append(&part),
-                Err(_) => {
-                    if parts.bell.recv(rt).is_err() {
-                        break 'parts;
-                    }
-                }
-            }
-        }
-        Appended { ahead, parts }
     }
 }

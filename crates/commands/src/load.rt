@@ -7,11 +7,12 @@ ghost use Rattle.command_words.specs.Words.{Size};
 ghost use Rattle.command_words.specs.Commands.{size_in, name_in};
 ghost use Rattle.commands.specs.Ends.{IsMade, LoadEnds};
 ghost use Rattle.command_words.specs.Outcomes.{IsFault};
+ghost use Rattle.commands.specs.declared.sharing.Sharing.TheVariants.{WithEach};
 
 use crate::ahead::Ahead;
 use crate::desk_calls::{begin, commit_failed, commit_one, say};
-use crate::run_ahead::{RunAhead, run_ahead};
-use crate::texts::{Refusal, RunInput, run_texts};
+use crate::sharing::Sharing;
+use crate::texts::{Refusal, RunInput, RunToFile, run_texts, run_to_file};
 use collector_workers::Gate;
 use command_words::{LoadWords, Outcome};
 use desk_outside::{BegunFile, Desk, Readers};
@@ -20,7 +21,7 @@ use load_maker::{Made, MakeError, make};
 use std::alloc::Global;
 use std::sync::Wait;
 use std::thread::Threads;
-use tick_run::Nobody;
+use tick_run::Workers;
 
 /// Makes the two files of a size, runs them in memory, puts the transcript where it has a name, and says the summary.
 pub fn load<'a, R: Threads + Wait + Sync, D: Desk, G: Gate>(
@@ -54,7 +55,8 @@ pub fn load<'a, R: Threads + Wait + Sync, D: Desk, G: Gate>(
         plan,
         readings,
         cupboard,
-        workers: words.workers,
+        sharing: Sharing::WithEach,
+        workers: Workers::new(words.workers),
         is_writable: true,
     };
     match words.transcript {
@@ -72,14 +74,15 @@ fn load_in_memory<'a, R: Threads + Wait + Sync, D: Desk, G: Gate>(
     desk: &mut D,
 ) -> Outcome<'a>
     requires made { (size : Size) × IsMade size input.plan.items input.readings.items }
-    requires workers { (1 ≤ input.workers) × (input.workers ≤ 16) }
+    requires sharing { input.sharing ≡ WithEach }
     requires writable { input.is_writable ≡ true }
     ensures ends { (size : Size) → IsMade size input.plan.items input.readings.items
         → LoadEnds (map (λ b. meaning b) input.cupboard.items) size None (D.view desk.old) (D.view desk.new) result }
     ensures later { D.faults desk.old ≤ D.faults desk.new }
     ensures cause { IsFault result → Rose (D.faults desk.old) (D.faults desk.new) }
 {
-    let texts = match run_texts(rt, alloc, input, gate, &mut Nobody) {
+    let mut nowhere: Option<Ahead<'_, '_, R, D::Begun>> = None;
+    let texts = match run_texts(rt, alloc, input, gate, &mut nowhere) {
         Ok(texts) => texts,
         Err(refusal) => {
             return match refusal {
@@ -104,7 +107,7 @@ fn load_to<'a, R: Threads + Wait + Sync, D: Desk, G: Gate>(
     desk: &mut D,
 ) -> Outcome<'a>
     requires made { (size : Size) × IsMade size input.plan.items input.readings.items }
-    requires workers { (1 ≤ input.workers) × (input.workers ≤ 16) }
+    requires sharing { input.sharing ≡ WithEach }
     ensures ends { (size : Size) → IsMade size input.plan.items input.readings.items
         → LoadEnds (map (λ b. meaning b) input.cupboard.items) size (Some name.now) (D.view desk.old) (D.view desk.new) result }
     ensures later { D.faults desk.old ≤ D.faults desk.new }
@@ -116,7 +119,7 @@ fn load_to<'a, R: Threads + Wait + Sync, D: Desk, G: Gate>(
     let mut input = input;
     input.is_writable = !transcript.file.has_failed();
     let begun = Ahead::new(rt, alloc, transcript);
-    let RunAhead { ahead, texts } = run_ahead(rt, alloc, input, gate, begun);
+    let RunToFile { ahead, texts } = run_to_file(rt, alloc, input, gate, begun);
     let texts = match texts {
         Ok(texts) => texts,
         Err(refusal) => match refusal {

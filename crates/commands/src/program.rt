@@ -21,7 +21,9 @@ use crate::load::load;
 use crate::make::make;
 use crate::public::public;
 use crate::registers::registers;
-use crate::run::run;
+use crate::resume::resume;
+use crate::ring_twin::ring_twin;
+use crate::run::{ring, run};
 use crate::twin::{pooled, twin};
 use collector_workers::Gate;
 use command_words::{Command, Outcome, USAGE, VERSION, complaint, parse};
@@ -47,9 +49,12 @@ fn perform<'a, R: Threads + Wait + Sync, D: Desk, G: Gate>(
     match parse(words) {
         None => Outcome::BadWords,
         Some(Command::Run(words)) => run(rt, alloc, words, desk, cupboard, gate),
+        Some(Command::Ring(words)) => ring(rt, alloc, words, desk, cupboard, gate),
+        Some(Command::Resume(words)) => resume(rt, alloc, words, desk, cupboard, gate),
         Some(Command::Registers(words)) => registers(rt, alloc, words, desk, cupboard, gate),
         Some(Command::Audit(files)) => audit(alloc, files, desk),
         Some(Command::Twin(files)) => twin(rt, alloc, files, desk),
+        Some(Command::RingTwin(words)) => ring_twin(rt, alloc, words, desk),
         Some(Command::Pooled(words)) => pooled(rt, alloc, words, desk),
         Some(Command::Make(words)) => make(rt, alloc, words, desk),
         Some(Command::Load(words)) => load(rt, alloc, words, desk, cupboard, gate),
@@ -93,10 +98,13 @@ fn status(outcome: &Outcome<'_>) -> u8
         | Outcome::BadReport(_, _)
         | Outcome::Impossible(_, _)
         | Outcome::NotInTime(_, _)
+        | Outcome::NotThisRun(_, _)
         | Outcome::OtherPlan(_)
         | Outcome::OtherLine { .. } => 7,
-        Outcome::OtherPresence { .. } | Outcome::OtherKnown { .. } | Outcome::OtherTotal { .. } =>
-            8,
+        Outcome::OtherPresence { .. }
+        | Outcome::OtherKnown { .. }
+        | Outcome::OtherTotal { .. }
+        | Outcome::OtherComponent { .. } => 8,
         Outcome::OtherRow { .. } => 9,
         Outcome::BadLane(_) => 10,
         Outcome::NoPartner { .. } => 11,
@@ -106,7 +114,7 @@ fn status(outcome: &Outcome<'_>) -> u8
 /// Does what the words ask for on the desk, with the lanes of the cupboard, complains where that fails, and answers the
 /// status: 0 done, 1 no memory, 2 bad words, 3 a file that cannot be read or is longer than 2^28 bytes, 4 a file or an
 /// output that cannot be written, 5 a bad plan, 6 bad readings, 7 a text that is no transcript or no report, or a
-/// transcript that is impossible, not in time or isn't that of these files, 8 readings that don't agree, 9 a report that is not what the
+/// transcript that is impossible, not in time or isn't that of these files, or a cut with which their run does not begin, 8 readings that don't agree, 9 a report that is not what the
 /// frames give, 10 a lane row that gets no lane, 11 a reading without a partner.
 pub fn meteragg<R: Threads + Wait + Sync, D: Desk, G: Gate>(
     rt: &R,
@@ -118,7 +126,7 @@ pub fn meteragg<R: Threads + Wait + Sync, D: Desk, G: Gate>(
 ) -> u8
     ensures ends { EndsAndTells (map (λ b. meaning b) cupboard.items) (command_of (map string_bytes words.now)) (D.view desk.old) (D.view desk.new) (D.faults desk.old) (D.faults desk.new) result }
     ensures accepted { AcceptedIsDone (map (λ b. meaning b) cupboard.items) (command_of (map string_bytes words.now)) (D.view desk.old) (D.faults desk.old) (D.faults desk.new) result }
-    // The audit finds no fault in what a run stores, what a run stores is the record of its readings under its keys, and it isn't too long to be read.
+    // The audit finds no fault in what a run stores, what a run stores is the record of its readings under the words that its meters share, and it isn't too long to be read.
     ensures confirmed { RunsAreConfirmed }
     ensures recorded { RunsAreRecorded }
     ensures short { RunsAreShort }

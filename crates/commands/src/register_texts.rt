@@ -7,6 +7,7 @@ ghost use Rattle.totals_report.specs.declared.row.ReportRow.{ReportRow};
 ghost use Rattle.commands.specs.RegisterEnds.{RegisterTextsEnd, AreWordsOf};
 ghost use Rattle.commands.specs.RunTexts.{texts_of};
 
+use crate::sharing::Sharing;
 use crate::texts::{Refusal, RunTexts, finished_texts};
 use collector_workers::Gate;
 use link_lanes::{Lane, Rack, RackCause};
@@ -16,7 +17,7 @@ use register_words::{SideWords, register_report, side_words};
 use std::alloc::{AllocError, Global};
 use std::sync::Wait;
 use std::thread::Threads;
-use tick_run::{Nobody, RunError, run_plan};
+use tick_run::{Crew, RunError, Workers, run_plan};
 use totals_report::{Report, ReportError, read_report};
 use transcript_log::Transcript;
 
@@ -27,7 +28,7 @@ pub struct RegisterInput {
     pub readings: Vec<u8>,
     pub registers: u8,
     pub cupboard: Vec<Box<dyn Lane>>,
-    pub workers: u32,
+    pub workers: Workers,
     /// Whether all names that the texts go to can be written. Where one can't, nothing is run.
     pub is_writable: bool,
 }
@@ -87,7 +88,6 @@ pub fn register_texts<R: Threads + Wait + Sync, G: Gate>(
     requires plan { length input.plan.items ≤ 2 ^ 28 }
     requires readings { length input.readings.items ≤ 2 ^ 28 }
     requires registers { (2 ≤ input.registers) × (input.registers ≤ 8) }
-    requires workers { (1 ≤ input.workers) × (input.workers ≤ 16) }
     ensures { RegisterTextsEnd (map (λ b. meaning b) input.cupboard.items) input.registers input.plan.items input.readings.items input.is_writable result }
 {
     let RegisterInput {
@@ -125,22 +125,18 @@ pub fn register_texts<R: Threads + Wait + Sync, G: Gate>(
         return Err(Refusal::Unwritable);
     }
     let _registers = tables.count();
-    let finished = match run_plan(
+    let crew = Crew {
         rt,
         alloc,
-        &file.plan,
-        tables.table(0),
-        &file.keys,
-        &mut rack,
         workers,
         gate,
-        &mut Nobody,
-    ) {
+    };
+    let finished = match run_plan(&crew, &file.plan, tables.table(0), &file.keys, &mut rack) {
         Ok(finished) => finished,
         Err(RunError::Memory) => return Err(Refusal::Memory),
     };
     drop(rack);
-    let first = match finished_texts(alloc, finished) {
+    let first = match finished_texts(alloc, finished, Sharing::WithEach) {
         Ok(texts) => texts,
         Err(AllocError) => return Err(Refusal::Memory),
     };

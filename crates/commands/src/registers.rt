@@ -17,6 +17,7 @@ use link_lanes::Lane;
 use std::alloc::Global;
 use std::sync::Wait;
 use std::thread::Threads;
+use tick_run::Workers;
 
 /// Fetches the plan and the readings of several registers, runs register 0, puts the transcript, the words of the other registers and
 /// the report with a total of each, and says the summary. The files are begun before the run, so that a name that can't be written is
@@ -48,7 +49,7 @@ pub fn registers<'a, R: Threads + Wait + Sync, D: Desk, G: Gate>(
         readings,
         registers: words.registers,
         cupboard,
-        workers: words.workers,
+        workers: Workers::new(words.workers),
         is_writable: !begun.has_failed(),
     };
     let texts = match register_texts(rt, alloc, input, gate) {

@@ -1,27 +1,27 @@
-//! The command `run`.
+//! The commands `run` and `ring`.
 
 ghost use Rattle.std.specs.Prelude.{◌≡◌, ◌≤◌, ◌⊎◌, [], ◌∷◌, true, map};
 ghost use Rattle.desk_outside.specs.Desk.{Rose};
 ghost use Rattle.command_words.specs.Words.{names_of};
 ghost use Rattle.commands.specs.Calls.{Unwritable};
-ghost use Rattle.commands.specs.Ends.{RunEnds};
+ghost use Rattle.commands.specs.Ends.{RunEndsBy, RunEnds, RingEnds};
 ghost use Rattle.command_words.specs.Outcomes.{IsFault};
 
 use crate::ahead::Ahead;
 use crate::desk_calls::{Begun, begin, commit_failed, commit_two, fetch_two};
-use crate::run_ahead::{RunAhead, run_ahead};
+use crate::sharing::Sharing;
 use crate::source::Source;
-use crate::texts::{Refusal, RunInput};
+use crate::texts::{Refusal, RunInput, RunToFile, run_to_file};
 use collector_workers::Gate;
-use command_words::{Outcome, RunWords};
+use command_words::{Outcome, RingWords, RunFiles, RunWords};
 use desk_outside::{BegunFile, Desk, Readers};
 use link_lanes::Lane;
 use std::alloc::Global;
 use std::sync::Wait;
 use std::thread::Threads;
+use tick_run::Workers;
 
-/// Fetches the plan and the readings, runs, puts the transcript and then the report, and says the summary. Both files are begun
-/// before the run, so that a name that can't be written is found then, and much of the transcript is written while the run goes on.
+/// Fetches the plan and the readings, runs, puts the transcript and then the report, and says the summary.
 pub fn run<'a, R: Threads + Wait + Sync, D: Desk, G: Gate>(
     rt: &R,
     alloc: Global,
@@ -36,7 +36,60 @@ pub fn run<'a, R: Threads + Wait + Sync, D: Desk, G: Gate>(
     ensures later { D.faults desk.old ≤ D.faults desk.new }
     ensures cause { IsFault result → Rose (D.faults desk.old) (D.faults desk.new) }
 {
-    let files = words.files;
+    let order = RunOrder {
+        files: words.files,
+        sharing: Sharing::WithEach,
+        workers: words.workers,
+    };
+    run_order(rt, alloc, order, desk, cupboard, gate)
+}
+
+/// The same with mask words between neighbours alone; behind the summary it says the fewest meters whose sum is open.
+pub fn ring<'a, R: Threads + Wait + Sync, D: Desk, G: Gate>(
+    rt: &R,
+    alloc: Global,
+    words: RingWords<'a>,
+    desk: &mut D,
+    cupboard: Vec<Box<dyn Lane>>,
+    gate: &G,
+) -> Outcome<'a>
+    requires workers { (1 ≤ words.workers) × (words.workers ≤ 16) }
+    ensures ends { RingEnds words.entry.width (map (λ b. meaning b) cupboard.items) (names_of words.entry.files) (D.view desk.old) (D.view desk.new) result }
+    ensures later { D.faults desk.old ≤ D.faults desk.new }
+    ensures cause { IsFault result → Rose (D.faults desk.old) (D.faults desk.new) }
+{
+    let order = RunOrder {
+        files: words.files,
+        sharing: Sharing::WithNeighbours(words.width),
+        workers: words.workers,
+    };
+    run_order(rt, alloc, order, desk, cupboard, gate)
+}
+
+/// What is run: the names of its files, which meters share mask words, and 1 to 16 workers.
+#[derive(Clone, Copy)]
+struct RunOrder<'a> {
+    files: RunFiles<'a>,
+    sharing: Sharing,
+    workers: u32,
+}
+
+/// Fetches the plan and the readings, runs, puts the transcript and then the report, and says the summary. Both files are begun
+/// before the run, so that a name that can't be written is found then, and much of the transcript is written while the run goes on.
+fn run_order<'a, R: Threads + Wait + Sync, D: Desk, G: Gate>(
+    rt: &R,
+    alloc: Global,
+    order: RunOrder<'a>,
+    desk: &mut D,
+    cupboard: Vec<Box<dyn Lane>>,
+    gate: &G,
+) -> Outcome<'a>
+    requires workers { (1 ≤ order.workers) × (order.workers ≤ 16) }
+    ensures ends { RunEndsBy order.entry.sharing (map (λ b. meaning b) cupboard.items) (names_of order.entry.files) (D.view desk.old) (D.view desk.new) result }
+    ensures later { D.faults desk.old ≤ D.faults desk.new }
+    ensures cause { IsFault result → Rose (D.faults desk.old) (D.faults desk.new) }
+{
+    let files = order.files;
     let (plan, readings) = match fetch_two(alloc, files.plan, files.readings, desk) {
         Ok(bytes) => bytes,
         Err(outcome) => return outcome,
@@ -51,11 +104,12 @@ pub fn run<'a, R: Threads + Wait + Sync, D: Desk, G: Gate>(
         plan,
         readings,
         cupboard,
-        workers: words.workers,
+        sharing: order.sharing,
+        workers: Workers::new(order.workers),
         is_writable: !transcript.file.has_failed() && !report.file.has_failed(),
     };
     let begun = Ahead::new(rt, alloc, transcript);
-    let RunAhead { ahead, texts } = run_ahead(rt, alloc, input, gate, begun);
+    let RunToFile { ahead, texts } = run_to_file(rt, alloc, input, gate, begun);
     let texts = match texts {
         Ok(texts) => texts,
         Err(refusal) => match refusal {
@@ -73,7 +127,7 @@ pub fn run<'a, R: Threads + Wait + Sync, D: Desk, G: Gate>(
 }
 
 /// Says which of two files has failed, the first one before the second, and can't be written.
-fn first_failed<'a, B: BegunFile + Drop, D: Desk<Begun = B>>(
+pub(crate) fn first_failed<'a, B: BegunFile + Drop, D: Desk<Begun = B>>(
     first: Begun<'a, B>,
     second: Begun<'a, B>,
     desk: &mut D,

@@ -1,13 +1,15 @@
 //! The commands `twin` and `pooled`: `twin` is the case of nobody.
 
-ghost use Rattle.std.specs.Prelude.{◌≡◌, ◌≤◌, IfOk, IfErr, Err, List, string_bytes};
+ghost use Rattle.std.specs.Prelude.{◌≡◌, ◌≤◌, ℕ, IfOk, IfErr, Err, List, string_bytes};
 ghost use Rattle.desk_outside.specs.Desk.{Rose};
 ghost use Rattle.command_words.specs.Commands.{twin_names_of};
 ghost use Rattle.command_words.specs.Known.{IsKnown, known_in};
 ghost use Rattle.command_words.specs.declared.known.KnownMeter.{KnownMeter};
-ghost use Rattle.commands.specs.Ends.{counted_line, TwinCommandEnds, PooledEndsAs, PooledCommandEnds};
+ghost use Rattle.commands.specs.Ends.{counted_line, MovedAreSaid, TwinCommandEnds, PooledEndsAs, PooledCommandEnds};
 ghost use Rattle.command_words.specs.Outcomes.{IsFault};
-ghost use Rattle.commands.specs.TwinTexts.{AreShort, bytes_of};
+ghost use Rattle.commands.specs.TwinTexts.{AreShort, TablesEnd, bytes_of};
+ghost use Rattle.commands.specs.RingTwins.{RingUnrecorded, RingTwinRefuses};
+ghost use Rattle.twin_worlds.specs.declared.answers.PoolTwinError.TheVariants.{Other};
 ghost use Rattle.commands.specs.Twins.{TwinBytes};
 ghost use Rattle.commands.specs.Pooled.{PooledCompared, PooledRefuses, BytesPooled};
 ghost use Rattle.commands.specs.PooledParts.{IsPlanFor};
@@ -19,6 +21,7 @@ use crate::desk_calls::{NewFile, fetch_two, put_one};
 use crate::source::Source;
 use command_words::{Outcome, PooledWords, TwinFiles, known_sets};
 use desk_outside::{Desk, Readers};
+use group_plan::{Plan, Readings};
 use ideal_masks::Differ;
 use missing_round::MeterSet;
 use pair_keys::KeyError;
@@ -34,13 +37,72 @@ const OUTSIDE_PLAN: FileError = FileError {
     cause: FileCause::Key(KeyError::Range),
 };
 
-// The bytes of the four files.
+/// The bytes of the four files.
 #[derive(Clone, Copy)]
-struct TwinTexts<'b> {
-    plan: &'b [u8],
-    readings: &'b [u8],
-    other: &'b [u8],
-    transcript: &'b [u8],
+pub(crate) struct TwinTexts<'b> {
+    pub plan: &'b [u8],
+    pub readings: &'b [u8],
+    pub other: &'b [u8],
+    pub transcript: &'b [u8],
+}
+
+/// Both tables of readings, the second of which is to take the place of the first.
+#[derive(Drop)]
+pub(crate) struct Tables {
+    pub first: Readings,
+    pub second: Readings,
+}
+
+// The outcome of a text that isn't that of the first table, or of tables that disagree.
+pub(crate) fn world_refusal<'a>(transcript: &'a str, error: TwinError) -> Outcome<'a>
+    ensures pooled { (known : List KnownMeter) (names : TwinNames) (bytes : TwinBytes) → names.transcript ≡ transcript.now → PooledCompared known bytes (Err (Other error)) → PooledRefuses known names bytes result }
+    ensures ring { (width : ℕ) (names : TwinNames) (bytes : TwinBytes) → names.transcript ≡ transcript.now → RingUnrecorded width bytes error → RingTwinRefuses width names bytes result }
+    ensures no_fault { ¬ IsFault result }
+{
+    match error {
+        TwinError::Transcript(fault) => Outcome::BadTranscript(transcript, fault),
+        TwinError::Head => Outcome::OtherPlan(transcript),
+        TwinError::NotThis {
+            line,
+            expected,
+            found: _,
+            tick,
+            fate,
+        } => Outcome::OtherLine {
+            name: transcript,
+            line,
+            expected: Entry {
+                tick,
+                fate,
+                line: expected,
+            },
+        },
+        TwinError::Differ(
+            Differ::Presence {
+                group,
+                round,
+                meter,
+            },
+        ) => Outcome::OtherPresence {
+            group,
+            round,
+            meter,
+        },
+        TwinError::Differ(
+            Differ::Total {
+                group,
+                round,
+                first,
+                second,
+            },
+        ) => Outcome::OtherTotal {
+            group,
+            round,
+            first,
+            second,
+        },
+        TwinError::Differ(Differ::Memory) | TwinError::Memory => Outcome::NoMemory,
+    }
 }
 
 // The outcome of a comparison that finds no moved words.
@@ -58,58 +120,36 @@ fn refusal<'a>(transcript: &'a str, error: PoolTwinError) -> Outcome<'a>
             round,
             meter,
         },
-        PoolTwinError::Other(TwinError::Transcript(fault)) => {
-            Outcome::BadTranscript(transcript, fault)
-        }
-        PoolTwinError::Other(TwinError::Head) => Outcome::OtherPlan(transcript),
-        PoolTwinError::Other(
-            TwinError::NotThis {
-                line,
-                expected,
-                found: _,
-                tick,
-                fate,
-            },
-        ) => Outcome::OtherLine {
-            name: transcript,
-            line,
-            expected: Entry {
-                tick,
-                fate,
-                line: expected,
-            },
-        },
-        PoolTwinError::Other(
-            TwinError::Differ(
-                Differ::Presence {
-                    group,
-                    round,
-                    meter,
-                },
-            ),
-        ) => Outcome::OtherPresence {
-            group,
-            round,
-            meter,
-        },
-        PoolTwinError::Other(
-            TwinError::Differ(
-                Differ::Total {
-                    group,
-                    round,
-                    first,
-                    second,
-                },
-            ),
-        ) => Outcome::OtherTotal {
-            group,
-            round,
-            first,
-            second,
-        },
-        PoolTwinError::Other(TwinError::Differ(Differ::Memory))
-        | PoolTwinError::Other(TwinError::Memory) => Outcome::NoMemory,
+        PoolTwinError::Other(error) => world_refusal(transcript, error),
     }
+}
+
+// Both tables of readings of a plan.
+pub(crate) fn read_tables<'a>(
+    alloc: Global,
+    files: TwinFiles<'a>,
+    plan: &Plan,
+    texts: TwinTexts<'_>,
+) -> Result<Tables, Outcome<'a>>
+    requires short { AreShort (bytes_of texts) }
+    ensures ends { TablesEnd (twin_names_of files.entry) (bytes_of texts.entry) plan.now result }
+    ensures no_fault { IfErr result (λ outcome. ¬ IsFault outcome) }
+{
+    let first = match read_readings(alloc, plan, texts.readings) {
+        Ok(readings) => readings,
+        Err(fault) => match fault.cause {
+            FileCause::Memory => return Err(Outcome::NoMemory),
+            _ => return Err(Outcome::BadReadings(files.readings, fault)),
+        },
+    };
+    let second = match read_readings(alloc, plan, texts.other) {
+        Ok(readings) => readings,
+        Err(fault) => match fault.cause {
+            FileCause::Memory => return Err(Outcome::NoMemory),
+            _ => return Err(Outcome::BadReadings(files.other, fault)),
+        },
+    };
+    Ok(Tables { first, second })
 }
 
 // The mask words that move from the first readings to the other ones, against the meters of these sets.
@@ -125,27 +165,17 @@ fn compare_tables<'a>(
     ensures ends { (known : List KnownMeter) → IsPlanFor known (bytes_of texts.entry) (view_of file.now) sets.now → BytesPooled known (twin_names_of files.entry) (bytes_of texts.entry) result }
     ensures no_fault { IfErr result (λ outcome. ¬ IsFault outcome) }
 {
-    let first = match read_readings(alloc, &file.plan, texts.readings) {
-        Ok(readings) => readings,
-        Err(fault) => match fault.cause {
-            FileCause::Memory => return Err(Outcome::NoMemory),
-            _ => return Err(Outcome::BadReadings(files.readings, fault)),
-        },
-    };
-    let second = match read_readings(alloc, &file.plan, texts.other) {
-        Ok(readings) => readings,
-        Err(fault) => match fault.cause {
-            FileCause::Memory => return Err(Outcome::NoMemory),
-            _ => return Err(Outcome::BadReadings(files.other, fault)),
-        },
+    let tables = match read_tables(alloc, files, &file.plan, texts) {
+        Ok(tables) => tables,
+        Err(outcome) => return Err(outcome),
     };
     match pooled_twin(
         alloc,
         &file.plan,
         &file.keys,
         sets,
-        &first,
-        &second,
+        &tables.first,
+        &tables.second,
         texts.transcript,
     ) {
         Ok(moved) => Ok(moved),
@@ -188,6 +218,34 @@ fn counted_line(alloc: Global, verb: &str, rows: usize) -> Result<String, AllocE
     format!(in alloc; "{verb}: moved={rows}\n")
 }
 
+// Puts the file of the words that move, and says how many they are, as the command of this name.
+pub(crate) fn put_moved<'a, R: Threads + Sync, D: Desk>(
+    rt: &R,
+    alloc: Global,
+    verb: &str,
+    name: &'a str,
+    moved: &MovedWords,
+    desk: &mut D,
+) -> Outcome<'a>
+    ensures ends { MovedAreSaid verb.now name.now moved.now (D.view desk.old) (D.view desk.new) result }
+    ensures later { D.faults desk.old ≤ D.faults desk.new }
+    ensures cause { IsFault result → Rose (D.faults desk.old) (D.faults desk.new) }
+{
+    let Ok(text) = moved_text(alloc, moved) else {
+        return Outcome::NoMemory;
+    };
+    let Ok(line) = counted_line(alloc, verb, moved.rows().len()) else {
+        return Outcome::NoMemory;
+    };
+    let file = NewFile {
+        name,
+        source: Source::Bytes(text.as_slice()),
+        // With the other table it gives the readings away.
+        readers: Readers::Owner,
+    };
+    put_one(rt, alloc, file, line.as_bytes(), desk)
+}
+
 // Fetches a plan, two tables of readings and a transcript, and puts the mask words that move so that the second table
 // gives the transcript of the first and the known meters the same, as the command of this name.
 fn twin_for<'a, R: Threads + Sync, D: Desk>(
@@ -221,19 +279,7 @@ fn twin_for<'a, R: Threads + Sync, D: Desk>(
         Ok(moved) => moved,
         Err(outcome) => return outcome,
     };
-    let Ok(text) = moved_text(alloc, &moved) else {
-        return Outcome::NoMemory;
-    };
-    let Ok(line) = counted_line(alloc, verb, moved.rows().len()) else {
-        return Outcome::NoMemory;
-    };
-    let file = NewFile {
-        name: files.masks,
-        source: Source::Bytes(text.as_slice()),
-        // With the other table it gives the readings away.
-        readers: Readers::Owner,
-    };
-    put_one(rt, alloc, file, line.as_bytes(), desk)
+    put_moved(rt, alloc, verb, files.masks, &moved, desk)
 }
 
 /// Fetches a plan, two tables of readings and a transcript, and puts the mask words that move so that the second table

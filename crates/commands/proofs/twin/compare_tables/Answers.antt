@@ -1,34 +1,28 @@
-use Rattle.std.proofs.Common.{refl, inr, Ok, Err}
+use Rattle.std.proofs.Common.{refl, Ok, Err}
 use Rattle.plan_files.specs.PlanFiles.{view_of}
 use Rattle.command_words.specs.Commands.{twin_names_of}
 use Rattle.commands.specs.TwinTexts.{bytes_of}
 use Rattle.commands.proofs.RunLemmas.{plan_of_readings}
-use Rattle.commands.proofs.TwinLemmas.{second_refused_for, pooled_compared}
+use Rattle.commands.proofs.TwinLemmas.{tables_refused_for, pooled_compared}
 use Rattle.commands.proofs.twin.compare_tables.Goals as goal
 
-pub returns-in_default-cause : goal.returns-in_default-cause
-returns-in_default-cause c = record {
-  ends = λ known is. inr (
-    refl,
-    second_refused_for known (bytes_of c.args.texts) (view_of c.args.file.now) c.args.sets.now c.in-Ok.readings _ is
-        c.in-Ok.ensures c.in-Err-read_readings.ensures c.in_default-cause.not-Memory,
-  );
-  no_fault = λ none. none;
-}
+pub returns-in-Err-clause-ends : goal.returns-in-Err-clause-ends
+returns-in-Err-clause-ends c known is =
+    tables_refused_for known (twin_names_of c.args.files) (bytes_of c.args.texts) (view_of c.args.file.now) c.args.sets.now _ is c.in-Err.ensures.ends
 
 pub pooled_twin-requires-clause-first : goal.pooled_twin-requires-clause-first
-pooled_twin-requires-clause-first c = plan_of_readings _ _ _ c.in-Ok.ensures
+pooled_twin-requires-clause-first c = plan_of_readings _ _ _ c.in-Ok.ensures.ends.0
 
 pub pooled_twin-requires-clause-second : goal.pooled_twin-requires-clause-second
-pooled_twin-requires-clause-second c = plan_of_readings _ _ _ c.in-Ok-read_readings.ensures
+pooled_twin-requires-clause-second c = plan_of_readings _ _ _ c.in-Ok.ensures.ends.1
 
 pub returns-in-Ok-pooled_twin-clause-ends : goal.returns-in-Ok-pooled_twin-clause-ends
 returns-in-Ok-pooled_twin-clause-ends c known is =
-    pooled_compared known (bytes_of c.args.texts) (view_of c.args.file.now) c.args.sets.now _ _ (Ok c.in-Ok-pooled_twin.moved) is c.in-Ok.ensures
-    c.in-Ok-read_readings.ensures c.in-Ok-pooled_twin.ensures
+    pooled_compared known (bytes_of c.args.texts) (view_of c.args.file.now) c.args.sets.now _ _ (Ok c.in-Ok-pooled_twin.moved) is c.in-Ok.ensures.ends.0
+    c.in-Ok.ensures.ends.1 c.in-Ok-pooled_twin.ensures
 
 pub returns-clause-ends : goal.returns-clause-ends
 returns-clause-ends c known is =
     c.refusal.ensures.ends known (twin_names_of c.args.files) (bytes_of c.args.texts) refl
-    (pooled_compared known (bytes_of c.args.texts) (view_of c.args.file.now) c.args.sets.now _ _ (Err c.in-Err-pooled_twin.error) is c.in-Ok.ensures
-    c.in-Ok-read_readings.ensures c.in-Err-pooled_twin.ensures)
+    (pooled_compared known (bytes_of c.args.texts) (view_of c.args.file.now) c.args.sets.now _ _ (Err c.in-Err-pooled_twin.error) is c.in-Ok.ensures.ends.0
+    c.in-Ok.ensures.ends.1 c.in-Err-pooled_twin.ensures)

@@ -1,0 +1,70 @@
+-- How `resume` ends.
+use Rattle.std.specs.Prelude.{◌≡◌, ◌⊎◌, ℕ, List, [], ◌∷◌, Err, ⊤}
+use Rattle.std.specs.Borrow.{Bor}
+use Rattle.desk_outside.specs.Desk.{View}
+use Rattle.link_lanes.specs.Lanes.{Meaning}
+use Rattle.plan_files.specs.PlanFiles.{plan_of}
+use Rattle.command_words.specs.declared.outcome.Outcome.{Outcome}
+use Rattle.command_words.specs.declared.outcome.Outcome.TheVariants.{NoMemory, BadPlan, BadReadings, BadTranscript, BadLane, NotThisRun, OtherPlan}
+use Rattle.command_words.specs.Words.{ResumeNames}
+use Rattle.commands.specs.declared.resume_texts.ResumeRefusal.{ResumeRefusal}
+use Rattle.commands.specs.declared.resume_texts.ResumeRefusal.TheVariants.{Files, Cut, OtherPlan as HasOther, NotThis, Unwritable as CannotWrite}
+use Rattle.commands.specs.declared.texts.Refusal.TheVariants.{Plan, Lane, Readings, Unwritable as IsUnwritable, Memory}
+use Rattle.commands.specs.Calls.{after_fetches, Unread, Putting, putting, PutsEnd, Unwritable}
+use Rattle.commands.specs.ResumeRuns.{AreResumeBytes, HasOtherPlan, IsNotThisRun, RefusesCut, ResumeBytes, ResumeMakes}
+use Rattle.commands.specs.Runs.{HasValues, IsOnly, RefusesLane, RefusesReadings, Texts}
+
+-- the files that it fetches, in order
+abbrev pub resume_fetched : ResumeNames → List (List ℕ)
+resume_fetched names = names.plan ∷ names.readings ∷ names.cut ∷ []
+
+-- the names of the files that it puts, in order
+abbrev pub resume_named : ResumeNames → List (List ℕ)
+resume_named names = names.transcript ∷ names.report ∷ []
+
+-- the files that it puts
+abbrev pub resume_put : ResumeNames → Texts → List Putting
+resume_put names texts = putting names.transcript texts.transcript ∷ putting names.report texts.report ∷ []
+
+-- a run that begins with the entries of the cut makes these texts, of which report and summary are those of `run`; they are put and said up to this end
+abbrev pub ResumePut : List Meaning → ResumeNames → ResumeBytes → View → View → Outcome → Type 0
+ResumePut cupboard names bytes v w outcome =
+    (texts : Texts) × ResumeMakes cupboard bytes texts × IsOnly cupboard bytes.plan bytes.readings texts × PutsEnd (resume_put names texts) texts.summary v w outcome
+
+-- what the files say is refused, by its cause; want of memory is free
+abbrev pub ResumeRefuses : List Meaning → ResumeNames → ResumeBytes → Outcome → Type 0
+ResumeRefuses cupboard names bytes (BadPlan name fault) = (name.now ≡ names.plan) × (plan_of bytes.plan ≡ Err fault)
+ResumeRefuses cupboard names bytes (BadLane fault) = RefusesLane cupboard bytes.plan fault
+ResumeRefuses cupboard names bytes (BadReadings name fault) = (name.now ≡ names.readings) × RefusesReadings cupboard bytes.plan bytes.readings fault
+ResumeRefuses cupboard names bytes (BadTranscript name fault) = (name.now ≡ names.cut) × RefusesCut cupboard bytes fault
+ResumeRefuses cupboard names bytes (OtherPlan name) = (name.now ≡ names.cut) × HasOtherPlan cupboard bytes
+ResumeRefuses cupboard names bytes (NotThisRun name line) = (name.now ≡ names.cut) × IsNotThisRun cupboard bytes line
+ResumeRefuses cupboard names bytes NoMemory = ⊤
+ResumeRefuses cupboard names bytes _ = ⊥
+
+-- the files have values, but one of the names that it puts can't be written
+abbrev pub ResumeUnwritable : List Meaning → ResumeNames → ResumeBytes → View → View → Outcome → Type 0
+ResumeUnwritable cupboard names bytes v w outcome = HasValues cupboard bytes.plan bytes.readings × Unwritable (resume_named names) v w outcome
+
+-- how it ends: a file is not read, or what they say is refused, or a name can't be written, or the texts are put and said
+abbrev pub ResumeCommandEnds : List Meaning → ResumeNames → View → View → Outcome → Type 0
+ResumeCommandEnds cupboard names v w outcome =
+    Unread (resume_fetched names) v w outcome
+    ⊎ ((bytes : ResumeBytes) × AreResumeBytes names v bytes
+    × ((ResumeRefuses cupboard names bytes outcome × (w ≡ after_fetches (resume_fetched names) v))
+    ⊎ (ResumeUnwritable cupboard names bytes (after_fetches (resume_fetched names) v) w outcome
+    ⊎ ResumePut cupboard names bytes (after_fetches (resume_fetched names) v) w outcome)))
+
+-- ---- refusals by their causes
+
+-- what is refused ends the command so
+abbrev pub RefusedAs : ResumeNames → ResumeRefusal → Outcome → Type 0
+RefusedAs names (Files (Plan fault)) outcome = (name : Bor (List ℕ)) × (name.now ≡ names.plan) × (outcome ≡ BadPlan name fault)
+RefusedAs names (Files (Lane fault)) outcome = outcome ≡ BadLane fault
+RefusedAs names (Files (Readings fault)) outcome = (name : Bor (List ℕ)) × (name.now ≡ names.readings) × (outcome ≡ BadReadings name fault)
+RefusedAs names (Files IsUnwritable) outcome = outcome ≡ NoMemory
+RefusedAs names (Files Memory) outcome = outcome ≡ NoMemory
+RefusedAs names (Cut fault) outcome = (name : Bor (List ℕ)) × (name.now ≡ names.cut) × (outcome ≡ BadTranscript name fault)
+RefusedAs names HasOther outcome = (name : Bor (List ℕ)) × (name.now ≡ names.cut) × (outcome ≡ OtherPlan name)
+RefusedAs names (NotThis line) outcome = (name : Bor (List ℕ)) × (name.now ≡ names.cut) × (outcome ≡ NotThisRun name line)
+RefusedAs names CannotWrite outcome = outcome ≡ NoMemory
