@@ -6,4 +6,6 @@ mod frames;
 #[cfg(test)]
 mod head_end_rows;
 #[cfg(test)]
+mod line_rows;
+#[cfg(test)]
 mod meter_rows;

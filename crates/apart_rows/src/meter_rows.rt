@@ -1,8 +1,5 @@
 //! Meter 0 of `north` in one round, with keys of zeros: its reading and its answer, a restart, and what it refuses.
 
-ghost use Rattle.std.specs.Prelude.{◌≡◌, IfOk};
-ghost use Rattle.meter_apart.specs.Keys.{plan_of};
-
 use crate::frames::{check, frame};
 use group_plan::{Kind, Plan};
 use meter_apart::{
@@ -16,30 +13,21 @@ use std::alloc::Global;
 use std::process::Abort;
 use std::test::Fail;
 
-fn zero_keys(alloc: Global, plan: &Plan) -> Result<MeterKeys, Fail>
-    ensures { IfOk result (λ keys. plan_of keys ≡ plan.now) }
-{
-    let pairs = vec![in alloc; Some([0; 32]); 3]?;
-    match MeterKeys::new(plan.try_copy()?, 0, [0; 32], pairs) {
-        Some(keys) => Ok(keys),
-        None => Err(Fail::new("a key is lacking")),
-    }
+/// Keys of zeros, with those of so many pairs.
+fn zero_keys(alloc: Global, part: Part, pairs: usize) -> Result<Option<MeterKeys>, Fail> {
+    let pairs = vec![in alloc; Some([0; 32]); pairs]?;
+    Ok(MeterKeys::new(part, [0; 32], pairs))
 }
 
-fn part_of_meter_0(plan: &Plan) -> Result<Part, Fail>
-    ensures { IfOk result (λ part. part.home ≡ plan.now) }
-{
-    match Part::new(plan.try_copy()?, 0, 0) {
-        Some(part) => Ok(part),
-        None => Err(Fail::new("no part")),
-    }
+/// The keys of meter 0.
+fn keys_of_meter_0(alloc: Global) -> Result<MeterKeys, Fail> {
+    let part = Part::new(plan_of_north(alloc, 1)?, 0, 0).ok_or("no part")?;
+    Ok(zero_keys(alloc, part, 3)?.ok_or("a key is lacking")?)
 }
 
 /// Meter 0 with a journal.
-fn meter_0(alloc: Global, plan: &Plan, journal: &[Noted]) -> Result<MeterApart, Fail>
-    ensures { IfOk result (λ meter. meter.part.home ≡ plan.now) }
-{
-    match replay(alloc, part_of_meter_0(plan)?, journal) {
+fn meter_0(alloc: Global, journal: &[Noted]) -> Result<MeterApart, Fail> {
+    match replay(alloc, keys_of_meter_0(alloc)?, journal) {
         Ok(meter) => Ok(meter),
         Err(_) => Err(Fail::new("no journal")),
     }
@@ -62,44 +50,34 @@ fn answer_frame() -> Frame {
 fn check_read(
     rt: &impl Abort,
     meter: &mut MeterApart,
-    keys: &MeterKeys,
     reading: u64,
     said: Result<Frame, ReadingRefusal>,
     row: &str,
-)
-    requires { plan_of keys.now ≡ meter.old.part.home }
-    ensures { meter.new.part ≡ meter.old.part }
-{
-    check(rt, meter.read(keys, 0, reading) == said, row);
+) {
+    check(rt, meter.read(0, reading) == said, row);
 }
 
 fn check_hear(
     rt: &impl Abort,
     meter: &mut MeterApart,
-    keys: &MeterKeys,
     frame: &Frame,
     said: Result<Frame, FrameRefusal>,
     row: &str,
-)
-    requires { plan_of keys.now ≡ meter.old.part.home }
-    ensures { meter.new.part ≡ meter.old.part }
-{
-    check(rt, meter.hear(keys, frame) == said, row);
+) {
+    check(rt, meter.hear(frame) == said, row);
 }
 
 #[test]
 fn meter_alone(rt: HostRuntime) -> Result<(), Fail> {
     let alloc = rt.alloc();
-    let plan = plan_of_north(alloc, 1)?;
-    let keys = zero_keys(alloc, &plan)?;
-    let mut meter = meter_0(alloc, &plan, &[])?;
+    let mut meter = meter_0(alloc, &[])?;
     let told = announcement(0, MeterSet::empty());
     let early = Err(FrameRefusal::Why(Why::NotRead));
-    check_hear(&rt, &mut meter, &keys, &told, early, "before the reading");
-    check_read(&rt, &mut meter, &keys, 10, Ok(reading_frame()), "reading");
-    check_read(&rt, &mut meter, &keys, 10, Ok(reading_frame()), "again");
-    check_hear(&rt, &mut meter, &keys, &told, Ok(answer_frame()), "answer");
-    check_hear(&rt, &mut meter, &keys, &told, Ok(answer_frame()), "again");
+    check_hear(&rt, &mut meter, &told, early, "before the reading");
+    check_read(&rt, &mut meter, 10, Ok(reading_frame()), "reading");
+    check_read(&rt, &mut meter, 10, Ok(reading_frame()), "again");
+    check_hear(&rt, &mut meter, &told, Ok(answer_frame()), "answer");
+    check_hear(&rt, &mut meter, &told, Ok(answer_frame()), "again");
     Ok(())
 }
 
@@ -120,71 +98,64 @@ fn first_lines() -> [Noted; 2] {
 #[test]
 fn second_set_refused(rt: HostRuntime) -> Result<(), Fail> {
     let alloc = rt.alloc();
-    let plan = plan_of_north(alloc, 1)?;
-    let keys = zero_keys(alloc, &plan)?;
-    let mut meter = meter_0(alloc, &plan, &first_lines())?;
+    let mut meter = meter_0(alloc, &first_lines())?;
     let none = MeterSet::empty();
     let other = announcement(0, none.with(1));
     let refused = Err(FrameRefusal::Why(Why::OtherSet(none)));
-    check_hear(&rt, &mut meter, &keys, &other, refused, "another set");
+    check_hear(&rt, &mut meter, &other, refused, "another set");
     let told = announcement(0, none);
-    check_hear(&rt, &mut meter, &keys, &told, Ok(answer_frame()), "the set");
-    check_read(&rt, &mut meter, &keys, 10, Ok(reading_frame()), "reading");
+    check_hear(&rt, &mut meter, &told, Ok(answer_frame()), "the set");
+    check_read(&rt, &mut meter, 10, Ok(reading_frame()), "reading");
     Ok(())
 }
 
 #[test]
 fn reading_changed(rt: HostRuntime) -> Result<(), Fail> {
     let alloc = rt.alloc();
-    let plan = plan_of_north(alloc, 1)?;
-    let keys = zero_keys(alloc, &plan)?;
-    let mut meter = meter_0(alloc, &plan, &[])?;
+    let mut meter = meter_0(alloc, &[])?;
     let range = Err(ReadingRefusal::Range);
-    check_read(&rt, &mut meter, &keys, 1 << 40, range, "too large");
-    check_read(&rt, &mut meter, &keys, 10, Ok(reading_frame()), "reading");
+    check_read(&rt, &mut meter, 1 << 40, range, "too large");
+    check_read(&rt, &mut meter, 10, Ok(reading_frame()), "reading");
     let twice = Err(ReadingRefusal::Twice);
-    check_read(&rt, &mut meter, &keys, 11, twice, "changed");
+    check_read(&rt, &mut meter, 11, twice, "changed");
     let round = Err(ReadingRefusal::Round);
-    check(&rt, meter.read(&keys, 1, 10) == round, "no such round");
+    check(&rt, meter.read(1, 10) == round, "no such round");
     Ok(())
 }
 
 #[test]
 fn sets_not_answered(rt: HostRuntime) -> Result<(), Fail> {
     let alloc = rt.alloc();
-    let plan = plan_of_north(alloc, 1)?;
-    let keys = zero_keys(alloc, &plan)?;
-    let mut meter = meter_0(alloc, &plan, &[])?;
-    check_read(&rt, &mut meter, &keys, 10, Ok(reading_frame()), "reading");
+    let mut meter = meter_0(alloc, &[])?;
+    check_read(&rt, &mut meter, 10, Ok(reading_frame()), "reading");
     let none = MeterSet::empty();
     let tag = Err(FrameRefusal::Tag);
-    check_hear(&rt, &mut meter, &keys, &announcement(1, none), tag, "to 1");
+    check_hear(&rt, &mut meter, &announcement(1, none), tag, "to 1");
     let own = reading_frame();
     let tag = Err(FrameRefusal::Tag);
-    check_hear(&rt, &mut meter, &keys, &own, tag, "no announcement");
+    check_hear(&rt, &mut meter, &own, tag, "no announcement");
     let strange = announcement(0, none.with(3));
     let plan_ends = Err(FrameRefusal::Why(Why::OutOfPlan));
-    check_hear(&rt, &mut meter, &keys, &strange, plan_ends, "no meter 3");
+    check_hear(&rt, &mut meter, &strange, plan_ends, "no meter 3");
     let itself = announcement(0, none.with(0));
     let missing = Err(FrameRefusal::Why(Why::SelfMissing));
-    check_hear(&rt, &mut meter, &keys, &itself, missing, "itself");
+    check_hear(&rt, &mut meter, &itself, missing, "itself");
     let two = announcement(0, none.with(1).with(2));
     let thin = Err(FrameRefusal::Why(Why::Thin(1)));
-    check_hear(&rt, &mut meter, &keys, &two, thin, "thin");
+    check_hear(&rt, &mut meter, &two, thin, "thin");
     Ok(())
 }
 
 #[test]
 fn wrong_meter_journal(rt: HostRuntime) -> Result<(), Fail> {
     let alloc = rt.alloc();
-    let plan = plan_of_north(alloc, 1)?;
     let [read, kept] = first_lines();
     let lines = [kept, read];
-    let early = replay(alloc, part_of_meter_0(&plan)?, &lines).err();
+    let early = replay(alloc, keys_of_meter_0(alloc)?, &lines).err();
     check(&rt, early == Some(ReplayError::Line(0)), "no reading yet");
     let [read, again] = [read, read];
     let lines = [read, kept, again];
-    let twice = replay(alloc, part_of_meter_0(&plan)?, &lines).err();
+    let twice = replay(alloc, keys_of_meter_0(alloc)?, &lines).err();
     check(&rt, twice == Some(ReplayError::Line(2)), "twice");
     Ok(())
 }
@@ -193,8 +164,8 @@ fn wrong_meter_journal(rt: HostRuntime) -> Result<(), Fail> {
 fn no_keys_and_no_part(rt: HostRuntime) -> Result<(), Fail> {
     let alloc = rt.alloc();
     let plan = plan_of_north(alloc, 1)?;
-    let pairs = vec![in alloc; Some([0; 32]); 2]?;
-    let keys = MeterKeys::new(plan.try_copy()?, 0, [0; 32], pairs);
+    let part = Part::new(plan.try_copy()?, 0, 0).ok_or("no part")?;
+    let keys = zero_keys(alloc, part, 2)?;
     check(&rt, keys.is_none(), "a key is lacking");
     check(&rt, Part::new(plan, 0, 3).is_none(), "no meter 3");
     let groups = [group(b"north", 3, 2)?, group(b"south", 3, 2)?];

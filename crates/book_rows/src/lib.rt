@@ -1,5 +1,5 @@
 //! Worked rows of the book, of what feeds it and of what is made of it: sets, frames, rounds, meters, mask words, the link,
-//! workers, whole runs, the report of a book, and the worlds of a twin. They are tests alone, in modules that are named after the
+//! workers, whole runs, the report of a book, the worlds of a twin, and masks between neighbours. They are tests alone, in modules that are named after the
 //! crates below; those of plans, lanes, texts and files are in `file_rows`.
 //! They stand here because a crate that has tests is proved twice, so those crates have none of their own.
 #![tactic(auto)]
@@ -14,6 +14,8 @@ mod collector_workers_rows;
 mod fixtures;
 #[cfg(test)]
 mod group_book_rows;
+#[cfg(test)]
+mod ideal_masks_rows;
 #[cfg(test)]
 mod lossy_link_rows;
 #[cfg(test)]
@@ -30,6 +32,8 @@ mod register_words_rows;
 mod round_machine_rows;
 #[cfg(test)]
 mod shared_book_rows;
+#[cfg(test)]
+mod sparse_masks_rows;
 #[cfg(test)]
 mod tick_run_rows;
 #[cfg(test)]

@@ -14,13 +14,23 @@ use std::alloc::Global;
 use std::sync::Wait;
 use std::test::Fail;
 use std::thread::Threads;
-use tick_run::{Finished, Nobody, run_masked, run_plan};
+use tick_run::{Crew, Finished, Run, Workers, run_masked, run_plan};
 use transcript_log::{Line, Lines};
 
 // Whether this is the last line.
 fn ends_with(lines: &Lines, last: &Line) -> bool {
     let count = lines.len();
     count > 0 && is_same(&lines.at(count - 1), last)
+}
+
+// Two workers, and the program's gate.
+fn crew_of_two<R>(rt: &R, alloc: Global) -> Crew<'_, R, Free> {
+    Crew {
+        rt,
+        alloc,
+        workers: Workers::new(2),
+        gate: &Free,
+    }
 }
 
 // Runs the readings 10, 20 and 30 over a rack on which no post was made.
@@ -32,17 +42,8 @@ fn run(rt: &(impl Threads + Wait + Sync), alloc: Global, rack: &mut Rack) -> Res
     let plan = plan_of_north(alloc, 1)?;
     let readings = table(alloc, &plan, &[10, 20, 30])?;
     let keys = keys_of_north(alloc, &plan, [1, 2, 3, 4, 5, 6])?;
-    match run_plan(
-        rt,
-        alloc,
-        &plan,
-        &readings,
-        &keys,
-        rack,
-        2,
-        &Free,
-        &mut Nobody,
-    ) {
+    let crew = crew_of_two(rt, alloc);
+    match run_plan(&crew, &plan, &readings, &keys, rack) {
         Ok(done) => Ok(done),
         Err(_) => Err(Fail::new("want of memory")),
     }
@@ -60,17 +61,8 @@ fn run_ideal(
     let plan = plan_of_north(alloc, 1)?;
     let readings = table(alloc, &plan, &[10, 20, 30])?;
     let masks = ideal_table(alloc, &plan)?;
-    match run_masked(
-        rt,
-        alloc,
-        &plan,
-        &readings,
-        &masks,
-        rack,
-        2,
-        &Free,
-        &mut Nobody,
-    ) {
+    let crew = crew_of_two(rt, alloc);
+    match run_masked(&crew, &plan, &readings, &masks, rack) {
         Ok(done) => Ok(done),
         Err(_) => Err(Fail::new("want of memory")),
     }
@@ -125,5 +117,30 @@ fn ideal_words_total_60(rt: HostRuntime) -> Result<(), Fail> {
         ending: Ending::Total(60),
     };
     check(&rt, ends_with(lines, &end), "the end");
+    Ok(())
+}
+
+/// Of the 36 ticks 35 are left then.
+#[test]
+fn first_tick_sends_three_readings(rt: HostRuntime) -> Result<(), Fail> {
+    let alloc = rt.alloc();
+    let plan = plan_of_north(alloc, 1)?;
+    let readings = table(alloc, &plan, &[10, 20, 30])?;
+    let masks = ideal_table(alloc, &plan)?;
+    let Ok(rack) = Rack::fit(alloc, Vec::new(alloc), &[]) else {
+        return Err(Fail::new("an empty rack"));
+    };
+    let mut rack = rack;
+    let crew = crew_of_two(&rt, alloc);
+    let run = Run::begin(&crew, &readings, &masks, &mut rack)?;
+    check_same(&rt, &run.ticks_left(), &36, "the ticks");
+    let run = run.tick(&mut rack)?;
+    check_same(&rt, &run.ticks_left(), &35, "the ticks left");
+    check_same(&rt, &run.len(), &3, "the entries");
+    if run.len() < 1 {
+        return Ok(());
+    }
+    let newest = run.newest(1)?;
+    check_same(&rt, &newest.len(), &2, "the newest entries");
     Ok(())
 }

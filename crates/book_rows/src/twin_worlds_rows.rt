@@ -66,7 +66,7 @@ pair,0,0,1,2,903df1a0ade0b876,903df1a0ade0b852\n\
 end,3\n";
 
 /// The answer of meter 1 is lost.
-static LOST: &str = "\
+pub(crate) static LOST: &str = "\
 meteragg transcript 2\n\
 rounds,1\n\
 windows,1,2\n\

@@ -36,7 +36,8 @@ fn set_own(masks: &mut MaskTable, meter: u8, word: u64) -> Result<(), Fail>
     Ok(())
 }
 
-fn set_pair(masks: &mut MaskTable, low: u8, high: u8, word: u64) -> Result<(), Fail>
+/// Sets the word of a pair in round 0 of the first group. Fails where the plan has no such pair.
+pub(crate) fn set_pair(masks: &mut MaskTable, low: u8, high: u8, word: u64) -> Result<(), Fail>
     ensures { masks.new.plan ≡ masks.old.plan }
 {
     if low >= high || !holds(masks.plan(), high) {

@@ -21,6 +21,10 @@ mod refusal_tests;
 #[cfg(test)]
 mod register_tests;
 #[cfg(test)]
+mod resume_tests;
+#[cfg(test)]
+mod ring_tests;
+#[cfg(test)]
 mod run_tests;
 #[cfg(test)]
 mod twin_tests;

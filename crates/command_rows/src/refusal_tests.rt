@@ -331,7 +331,7 @@ fn failing_desk_calls(rt: HostRuntime) -> Result<(), Fail> {
 }
 
 // Words that are no command: too few or too many, names that are equal or empty, numbers outside their ranges.
-static BAD_WORDS: [&str; 75] = [
+static BAD_WORDS: [&str; 93] = [
     "run",
     "run plan.csv readings.csv report.csv",
     "ran plan.csv readings.csv report.csv t.txt",
@@ -349,6 +349,24 @@ static BAD_WORDS: [&str; 75] = [
     "run plan.csv readings.csv report.csv t.txt 4x",
     "run plan.csv readings.csv report.csv t.txt ",
     "run plan.csv readings.csv report.csv t.txt 4 4",
+    "ring plan.csv readings.csv 0 report.csv t.txt",
+    "ring plan.csv readings.csv 129 report.csv t.txt",
+    "ring plan.csv readings.csv 01 report.csv t.txt",
+    "ring plan.csv readings.csv +1 report.csv t.txt",
+    "ring plan.csv readings.csv  report.csv t.txt",
+    "ring plan.csv readings.csv report.csv t.txt",
+    "ring plan.csv readings.csv 1 report.csv",
+    "ring plan.csv readings.csv 1 report.csv plan.csv",
+    "ring plan.csv readings.csv 1 report.csv t.txt 17",
+    "ring plan.csv readings.csv 1 report.csv t.txt 4 4",
+    "ringtwin plan.csv readings.csv other.csv 0 t.txt masks.txt",
+    "ringtwin plan.csv readings.csv other.csv 129 t.txt masks.txt",
+    "ringtwin plan.csv readings.csv other.csv 01 t.txt masks.txt",
+    "ringtwin plan.csv readings.csv other.csv t.txt masks.txt",
+    "ringtwin plan.csv readings.csv other.csv 1 t.txt",
+    "ringtwin plan.csv readings.csv other.csv 1 t.txt t.txt",
+    "ringtwin plan.csv readings.csv other.csv 1 t.txt ",
+    "ringtwin plan.csv readings.csv other.csv 1 t.txt masks.txt 4",
     "registers 1 plan.csv readings.csv report.csv t.txt words.txt",
     "registers 9 plan.csv readings.csv report.csv t.txt words.txt",
     "registers 02 plan.csv readings.csv report.csv t.txt words.txt",

@@ -5,6 +5,8 @@
 #![tactic(auto)]
 
 #[cfg(test)]
+mod cut_resume_rows;
+#[cfg(test)]
 mod desk_outside_rows;
 #[cfg(test)]
 mod fixtures;
