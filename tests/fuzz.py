@@ -37,6 +37,9 @@ COMMANDS = [
     ("run <plan <readings >report >transcript", {0, 1, 2, 3, 4, 5, 6, 10}),
     ("run <plan <readings >report >transcript 3", {0, 1, 2, 3, 4, 5, 6, 10}),
     ("twin <plan <readings <other <transcript >masks", {0, 1, 2, 3, 4, 5, 6, 7, 8}),
+    ("ring <plan <readings 2 >report >transcript", {0, 1, 2, 3, 4, 5, 6, 10}),
+    ("resume <plan <readings <cut >report >transcript", {0, 1, 2, 3, 4, 5, 6, 7, 10}),
+    ("ringtwin <plan <readings <other 2 <ringed >masks", {0, 1, 2, 3, 4, 5, 6, 7, 8}),
     ("pooled 0.1+0.2 <plan <readings <other <transcript >masks", {0, 1, 2, 3, 4, 5, 6, 7, 8}),
     ("audit <transcript <report", {0, 1, 2, 3, 4, 7, 9}),
     ("convert <old >transcript", {0, 1, 2, 3, 4, 7}),
@@ -231,14 +234,17 @@ def sample_files(program, room):
             shutil.copy(os.path.join(EXAMPLES, example, name + ".csv"), os.path.join(room, name))
         with open(os.path.join(room, "plan"), "ab") as file:
             file.write(rows)
+        run_in(room, program, "ring plan readings 2 report ringed 1".split())
         ended = run_in(room, program, "run plan readings report transcript 1".split())
         if ended.returncode != 0:
             sys.exit(f"fuzz: the example {example} ended with status {ended.returncode}")
         files = files_in(room)
         files["other"] = files["readings"]
+        files.setdefault("ringed", b"")
         files["public"] = public_text(files["plan"])
         files["tables"] = two_registers(files["readings"])
         files["old"] = old_text(files["transcript"])
+        files["cut"] = files["transcript"][: len(files["transcript"]) * 2 // 3]
         sets.append(files)
     return sets
 
