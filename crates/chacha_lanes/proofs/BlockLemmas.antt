@@ -14,7 +14,8 @@ map_range f h a zero same = refl
 map_range {X = X} f h a (suc n) same =
     ap₂ (λ x (l : List X). x ∷ l) (same a (omega arith) (omega arith)) (map_range f h (a + 1) n (λ k low high. same k (omega (arith, low)) (omega (arith, high))))
 
-place_of : (key : List ℕ) (round k : ℕ) → k < 16 → block_word 10 (key_of key) 0 round k ≡ chacha_word key round k
+-- a word of the block is that of the stream
+pub place_of : (key : List ℕ) (round k : ℕ) → k < 16 → block_word 10 (key_of key) 0 round k ≡ chacha_word key round k
 place_of key round k lt =
     let at : k / 16 ≡ 0 = omega (arith, lt) in
     let in_block : k % 16 ≡ k = omega (arith, lt) in

@@ -1,12 +1,12 @@
-//! All words of the first blocks of eight keys.
-ghost use Rattle.std.specs.Prelude.{◌≡◌, ℕ, ◌<◌, [], slice_index_or};
+//! The words of the first blocks: all words of eight keys, and one word of a key in eight rounds.
+ghost use Rattle.std.specs.Prelude.{◌≡◌, ℕ, ◌+◌, ◌*◌, ◌^◌, ◌<◌, [], slice_index, slice_index_or};
 ghost use Rattle.rand_chacha.specs.Block.{add32, double_rounds};
 ghost use Rattle.rand_chacha.specs.Lanes.{lane, lane_at};
 ghost use Rattle.chacha_lanes.specs.Blocks.{lane_words};
-ghost use Rattle.chacha_lanes.specs.Stream.{words_of_block};
+ghost use Rattle.chacha_lanes.specs.Stream.{word_of_block, words_of_block};
 
 use crate::rounds::{States, columns, diagonals};
-use crate::words::{first_states, joined, key_in_each_lane, sums};
+use crate::words::{first_states, joined, key_in_all_lanes, key_in_each_lane, rounds_from, sums};
 use std::simd::u32x8;
 
 /// The halves of the words in eight lanes, one row for each place of a block.
@@ -66,6 +66,24 @@ pub fn stream_blocks(keys: &[[u8; 32]; 8], round: u32) -> [[u64; 8]; 8]
     let mut words = [[0; 8]; 8];
     for lane in 0..8usize {
         words[lane] = words_in_lane(&halves, lane);
+    }
+    words
+}
+
+/// Word `place` of the first block of a key in eight rounds one after another, `first` and the next seven, all at once.
+#[inline(never)]
+pub fn block_words_of_rounds(key: &[u8; 32], first: u32, place: usize) -> [u64; 8]
+    requires fits { first + 7 < 2 ^ 32 }
+    requires place { place < 8 }
+    ensures { (j : ℕ) → j < 8 → slice_index result j ≡ word_of_block key.now (first + j) place }
+{
+    let begin = first_states(key_in_all_lanes(key), rounds_from(first));
+    let last = all_rounds(begin);
+    let low = sums(last[2 * place], begin[2 * place]);
+    let high = sums(last[2 * place + 1], begin[2 * place + 1]);
+    let mut words = [0; 8];
+    for lane in 0..8 {
+        words[lane] = joined(low[lane], high[lane]);
     }
     words
 }

@@ -59,7 +59,7 @@ fn word_of_key(key: &[u8; 32], at: usize) -> u32x8
 
 // One key, the same in every lane.
 #[inline(always)]
-fn key_in_all_lanes(key: &[u8; 32]) -> Keys
+pub(crate) fn key_in_all_lanes(key: &[u8; 32]) -> Keys
     ensures { (j : ℕ) → j < 8 → key_lane j result ≡ key_of key.now }
 {
     [
@@ -76,7 +76,7 @@ fn key_in_all_lanes(key: &[u8; 32]) -> Keys
 
 // Eight rounds one after another, one in each lane.
 #[inline(always)]
-fn rounds_from(first: u32) -> u32x8
+pub(crate) fn rounds_from(first: u32) -> u32x8
     requires { first + 7 < 2 ^ 32 }
     ensures { (j : ℕ) → j < 8 → slice_index result j ≡ first + j }
 {

@@ -276,7 +276,7 @@ impl HiddenReadings {
     }
 
     /// The words of a group in a round, by meter.
-    pub(crate) fn row(&self, group: u16, round: u32) -> &[Word]
+    pub fn row(&self, group: u16, round: u32) -> &[Word]
         requires { HasRow self.now group round }
         ensures { result.now ≡ words_in self.now group round }
     {
