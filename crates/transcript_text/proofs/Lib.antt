@@ -9,6 +9,7 @@ mod FateLemmas
 mod FateTexts
 mod LineFields
 mod EntryLoop
+mod NextEntry
 mod Failing
 mod HeadFields
 mod Choices
@@ -16,12 +17,14 @@ mod HeadBack
 mod HeadLoop
 mod SpanFaults
 mod FrameTexts
+mod DigitTexts
 mod EntryBack
 mod EntriesBack
 mod SpanWalk
 mod PlanIs
 mod HeadText
 mod ReadLemmas
+mod ReaderLemmas
 mod EntryAgain
 mod FrameBytes
 mod LineAgain

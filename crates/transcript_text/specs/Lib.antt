@@ -8,3 +8,5 @@ pub mod Heads
 pub mod ReadBack
 pub mod Faults
 pub mod EntryLines
+pub mod HexDigits
+pub mod Readers

@@ -12,6 +12,7 @@ ghost use Rattle.transcript_text.specs.Reading.{kind_of, verdict_of, dash_of, fa
 
 use crate::Version;
 use crate::fault::RowFault;
+use crate::hex_digits::{bytes_of_digits, hex_digits};
 use field_texts::{cut, read_number, read_number_within, read_set};
 use group_plan::{Kind, Tag};
 use hex::FromHex;
@@ -222,24 +223,18 @@ fn old_bytes(text: &[u8]) -> Option<[u8; 28]>
     }
 }
 
-/// The 52 bytes that the text writes in lower-case digits.
-#[tactic(auto, unfolding(crate::specs::Reading::bytes_of))]
+/// The 52 bytes that the text writes in lower-case digits. They are read with no test, and written again for the test.
 fn bytes(text: &[u8]) -> Option<[u8; 52]>
     ensures { result ≡ bytes_of 52 text.now }
 {
-    match <[u8; 52] as FromHex>::from_hex(text) {
-        Ok(bytes) => {
-            let mut digits = [0u8; 104];
-            if hex::encode_to_slice(bytes, &mut digits).is_err() {
-                unreachable!()
-            }
-            if digits.as_slice() == text {
-                Some(bytes)
-            } else {
-                None
-            }
-        }
-        Err(_) => None,
+    if text.len() != 104 {
+        return None;
+    }
+    let bytes = bytes_of_digits(text);
+    if hex_digits(&bytes).as_slice() == text {
+        Some(bytes)
+    } else {
+        None
     }
 }
 

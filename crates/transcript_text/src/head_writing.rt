@@ -39,8 +39,8 @@ fn round_after(plan: &Plan, group: u16, meter: u8, from: u32) -> u32
     round
 }
 
-/// The rounds of a meter.
-fn span(plan: &Plan, group: u16, meter: u8) -> Span
+/// The rounds of a meter, as a member line states them.
+pub fn meter_span(plan: &Plan, group: u16, meter: u8) -> Span
     requires { meter < size plan.now.groups group }
     ensures { result ≡ span_at plan.now group meter }
 {
@@ -54,7 +54,7 @@ fn span(plan: &Plan, group: u16, meter: u8) -> Span
 }
 
 /// Whether the span is another than all of the rounds.
-pub(crate) fn is_partial(rounds: u32, span: &Span) -> bool
+pub fn is_partial(rounds: u32, span: &Span) -> bool
     ensures { result ≡ is_partial rounds span.now }
 {
     !(span.from == 0 && span.until == rounds)
@@ -87,7 +87,7 @@ fn put_spans_of(out: &mut Vec<u8>, plan: &Plan, group: u16) -> Result<(), AllocE
 {
     let rounds = plan.rounds();
     for meter in 0..plan.meters(group) {
-        let span = span(plan, group, meter as u8);
+        let span = meter_span(plan, group, meter as u8);
         put_span(out, rounds, &span)?;
     }
     Ok(())

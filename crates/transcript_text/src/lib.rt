@@ -4,6 +4,7 @@
 mod batch;
 mod cut;
 mod entry_lines;
+mod entry_reader;
 mod fault;
 mod fields;
 mod head;
@@ -19,7 +20,9 @@ mod writer;
 mod writing;
 
 pub use entry_lines::entry_line;
+pub use entry_reader::EntryReader;
 pub use fault::ReadError;
+pub use head_writing::{is_partial, meter_span};
 pub use pieces::TextPieces;
 pub use reader::{read, read_old};
 pub use version::Version;

@@ -9,26 +9,25 @@ ghost use Rattle.transcript_text.specs.Heads.{read_of};
 ghost use Rattle.transcript_text.specs.ReadBack.{HasHead, IsOldPlan, ReadsEach};
 ghost use Rattle.transcript_text.specs.Faults.{StopsAt};
 
+use crate::entry_reader::EntryReader;
 use crate::fault::ReadError;
-use crate::head::read_head;
 use crate::lines::entries;
 use crate::version::Version;
 use std::alloc::Global;
 use transcript_log::Transcript;
 
 /// The transcript whose text of this version the bytes are, or the first fault.
-#[tactic(auto, unfolding(crate::specs::Heads::read_of))]
 fn read_version(alloc: Global, version: Version, bytes: &[u8]) -> Result<Transcript, ReadError>
     ensures exact { Gives (λ t. t) result (read_of version bytes.now) }
     ensures found { IfOk result (λ t. bytes.now ≡ text_of version t) }
     ensures sound { IfOk result (λ t. IsTranscript t) }
     ensures plan { IfOk result (λ t. HasHead version t.plan) }
 {
-    let head = match read_head(alloc, version, bytes) {
-        Ok(head) => head,
+    let mut reader = match EntryReader::new(alloc, version, bytes) {
+        Ok(reader) => reader,
         Err(fault) => return Err(fault),
     };
-    entries(alloc, version, &head.plan, head.line, head.rest)
+    entries(alloc, &mut reader)
 }
 
 /// The transcript whose text of version 2 the bytes are, or the first fault.

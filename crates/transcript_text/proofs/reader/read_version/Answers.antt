@@ -1,16 +1,16 @@
-use Rattle.field_texts.specs.Parts.{parts}
-use Rattle.transcript_text.specs.Heads.{HeadRead}
-use Rattle.transcript_text.proofs.ReadLemmas.{gives_read, found_read, head_read}
+use Rattle.transcript_text.specs.Heads.{read_of}
+use Rattle.transcript_text.proofs.ReaderLemmas.{gives_all, plan_read, text_found}
 use Rattle.transcript_text.proofs.reader.read_version.Goals as goal
 
 pub returns : goal.returns
 returns c =
-    let head : HeadRead = record { plan = c.in-Ok.head.plan; line = c.in-Ok.head.line; rest = parts 10 c.in-Ok.head.rest.now } in
-    let given = c.in-Ok.ensures.given in
+    let reader = c.in-Ok.reader in
+    let begun = c.in-Ok.ensures.begins in
     let read = c.entries.ensures in
+    let exact = gives_all reader.plan reader.left (read_of c.args.version c.args.bytes.now) begun.read c.entries.result read.entries read.plan in
     record {
-      exact = gives_read c.args.version c.args.bytes.now head given c.entries.result read.entries read.plan;
-      found = found_read c.args.version c.args.bytes.now head c.entries.result given read.entries read.plan read.sound;
+      exact = exact;
+      found = text_found c.args.version c.args.bytes.now c.entries.result c.in-Ok.ensures.text exact;
       sound = read.sound;
-      plan = head_read c.args.version c.args.bytes.now head c.entries.result given read.plan;
+      plan = plan_read c.args.version reader.plan c.entries.result begun.head read.plan;
     }

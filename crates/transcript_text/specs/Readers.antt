@@ -1,0 +1,60 @@
+-- The entries of a text, read one after another.
+use Rattle.std.specs.Prelude.{◌≡◌, ℕ, ◌+◌, ◌<◌, ◌≤◌, List, [], ◌∷◌, Option, None, Some, Result, Ok, Err}
+use Rattle.group_plan.specs.Plans.{PlanView}
+use Rattle.transcript_log.specs.declared.Entry.{Entry}
+use Rattle.transcript_log.specs.Transcripts.{TranscriptView, IsPlan, IsTranscript, Fits}
+use Rattle.transcript_text.specs.declared.version.Version.{Version}
+use Rattle.transcript_text.specs.declared.fault.ReadError.{ReadError}
+use Rattle.transcript_text.specs.Spelling.{text_of}
+use Rattle.transcript_text.specs.Reading.{Fails, before}
+use Rattle.transcript_text.specs.Heads.{read_of}
+use Rattle.transcript_text.specs.ReadBack.{HasHead}
+
+-- a text of which some entries are read
+pub record ReaderView : Type 0 where
+  pub plan : PlanView
+  -- the number of the next line
+  pub line : ℕ
+  -- the tick of the last entry that is read, 0 before the first
+  pub last : ℕ
+  -- the entries that are left to read, or the first fault
+  pub left : Result (List Entry) ReadError
+  -- how many bytes are left to read
+  pub bytes : ℕ
+
+-- the transcript of a plan and these entries, or the fault
+abbrev pub with_entries : PlanView → Result (List Entry) ReadError → Result TranscriptView ReadError
+with_entries plan (Ok es) = Ok (record { plan = plan; entries = es })
+with_entries plan (Err f) = Err f
+
+-- the head of a text is read, and no entry
+pub record IsBegun (version : Version) (text : List ℕ) (r : ReaderView) : Type 0 where
+  pub read : read_of version text ≡ with_entries r.plan r.left
+  pub last : r.last ≡ 0
+  pub plan : IsPlan r.plan
+  pub head : HasHead version r.plan
+
+-- how the reading of a text begins
+abbrev pub Begins : Version → List ℕ → Result ReaderView ReadError → Type 0
+Begins version text (Ok r) = IsBegun version text r
+Begins version text (Err f) = Fails f (read_of version text)
+
+-- an entry is read: the first of those that were left
+pub record IsRead (old : ReaderView) (e : Entry) (new : ReaderView) : Type 0 where
+  pub left : old.left ≡ before (e ∷ []) new.left
+  pub plan : new.plan ≡ old.plan
+  pub line : new.line ≡ old.line + 1
+  pub last : new.last ≡ e.tick
+  pub tick : old.last ≤ e.tick
+  pub fits : Fits old.plan e
+  pub bytes : new.bytes < old.bytes
+
+-- the next entry; none where all are read; or the fault that stands there. At these two nothing has changed
+abbrev pub NextEnds : ReaderView → Result (Option Entry) ReadError → ReaderView → Type 0
+NextEnds old (Ok (Some e)) new = IsRead old e new
+NextEnds old (Ok None) new = (old.left ≡ Ok []) × (new ≡ old)
+NextEnds old (Err f) new = (old.left ≡ Err f) × (new ≡ old)
+
+-- what the bytes are read as is a transcript, and they are its text
+unfoldable pub IsTextOfWhatIsRead : Version → List ℕ → Type 0
+IsTextOfWhatIsRead version text = (t : TranscriptView) → read_of version text ≡ Ok t → IsTranscript t × (text ≡ text_of version t)

@@ -1,0 +1,129 @@
+//! The entries of a text, read one after another.
+
+ghost use Rattle.std.specs.Prelude.{◌≡◌};
+ghost use Rattle.transcript_text.specs.Reading.{in_line};
+ghost use Rattle.transcript_text.specs.Readers.{ReaderView, Begins, NextEnds, IsTextOfWhatIsRead};
+
+use crate::fault::{ReadError, Row, RowFault};
+use crate::head::read_head;
+use crate::rows::row;
+use crate::version::Version;
+use field_texts::cut_far;
+use group_plan::Plan;
+use std::alloc::Global;
+use std::marker::Model;
+use transcript_log::Entry;
+
+/// A text of which the head is read, and some of the entries.
+#[derive(Drop)]
+pub struct EntryReader<'a> {
+    version: Version,
+    plan: Plan,
+    /// The number of the next line.
+    line: u64,
+    /// The tick of the last entry that is read, 0 before the first.
+    last: u32,
+    /// How many entries are read.
+    count: u64,
+    /// The text from the next line on.
+    rest: &'a [u8],
+}
+
+impl<'a> Model for EntryReader<'a> {
+    ghost use Rattle.std.specs.Prelude.{◌<◌, ◌≤◌, ◌+◌, ◌-◌, ◌^◌, length};
+    ghost use Rattle.field_texts.specs.Parts.{parts};
+    ghost use Rattle.transcript_text.specs.Reading.{entries_from};
+    ghost use Rattle.transcript_text.specs.Readers.{ReaderView};
+
+    ghost Value = { ReaderView };
+
+    ghost view = { λ r. record { plan = r.plan; line = r.line; last = r.last; left = entries_from r.version r.plan r.line r.last r.count (parts 10 r.rest.now); bytes = length r.rest.now } };
+
+    ghost invariant = { λ r. (r.line + length r.rest.now < 2 ^ 64 - 1) × (r.count ≤ r.line) };
+}
+
+/// The fault of a row, as one of line `n`.
+fn in_line(n: u64, fault: RowFault) -> ReadError
+    ensures { result ≡ in_line n fault }
+{
+    match fault {
+        RowFault::Form => ReadError::Line(n),
+        RowFault::Field(k) => ReadError::Field(n, k),
+    }
+}
+
+impl<'a> EntryReader<'a> {
+    /// Reads the head of a text.
+    #[tactic(auto, using(crate::proofs::ReaderLemmas::text_is))]
+    pub fn new(
+        alloc: Global,
+        version: Version,
+        bytes: &'a [u8],
+    ) -> Result<EntryReader<'a>, ReadError>
+        ensures begins { Begins version bytes.now result }
+        ensures text { IsTextOfWhatIsRead version bytes.now }
+    {
+        let head = match read_head(alloc, version, bytes) {
+            Ok(head) => head,
+            Err(fault) => return Err(fault),
+        };
+        Ok(EntryReader {
+            version,
+            plan: head.plan,
+            line: head.line,
+            last: 0,
+            count: 0,
+            rest: head.rest,
+        })
+    }
+
+    /// The plan of the head.
+    pub fn plan(&self) -> &Plan
+        ensures { result.now ≡ self.now.plan }
+    {
+        &self.plan
+    }
+
+    /// The number of the next line, counted from 1.
+    pub fn line(&self) -> u64
+        ensures { result ≡ self.now.line }
+    {
+        self.line
+    }
+
+    /// How many bytes are left to read.
+    pub fn bytes_left(&self) -> usize
+        ensures { result ≡ self.now.bytes }
+    {
+        self.rest.len()
+    }
+
+    /// Reads the next entry. There is none where the next line is the last, as it has to be.
+    pub fn next(&mut self) -> Result<Option<Entry>, ReadError>
+        ensures { NextEnds self.old result self.new }
+    {
+        let _groups = self.plan.groups();
+        let Some((line, after)) = cut_far(b'\n', self.rest) else {
+            return Err(ReadError::NoEnd(self.line));
+        };
+        match row(self.version, &self.plan, self.last, line) {
+            Ok(Row::Entry(entry)) => {
+                self.line += 1;
+                self.last = entry.tick;
+                self.count += 1;
+                self.rest = after;
+                Ok(Some(entry))
+            }
+            Ok(Row::Last(count)) => {
+                if count != self.count {
+                    return Err(ReadError::Count(self.line));
+                }
+                if !after.is_empty() {
+                    return Err(ReadError::After(self.line + 1));
+                }
+                Ok(None)
+            }
+            Err(fault) => Err(in_line(self.line, fault)),
+        }
+    }
+}
