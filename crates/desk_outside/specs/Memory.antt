@@ -1,5 +1,5 @@
 -- A desk in memory: what it tells, and which of its calls fail.
-use Rattle.std.specs.Prelude.{◌≡◌, ℕ, Bool, true, false, ◌||◌, if◌then◌else◌, List, [], Some, None, is_none, Result, Ok, Err, Vec, string_bytes, ⊤}
+use Rattle.std.specs.Prelude.{◌≡◌, ℕ, Bool, true, false, ◌||◌, if◌then◌else◌, List, [], Some, None, is_some, is_none, Result, Ok, Err, Vec, string_bytes, ⊤}
 use Rattle.std.specs.declared.alloc.Global.{Global}
 use Rattle.desk_outside.specs.declared.desk.FetchError.{FetchError}
 use Rattle.desk_outside.specs.declared.desk.FetchError.TheVariants.{Failed as FetchFailed, TooLong as FetchTooLong, Memory as FetchMemory}
@@ -7,7 +7,7 @@ use Rattle.desk_outside.specs.declared.desk.DeskError.{DeskError}
 use Rattle.desk_outside.specs.declared.desk.DeskError.TheVariants.{Failed, Memory}
 use Rattle.desk_outside.specs.declared.memory.BegunInMemory.{BegunInMemory}
 use Rattle.desk_outside.specs.declared.memory.MemoryDesk.{MemoryDesk}
-use Rattle.desk_outside.specs.Parts.{held_in, is_listed}
+use Rattle.desk_outside.specs.Parts.{held_in, is_failed, is_listed}
 use Rattle.desk_outside.specs.Desk.{View, Step, stored, after_step, one_more}
 
 -- what the desk tells, which is everything
@@ -26,9 +26,17 @@ after_place v name bytes = record v { held = stored v.held name bytes }
 abbrev pub begun_name : BegunInMemory → List ℕ
 begun_name file = string_bytes file.name
 
--- a begun file has these bytes, unless memory ran out
+-- whether something of a begun file has failed
+abbrev pub has_failed : BegunInMemory → Bool
+has_failed file = is_some file.error
+
+-- a begun file has these bytes, unless something has failed
 abbrev pub has_bytes : BegunInMemory → List ℕ → Type 0
-has_bytes file bytes = file.has_failed ≡ false → file.bytes.items ≡ bytes
+has_bytes file bytes = has_failed file ≡ false → file.bytes.items ≡ bytes
+
+-- whether a begun file has failed since its name held something
+abbrev pub was_taken : BegunInMemory → Bool
+was_taken file = is_failed file.error
 
 -- how often its calls have failed
 abbrev pub faults_of : MemoryDesk → ℕ

@@ -1,7 +1,7 @@
 //! The outside, as a program sees it.
 
-ghost use Rattle.std.specs.Prelude.{◌≡◌, ◌≤◌, ◌<◌, ◌^◌, ℕ, [], IfOk, IsErrOf};
-ghost use Rattle.desk_outside.specs.Begun.{CommitEnds};
+ghost use Rattle.std.specs.Prelude.{◌≡◌, ◌≤◌, ◌<◌, ◌^◌, ℕ, [], true, IfOk, IsErrOf};
+ghost use Rattle.desk_outside.specs.Begun.{CommitEnds, IsTaken};
 ghost use Rattle.desk_outside.specs.Desk.{View, FetchEnds, SayEnds, ComplainEnds, Rose};
 
 use crate::{BegunFile, Readers};
@@ -112,6 +112,14 @@ pub trait Desk {
         ensures same_view { view self.new ≡ view self.old }
         ensures same_faults { faults self.new ≡ faults self.old }
         ensures begun { IfOk result (λ file. (Self.Begun.name file ≡ name.now) × Self.Begun.has file []) };
+
+    /// Begins a new file for a name that is to hold nothing until then. Where the name holds something or can't be written, the file has
+    /// failed. An error where memory runs out.
+    fn begin_new(&mut self, name: &str, readers: Readers) -> Result<Self::Begun, AllocError>
+        ensures same_view { view self.new ≡ view self.old }
+        ensures same_faults { faults self.new ≡ faults self.old }
+        ensures begun { IfOk result (λ file. (Self.Begun.name file ≡ name.now) × Self.Begun.has file []) }
+        ensures taken { IfOk result (λ file. IsTaken ((view self.old).held name.now) → Self.Begun.failed file ≡ true) };
 
     /// Puts what a begun file has under its name, in place of what that held: all of it is on the disk before the name has it. Every
     /// other name holds what it held. So a file that was fetched, begun or put is not written over by another name that leads to it:

@@ -1,10 +1,10 @@
 //! The desk in memory, which tells everything and fails where it is told to.
 
-ghost use Rattle.std.specs.Prelude.{◌≡◌, ◌≤◌, ◌<◌, ◌^◌, ◌||◌, ◌++◌, if◌then◌else◌, ℕ, List, [], true, false, Some, None, OnOk, OnErr, IfOk, IsErrOf};
+ghost use Rattle.std.specs.Prelude.{◌≡◌, ◌≤◌, ◌<◌, ◌^◌, ◌||◌, ◌++◌, if◌then◌else◌, ℕ, List, [], true, false, Some, None, is_some, OnOk, OnErr, IfOk, IsErrOf};
 ghost use Rattle.std.specs.Option.{option_copied};
 ghost use Rattle.std.specs.Str.{bytes_eq};
-ghost use Rattle.desk_outside.specs.Parts.{held_in, is_listed};
-ghost use Rattle.desk_outside.specs.Begun.{CommitEnds};
+ghost use Rattle.desk_outside.specs.Parts.{held_in, is_failed, is_listed};
+ghost use Rattle.desk_outside.specs.Begun.{CommitEnds, IsTaken};
 ghost use Rattle.desk_outside.specs.Desk.{FetchEnds, SayEnds, ComplainEnds, Rose, Unstored, Said, Complained, call_of, one_more};
 
 use crate::pieces::write_pieces;
@@ -128,39 +128,51 @@ impl MemoryDesk {
     }
 }
 
-/// A file that a desk in memory has begun. Only want of memory fails it.
+/// A file that a desk in memory has begun. It fails by want of memory, or since its name held something and was to hold nothing.
 #[derive(Drop)]
 pub struct BegunInMemory {
     alloc: Global,
     name: String,
     bytes: Vec<u8>,
-    has_failed: bool,
+    /// What has failed.
+    error: Option<DeskError>,
 }
 
 impl BegunFile for BegunInMemory {
-    ghost use Rattle.desk_outside.specs.Memory.{begun_name, has_bytes};
+    ghost use Rattle.desk_outside.specs.Memory.{begun_name, has_bytes, has_failed};
 
     ghost name = { begun_name };
 
     ghost has = { has_bytes };
 
-    ghost failed = { λ file. file.has_failed };
+    ghost failed = { has_failed };
 
     fn append<P: Pieces>(&mut self, pieces: &mut P) {
-        if write_pieces(self.alloc, &mut self.bytes, pieces).is_err() {
-            self.has_failed = true;
+        if write_pieces(self.alloc, &mut self.bytes, pieces).is_err() && self.error.is_none() {
+            self.error = Some(DeskError::Memory);
         }
     }
 
     fn flush(&mut self) -> Result<(), DeskError> {
-        if self.has_failed {
-            return Err(DeskError::Memory);
+        match self.error {
+            Some(error) => Err(error),
+            None => Ok(()),
         }
-        Ok(())
     }
 
     fn has_failed(&self) -> bool {
-        self.has_failed
+        self.error.is_some()
+    }
+}
+
+// Whether this is the error of a name that held something.
+fn is_failed(error: Option<DeskError>) -> bool
+    ensures { result ≡ is_failed error }
+{
+    match error {
+        Some(DeskError::Failed) => true,
+        Some(DeskError::Memory) => false,
+        None => false,
     }
 }
 
@@ -219,7 +231,7 @@ fn append(
 impl Desk for MemoryDesk {
     type Begun = BegunInMemory;
 
-    ghost use Rattle.desk_outside.specs.Memory.{view_of, faults_of, turns_of, after_turn, is_failing, is_failing_fetch, begun_name, has_bytes, Fails, FetchFails};
+    ghost use Rattle.desk_outside.specs.Memory.{view_of, faults_of, turns_of, after_turn, is_failing, is_failing_fetch, begun_name, has_bytes, has_failed, was_taken, Fails, FetchFails};
 
     ghost view = { view_of };
 
@@ -265,31 +277,51 @@ impl Desk for MemoryDesk {
             alloc: self.alloc,
             name: String::from_str(self.alloc, name)?,
             bytes: Vec::new(self.alloc),
-            has_failed: false,
+            error: None,
+        })
+    }
+
+    fn begin_new(&mut self, name: &str, _readers: Readers) -> Result<BegunInMemory, AllocError>
+        ensures same_view { view_of self.new ≡ view_of self.old }
+        ensures same_faults { faults_of self.new ≡ faults_of self.old }
+        ensures begun { IfOk result (λ file. (begun_name file ≡ name.now) × has_bytes file []) }
+        ensures taken { IfOk result (λ file. IsTaken ((view_of self.old).held name.now) → has_failed file ≡ true) }
+        ensures exact { IfOk result (λ file. (has_failed file ≡ is_some (held_in self.old.files name.now)) × (was_taken file ≡ is_some (held_in self.old.files name.now))) }
+        ensures same_turns { turns_of self.new ≡ turns_of self.old }
+    {
+        let error = match self.files.get(name) {
+            Some(_) => Some(DeskError::Failed),
+            None => None,
+        };
+        Ok(BegunInMemory {
+            alloc: self.alloc,
+            name: String::from_str(self.alloc, name)?,
+            bytes: Vec::new(self.alloc),
+            error,
         })
     }
 
     fn commit(&mut self, file: BegunInMemory) -> Result<(), DeskError>
-        ensures ends { CommitEnds (has_bytes file) file.has_failed (begun_name file) (view_of self.old) (view_of self.new) result }
+        ensures ends { CommitEnds (has_bytes file) (has_failed file) (begun_name file) (view_of self.old) (view_of self.new) result }
         ensures later { faults_of self.old ≤ faults_of self.new }
         ensures cause { IsErrOf result DeskError.Failed
             → Rose (faults_of self.old) (faults_of self.new) }
-        ensures fails { Fails (is_failing (turns_of self.old)) (Unstored (begun_name file))
+        ensures fails { Fails (is_failing (turns_of self.old) || was_taken file) (Unstored (begun_name file))
             (view_of self.old) (view_of self.new) result }
         ensures turn { turns_of self.new
-            ≡ after_turn (turns_of self.old) (is_failing (turns_of self.old)) }
+            ≡ after_turn (turns_of self.old) (is_failing (turns_of self.old) || was_taken file) }
     {
         let BegunInMemory {
             alloc: _,
             name,
             bytes,
-            has_failed,
+            error,
         } = file;
-        if self.turns.take(false) {
+        if self.turns.take(is_failed(error)) {
             note(self.alloc, &mut self.calls, DeskKind::Put, &name, true)?;
             return Err(DeskError::Failed);
         }
-        if has_failed {
+        if error.is_some() {
             return Err(DeskError::Memory);
         }
         let call = DeskCall {

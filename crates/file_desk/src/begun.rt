@@ -36,6 +36,8 @@ pub struct BegunOnDisk<R: Files<File = File> + Copy> {
     pub(crate) error: Option<DeskError>,
     /// Whether nothing was appended after the last flush.
     pub(crate) is_flushed: bool,
+    /// Whether its name is to hold nothing until it is committed.
+    pub(crate) is_new: bool,
 }
 
 impl<R: Files<File = File> + Print + Wait + Copy> BegunOnDisk<R> {

@@ -82,7 +82,7 @@ impl<R: AllocGlobal + Threads + Wait + Copy + Send + 'static> FileDesk<R> {
 }
 
 impl<R: Files<File = File> + Print + Wait + Copy> FileDesk<R> {
-    ghost use Rattle.file_desk.specs.Files.{faults_of, has_failed, Counts};
+    ghost use Rattle.file_desk.specs.Files.{faults_of, has_failed, begun_name, Counts};
 
     // Counts a fault.
     fn count_fault(&mut self)
@@ -245,11 +245,14 @@ impl<R: Files<File = File> + Print + Wait + Copy> FileDesk<R> {
         Err(io::Error::from(ErrorKind::AlreadyExists))
     }
 
-    // Has a part in place of what its path names, unless that may not be written over.
-    fn take_path(&mut self, part: Part<R>, name: String) -> Result<(), DeskError>
+    // Has a part in place of what its path names, unless that may not be written over, or is to be new.
+    fn take_path(&mut self, part: Part<R>, name: String, is_new: bool) -> Result<(), DeskError>
         ensures { faults_of self.new ≡ faults_of self.old }
     {
-        if part.found().is_some_and(|found| self.is_kept(found, &name)) {
+        if part
+            .found()
+            .is_some_and(|found| is_new || self.is_kept(found, &name))
+        {
             return Err(DeskError::Failed);
         }
         let file = part.id().map_err(put_error)?;
@@ -269,6 +272,30 @@ impl<R: Files<File = File> + Print + Wait + Copy> FileDesk<R> {
         self.put_flushed(file)
     }
 
+    // A file that is begun for a name, whose bytes go there or nowhere.
+    fn begun_at(
+        &self,
+        name: String,
+        place: Result<Place<R>, DeskError>,
+        is_new: bool,
+    ) -> BegunOnDisk<R>
+        ensures { begun_name result ≡ string_bytes name }
+    {
+        let (place, error) = match place {
+            Ok(place) => (place, None),
+            Err(error) => (Place::Nowhere, Some(error)),
+        };
+        BegunOnDisk {
+            rt: self.rt,
+            alloc: self.alloc,
+            name,
+            place,
+            error,
+            is_flushed: false,
+            is_new,
+        }
+    }
+
     // Puts a file whose bytes are where they go.
     fn put_flushed(&mut self, file: BegunOnDisk<R>) -> Result<(), DeskError>
         ensures { faults_of self.new ≡ faults_of self.old }
@@ -280,10 +307,11 @@ impl<R: Files<File = File> + Print + Wait + Copy> FileDesk<R> {
             place,
             error: _,
             is_flushed: _,
+            is_new,
         } = file;
         match place {
             Place::Nowhere => Err(DeskError::Failed),
-            Place::Beside(part, _tail) => self.take_path(part, name),
+            Place::Beside(part, _tail) => self.take_path(part, name, is_new),
             Place::AsItIs(_) | Place::Output => Ok(()),
         }
     }
@@ -338,18 +366,14 @@ impl<R: Files<File = File> + Print + Eprint + Wait + Copy + Send> Desk for FileD
 
     fn begin(&mut self, name: &str, readers: Readers) -> Result<BegunOnDisk<R>, AllocError> {
         let own = String::from_str(self.alloc, name)?;
-        let (place, error) = match self.place(name, readers) {
-            Ok(place) => (place, None),
-            Err(error) => (Place::Nowhere, Some(error)),
-        };
-        Ok(BegunOnDisk {
-            rt: self.rt,
-            alloc: self.alloc,
-            name: own,
-            place,
-            error,
-            is_flushed: false,
-        })
+        let place = self.place(name, readers);
+        Ok(self.begun_at(own, place, false))
+    }
+
+    fn begin_new(&mut self, name: &str, readers: Readers) -> Result<BegunOnDisk<R>, AllocError> {
+        let own = String::from_str(self.alloc, name)?;
+        let place = self.place_new(name, readers);
+        Ok(self.begun_at(own, place, true))
     }
 
     fn commit(&mut self, file: BegunOnDisk<R>) -> Result<(), DeskError>

@@ -1,11 +1,12 @@
 -- The text of a list of rows: a heading, and one line for each row.
-use Rattle.std.specs.Prelude.{ℕ, List, [], ◌∷◌, ◌++◌, codes, decimal}
+use Rattle.std.specs.Prelude.{ℕ, List, [], ◌∷◌, ◌++◌, codes, decimal, length}
 use Rattle.std.specs.List.{flat_map}
 use Rattle.field_texts.specs.Sets.{numbers_text}
 use Rattle.transcript_text.specs.Spelling.{ended, joined}
 use Rattle.totals_report.specs.declared.row.ReportRow.{ReportRow}
 use Rattle.totals_report.specs.declared.row.RowOutcome.{RowOutcome}
 use Rattle.totals_report.specs.declared.row.RowOutcome.TheVariants.{Total, Lacking, Thin, Running}
+use Rattle.totals_report.specs.Counts.{counted, is_total, is_lacking, is_thin, is_running}
 
 -- the word of an outcome
 abbrev pub outcome_word : RowOutcome → List ℕ
@@ -38,3 +39,9 @@ lines_text rows = flat_map (λ row. ended (row_line row)) rows
 -- the text of a report with these rows
 abbrev pub rows_text : List ReportRow → List ℕ
 rows_text rows = ended heading ++ lines_text rows
+
+-- how many rows there are, and how many of each outcome: a line with its newline
+unfoldable pub counts_text : List ReportRow → List ℕ
+counts_text rows = ended (
+    (codes "rounds=" ++ decimal (length rows)) ++ (codes " totals=" ++ decimal (counted is_total rows)) ++ (codes " none=" ++ decimal (counted is_lacking rows))
+    ++ (codes " thin=" ++ decimal (counted is_thin rows)) ++ (codes " open=" ++ decimal (counted is_running rows)))

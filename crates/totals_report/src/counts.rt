@@ -1,7 +1,7 @@
 //! What a summary counts.
 ghost use Rattle.std.specs.Prelude.{◌≡◌, count_by};
 ghost use Rattle.run_rows.specs.Summary.{is_sending, is_taking};
-ghost use Rattle.totals_report.specs.Counts.{is_total, is_lacking, is_thin};
+ghost use Rattle.totals_report.specs.Counts.{is_total, is_lacking, is_thin, is_running};
 
 use crate::row::{ReportRow, RowOutcome};
 use transcript_log::Lines;
@@ -23,6 +23,7 @@ pub(crate) struct OutcomeCounts {
     pub(crate) totals: u64,
     pub(crate) nones: u64,
     pub(crate) thins: u64,
+    pub(crate) opens: u64,
 }
 
 /// Counts the rows of each outcome.
@@ -30,18 +31,20 @@ pub(crate) fn count_outcomes(rows: &[ReportRow]) -> OutcomeCounts
     ensures totals { result.totals ≡ count_by (λ row. is_total row.outcome) rows.now }
     ensures nones { result.nones ≡ count_by (λ row. is_lacking row.outcome) rows.now }
     ensures thins { result.thins ≡ count_by (λ row. is_thin row.outcome) rows.now }
+    ensures opens { result.opens ≡ count_by (λ row. is_running row.outcome) rows.now }
 {
     let mut counts = OutcomeCounts {
         totals: 0,
         nones: 0,
         thins: 0,
+        opens: 0,
     };
     for row in rows {
         match row.outcome {
             RowOutcome::Total(_) => counts.totals += 1,
             RowOutcome::Lacking => counts.nones += 1,
             RowOutcome::Thin => counts.thins += 1,
-            RowOutcome::Running => {}
+            RowOutcome::Running => counts.opens += 1,
         }
     }
     counts

@@ -11,4 +11,4 @@ mod writing;
 pub use book::{report, rows_of, summary};
 pub use reading::read_report;
 pub use row::{Report, ReportError, ReportRow, RowOutcome};
-pub use writing::row_text;
+pub use writing::{counts_line, row_text, rows_text};

@@ -1,12 +1,12 @@
 //! Reports and summaries as text.
-ghost use Rattle.std.specs.Prelude.{◌≡◌, ◌++◌, ◌∷◌, [], decimal, IfOk, OnOk};
+ghost use Rattle.std.specs.Prelude.{◌≡◌, ◌++◌, ◌∷◌, [], codes, decimal, IfOk, OnOk};
 ghost use Rattle.field_texts.specs.Sets.{numbers_text};
 ghost use Rattle.transcript_text.specs.Spelling.{joined};
-ghost use Rattle.totals_report.specs.Texts.{outcome_word, total_text, row_line, rows_text};
+ghost use Rattle.totals_report.specs.Texts.{outcome_word, total_text, row_line, rows_text, counts_text};
 ghost use Rattle.totals_report.specs.Counts.{summary_of};
 ghost use Rattle.totals_report.specs.Reports.{summary_text};
 
-use crate::counts::Counts;
+use crate::counts::{Counts, count_outcomes};
 use crate::row::{HEADING, ReportRow, RowOutcome};
 use field_texts::{put_number, put_set};
 use group_plan::Name;
@@ -67,9 +67,9 @@ pub fn row_text(alloc: Global, row: &ReportRow) -> Result<Vec<u8>, AllocError>
     Ok(text)
 }
 
-// The text of a report with these rows.
+/// The text of a report with these rows.
 #[tactic(auto, unfolding(crate::specs::Texts::lines_text))]
-pub(crate) fn rows_text(alloc: Global, rows: &[ReportRow]) -> Result<Vec<u8>, AllocError>
+pub fn rows_text(alloc: Global, rows: &[ReportRow]) -> Result<Vec<u8>, AllocError>
     ensures { IfOk result (λ text. text.items ≡ rows_text rows.now) }
 {
     let mut text = Vec::from_slice(alloc, HEADING)?;
@@ -89,18 +89,56 @@ fn put_count(out: &mut Vec<u8>, name: &[u8], count: u64) -> Result<(), AllocErro
     put_number(out, count)
 }
 
+// How many rounds there are, and how many have a total, none, or too few survivors.
+fn put_outcomes(
+    out: &mut Vec<u8>,
+    rounds: u64,
+    totals: u64,
+    nones: u64,
+    thins: u64,
+) -> Result<(), AllocError>
+    ensures { OnOk result (out.new.items ≡ out.old.items ++ ((codes "rounds=" ++ decimal rounds) ++ (codes " totals=" ++ decimal totals) ++ (codes " none=" ++ decimal nones) ++ (codes " thin=" ++ decimal thins))) }
+{
+    put_count(out, b"rounds=", rounds)?;
+    put_count(out, b" totals=", totals)?;
+    put_count(out, b" none=", nones)?;
+    put_count(out, b" thin=", thins)
+}
+
 // The line of the summary with these counts.
 #[tactic(auto, unfolding(crate::specs::Reports::summary_text))]
 pub(crate) fn summary_line(alloc: Global, counts: &Counts) -> Result<Vec<u8>, AllocError>
     ensures { IfOk result (λ text. text.items ≡ summary_text (summary_of counts.now)) }
 {
     let mut text = Vec::new(alloc);
-    put_count(&mut text, b"rounds=", counts.rounds)?;
-    put_count(&mut text, b" totals=", counts.totals)?;
-    put_count(&mut text, b" none=", counts.nones)?;
-    put_count(&mut text, b" thin=", counts.thins)?;
+    put_outcomes(
+        &mut text,
+        counts.rounds,
+        counts.totals,
+        counts.nones,
+        counts.thins,
+    )?;
     put_count(&mut text, b" sends=", counts.sends)?;
     put_count(&mut text, b" takes=", counts.takes)?;
+    text.extend_from_slice(b"\n")?;
+    Ok(text)
+}
+
+/// The line that says how many rows there are and how many of each outcome, with its newline.
+#[tactic(auto, unfolding(crate::specs::Texts::counts_text))]
+pub fn counts_line(alloc: Global, rows: &[ReportRow]) -> Result<Vec<u8>, AllocError>
+    ensures { IfOk result (λ text. text.items ≡ counts_text rows.now) }
+{
+    let counts = count_outcomes(rows);
+    let mut text = Vec::new(alloc);
+    put_outcomes(
+        &mut text,
+        rows.len() as u64,
+        counts.totals,
+        counts.nones,
+        counts.thins,
+    )?;
+    put_count(&mut text, b" open=", counts.opens)?;
     text.extend_from_slice(b"\n")?;
     Ok(text)
 }
