@@ -6,10 +6,13 @@ pub mod ConverseLemmas
 pub mod NeighbourLemmas
 pub mod RowLemmas
 pub mod RoundLemmas
+pub mod OutsideLemmas
+pub mod StretchLemmas
 pub mod OrderLemmas
 pub mod OpenedLemmas
 pub mod SumLemmas
 pub mod TreeLoops
+pub mod RankLemmas
 pub mod DeltaLemmas
 pub mod MoveLemmas
 pub mod RingEnds

@@ -1,8 +1,8 @@
 -- The loops over the survivors of a round.
-use Rattle.std.proofs.Common.{◌≡◌, ℕ, zero, suc, ◌+◌, ◌<◌, ◌≤◌, ◌⊎◌, inl, inr, Bool, true, false, not, ◌&&◌, ◌||◌, List, [], ◌∷◌, ◌++◌, length, map, get_or, set, replicate, refl, sym, ap, ◌∙◌, subst, arith, ⊎_elim, zero-add}
+use Rattle.std.proofs.Common.{◌≡◌, ℕ, zero, suc, ◌+◌, ◌<◌, ◌≤◌, ◌⊎◌, inl, inr, Bool, true, false, cond, not, ◌&&◌, ◌||◌, List, [], ◌∷◌, ◌++◌, length, map, get_or, set, replicate, refl, sym, ap, ◌∙◌, subst, arith, ⊎_elim, zero-add}
 use Rattle.std.specs.Prelude.{◌==◌, nat_lt, slice_index_or, if◌then◌else◌}
 use Rattle.std.specs.List.{filter, list_all, range_with_len}
-use Rattle.std.proofs.lemmas.Bool.{cases_eq, ne_eqb, and_parts, ltb-true, both_ways}
+use Rattle.std.proofs.lemmas.Bool.{cases_eq, ne_eqb, and_parts, lt-ltb, ltb-true, both_ways}
 use Rattle.std.proofs.lemmas.List.{get_or-map, get_or-set_same, get_or-set_other, get_or-replicate, length-map, length-set, length-replicate, map_push}
 use Rattle.std.proofs.lemmas.List.FromFn.{length-range_with_len, get_or-range_with_len}
 use Rattle.missing_round.specs.Words.{group}
@@ -15,7 +15,7 @@ use Rattle.sparse_masks.specs.declared.round.Round.{Round}
 use Rattle.sparse_masks.specs.Trees.{widened, around, component}
 use Rattle.sparse_masks.specs.Rounds.{graph_of, IsRingRound, AreComponents}
 use Rattle.sparse_masks.proofs.ReachLemmas.{IsSymmetric, around-members, component-same, component-self}
-use Rattle.sparse_masks.proofs.ForestLemmas.{outside-component}
+use Rattle.sparse_masks.proofs.ForestLemmas.{all_pass, outside-component}
 use Rattle.sparse_masks.proofs.ConverseLemmas.{all-member}
 use Rattle.sparse_masks.proofs.RowLemmas.{Sifted, sift_begins, sift_keeps, sift_drops}
 use Rattle.sparse_masks.proofs.WorldLemmas.{neighbours-back}
@@ -31,6 +31,15 @@ alone-is m xs = less-filter (λ j. not (j == m)) xs ∙ same_filter (λ j. not (
 
 pub all-next : (p : ℕ → Bool) (left rest : List ℕ) (x : ℕ) → left ≡ x ∷ rest → list_all p left ≡ true → (p x ≡ true) × (list_all p rest ≡ true)
 all-next p left rest x is all = and_parts (p x) (list_all p rest) (sym (ap (list_all p) is) ∙ all)
+
+-- none is left without those that pass a test where all pass it
+pub none-left : (p : ℕ → Bool) (xs : List ℕ) → (length (filter (λ i. not (p i)) xs) == 0) ≡ list_all p xs
+none-left p [] = refl
+none-left p (x ∷ xs) = step (p x) (none-left p xs)
+  where
+    step : (b : Bool) → (length (filter (λ i. not (p i)) xs) == 0) ≡ list_all p xs → (length (cond (not b) (x ∷ filter (λ i. not (p i)) xs) (filter (λ i. not (p i)) xs)) == 0) ≡ (b && list_all p xs)
+    step true e = e
+    step false e = ne_eqb (suc (length (filter (λ i. not (p i)) xs))) 0 (λ none. omega (arith, none))
 
 -- ---- a table by meter
 
@@ -49,47 +58,48 @@ table_more f n sets is =
     let e : suc n ≡ n + 1 = omega arith in
     ap (λ l. l ++ f n ∷ []) is ∙ sym (map_push f (range_with_len 0 n) n) ∙ ap (map f) (sym (range_last 0 n n (omega arith))) ∙ ap (λ k. map f (range_with_len 0 k)) e
 
--- ---- a set put in the place of each of its meters
+-- ---- a value put in the place of each of some meters
 
-pub record Put (kept : List ℕ) (old now : List (List ℕ)) (left : List ℕ) : Type 0 where
+pub record Put (X : Type 0) (value none : X) (meters : List ℕ) (old now : List X) (left : List ℕ) : Type 0 where
   pub long : length now ≡ length old
   pub below : list_all (λ i. nat_lt i (length old)) left ≡ true
-  pub each : (i : ℕ) → (if is_member i left then kept else slice_index_or now i []) ≡ (if is_member i kept then kept else slice_index_or old i [])
+  pub each : (i : ℕ) → (if is_member i left then value else slice_index_or now i none) ≡ (if is_member i meters then value else slice_index_or old i none)
 
-pub put_begins : (kept left : List ℕ) (old : List (List ℕ)) → left ≡ kept → list_all (λ i. nat_lt i (length old)) kept ≡ true → Put kept old old left
-put_begins kept left old is below = subst (Put kept old old) (sym is) (record { long = refl; below = below; each = λ i. refl })
+pub put_begins : (X : Type 0) (value none : X) (meters left : List ℕ) (old : List X) → left ≡ meters → list_all (λ i. nat_lt i (length old)) meters ≡ true → Put X value none meters old old left
+put_begins X value none meters left old is below = subst (Put X value none meters old old) (sym is) (record { long = refl; below = below; each = λ i. refl })
 
-pub put_within : (kept : List ℕ) (old now : List (List ℕ)) (left rest : List ℕ) (x : ℕ) → left ≡ x ∷ rest → Put kept old now left → x < length now
-put_within kept old now left rest x is before =
+pub put_within : (X : Type 0) (value none : X) (meters : List ℕ) (old now : List X) (left rest : List ℕ) (x : ℕ) → left ≡ x ∷ rest → Put X value none meters old now left → x < length now
+put_within X value none meters old now left rest x is before =
     let here = (all-next (λ i. nat_lt i (length old)) left rest x is before.below).0 in
     let lt : x < length old = ltb-true x (length old) here in
     omega (arith, lt, before.long)
 
-pub put_next : (kept : List ℕ) (old now : List (List ℕ)) (left rest : List ℕ) (x : ℕ) → left ≡ x ∷ rest → Put kept old now left → Put kept old (set now x kept) rest
-put_next kept old now left rest x is before =
-    let lt : x < length now = put_within kept old now left rest x is before in
+pub put_next : (X : Type 0) (value none : X) (meters : List ℕ) (old now : List X) (left rest : List ℕ) (x : ℕ) → left ≡ x ∷ rest → Put X value none meters old now left
+    → Put X value none meters old (set now x value) rest
+put_next X value none meters old now left rest x is before =
+    let lt : x < length now = put_within X value none meters old now left rest x is before in
     record {
-      long = length-set now x kept ∙ before.long;
+      long = length-set now x value ∙ before.long;
       below = (all-next (λ i. nat_lt i (length old)) left rest x is before.below).1;
       each = λ i.
           ⊎_elim
           (λ e.
-          ap (λ k. if is_member k rest then kept else slice_index_or (set now x kept) k []) (sym e)
-          ∙ ap (λ s. if is_member x rest then kept else s) (get_or-set_same now x kept [] lt)
+          ap (λ k. if is_member k rest then value else slice_index_or (set now x value) k none) (sym e)
+          ∙ ap (λ s. if is_member x rest then value else s) (get_or-set_same now x value none lt)
           ∙ same (is_member x rest)
-          ∙ sym (ap (λ b. if b then kept else slice_index_or now x []) (member_head x rest))
-          ∙ ap (λ k. if is_member k (x ∷ rest) then kept else slice_index_or now k []) e
-          ∙ ap (λ l. if is_member i l then kept else slice_index_or now i []) (sym is)
+          ∙ sym (ap (λ b. if b then value else slice_index_or now x none) (member_head x rest))
+          ∙ ap (λ k. if is_member k (x ∷ rest) then value else slice_index_or now k none) e
+          ∙ ap (λ l. if is_member i l then value else slice_index_or now i none) (sym is)
           ∙ before.each i)
           (λ ne.
-          ap (λ s. if is_member i rest then kept else s) (get_or-set_other now x i kept [] (λ e. ne (sym e)))
-          ∙ ap (λ b. if b || is_member i rest then kept else slice_index_or now i []) (sym (ne_eqb x i ne))
-          ∙ ap (λ l. if is_member i l then kept else slice_index_or now i []) (sym is)
+          ap (λ s. if is_member i rest then value else s) (get_or-set_other now x i value none (λ e. ne (sym e)))
+          ∙ ap (λ b. if b || is_member i rest then value else slice_index_or now i none) (sym (ne_eqb x i ne))
+          ∙ ap (λ l. if is_member i l then value else slice_index_or now i none) (sym is)
           ∙ before.each i)
           (cases_eq x i);
     }
   where
-    same : (b : Bool) → (if b then kept else kept) ≡ kept
+    same : (b : Bool) → (if b then value else value) ≡ value
     same true = refl
     same false = refl
 
@@ -202,16 +212,12 @@ filled_ends r sets left none is = (is.long, λ i lt. step i lt (is_member i r.su
     step i lt true e = is.done i e (ap (is_member i) none)
     step i lt false e = ⊎_elim (λ empty. empty ∙ sym (outside-component (graph_of r) i e)) (λ all. all) (is.each i lt)
 
--- the members of a component are below the group's size
+-- some of the survivors are below the group's size
+pub members-below : (r : Round) → IsRingRound r → (n : ℕ) (xs : List ℕ) → n ≡ r.meters → ((i : ℕ) → is_member i xs ≡ true → is_member i r.survivors ≡ true) → list_all (λ i. nat_lt i n) xs ≡ true
+members-below r ok n xs is within = all_pass (λ i. nat_lt i n) xs (λ i h. let low = survivor-below r ok i (within i h) in lt-ltb i n (omega (arith, low, is)))
+
 pub component-below : (r : Round) → IsRingRound r → (n x : ℕ) → n ≡ r.meters → list_all (λ i. nat_lt i n) (component (graph_of r) x) ≡ true
-component-below r ok n x is =
-    ap (λ k. list_all (λ i. nat_lt i k) (component (graph_of r) x)) is
-    ∙ all_from (λ i. nat_lt i r.meters) (component (graph_of r) x)
-    (λ i h. all-member (λ k. nat_lt k r.meters) r.survivors ok.within i (around-members (graph_of r) x (length r.survivors) i h))
-  where
-    all_from : (p : ℕ → Bool) (xs : List ℕ) → ((i : ℕ) → is_member i xs ≡ true → p i ≡ true) → list_all p xs ≡ true
-    all_from p [] h = refl
-    all_from p (x ∷ xs) h = ap (λ b. b && list_all p xs) (h x (member_head x xs)) ∙ all_from p xs (λ i within. h i (member_later i x xs within))
+component-below r ok n x is = members-below r ok n (component (graph_of r) x) is (around-members (graph_of r) x (length r.survivors))
 
 pub filled_within : (r : Round) → IsRingRound r → (sets : List (List ℕ)) (left rest : List ℕ) (x : ℕ) → left ≡ x ∷ rest → Filled r sets left → x < length sets
 filled_within r ok sets left rest x is before =

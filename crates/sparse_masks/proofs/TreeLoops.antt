@@ -1,19 +1,18 @@
 -- The loops that find the tree of a component.
-use Rattle.std.proofs.Common.{◌≡◌, ℕ, suc, ◌+◌, ◌-◌, ◌<◌, ◌≤◌, Bool, true, false, cond, not, ◌||◌, List, [], ◌∷◌, ◌++◌, length, refl, sym, ap, ◌∙◌, arith, ⊎_elim}
+use Rattle.std.proofs.Common.{◌≡◌, ℕ, suc, ◌+◌, ◌-◌, ◌<◌, ◌≤◌, Bool, true, false, cond, not, ◌||◌, List, [], ◌∷◌, length, refl, sym, ap, ◌∙◌, arith}
 use Rattle.std.specs.Prelude.{◌==◌, Option, Some, None, unwrap_or, slice_get, slice_index_or}
 use Rattle.std.specs.List.{filter, find}
-use Rattle.std.proofs.lemmas.Bool.{cases_eq, eq-eqb, ne_eqb}
+use Rattle.std.proofs.lemmas.Bool.{eq-eqb, ne_eqb}
 use Rattle.std.proofs.lemmas.Option.{unwrap_or-slice_get}
-use Rattle.std.proofs.lemmas.List.{get_or_append_left, get_or_push, length_push}
 use Rattle.missing_round.specs.Sets.{is_member, less}
 use Rattle.mask_graphs.specs.Graphs.{Graph}
 use Rattle.mask_graphs.proofs.ListFacts.{member_head, member_later}
 use Rattle.sparse_masks.specs.declared.round.Round.{Round}
-use Rattle.sparse_masks.specs.Trees.{joined_to, are_joined, around, component, root, steps_between, parent, holds_for, passes}
+use Rattle.sparse_masks.specs.Trees.{joined_to, are_joined, component, root, steps_between, parent, holds_for, passes}
 use Rattle.sparse_masks.specs.Rounds.{graph_of, IsRingRound}
-use Rattle.sparse_masks.specs.TreeParts.{IsRank, AreRanks}
+use Rattle.sparse_masks.specs.TreeParts.{AreRanks}
 use Rattle.sparse_masks.proofs.ReachLemmas.{IsSymmetric, component-closed, component-self, joined-back, of_filter}
-use Rattle.sparse_masks.proofs.ForestLemmas.{root_in, root-same, steps-are, stranger_alone, parent-is}
+use Rattle.sparse_masks.proofs.ForestLemmas.{root_in, root-same, stranger_alone, parent-is}
 use Rattle.sparse_masks.proofs.RoundLemmas.{survivor-below}
 use Rattle.sparse_masks.proofs.WorldLemmas.{neighbours-back}
 
@@ -32,46 +31,6 @@ root-is b c d least r least_is r_is =
     r_is
     ∙ ap (λ o. unwrap_or o least) (sym (find-first (λ j. not (is_member j b)) c))
     ∙ ap (unwrap_or (find (λ j. not (is_member j b)) c)) (least_is ∙ unwrap_or-slice_get c 0 d)
-
--- ---- steps
-
--- k steps were walked from a meter, and the other one wasn't reached
-pub record Walked (graph : Graph) (from to k : ℕ) (reached : List ℕ) : Type 0 where
-  pub is : reached ≡ around graph from k
-  pub before : (l : ℕ) → l < k → is_member to (around graph from l) ≡ false
-
-pub walk_begins : (graph : Graph) (from to : ℕ) (reached : List ℕ) → reached ≡ around graph from 0 → Walked graph from to 0 reached
-walk_begins graph from to reached e = record { is = e; before = λ l lt. absurd (omega (arith, lt)) }
-
-pub walk_goes_on : (graph : Graph) (from to k : ℕ) (reached next : List ℕ) → is_member to reached ≡ false → next ≡ around graph from (suc k) → Walked graph from to k reached → Walked graph from to (k + 1) next
-walk_goes_on graph from to k reached next out e w =
-    let more : suc k ≡ k + 1 = omega arith in
-    record {
-      is = e ∙ ap (around graph from) more;
-      before = λ l lt. ⊎_elim
-          (λ same. ap (λ n. is_member to (around graph from n)) same ∙ ap (is_member to) (sym w.is) ∙ out)
-          (λ ne. w.before l (omega (arith, lt, ne)))
-          (cases_eq l k);
-    }
-
-pub walk_ends : (graph : Graph) (from to k : ℕ) (reached : List ℕ) → k ≤ length graph.members → is_member to (around graph from k) ≡ true → Walked graph from to k reached → k ≡ steps_between graph from to
-walk_ends graph from to k reached few within w = sym (steps-are graph from to (record { steps = k; few = few; within = within; before = w.before }))
-
--- ---- ranks
-
-pub ranks_none : (r : Round) (ranks : List ℕ) → ranks ≡ [] → AreRanks r 0 ranks
-ranks_none r ranks none = record { long = ap length none; each = λ i lt. absurd (omega (arith, lt)) }
-
-pub ranks_more : (r : Round) (n rank : ℕ) (ranks new : List ℕ) → new ≡ ranks ++ rank ∷ [] → IsRank r n rank → AreRanks r n ranks → AreRanks r (n + 1) new
-ranks_more r n rank ranks new is here before = record {
-  long = ap length is ∙ length_push ranks rank ∙ ap (λ k. k + 1) before.long;
-  each = λ i lt. ⊎_elim
-      (λ e within. ap (λ (l : List ℕ). slice_index_or l i 0) is ∙ get_or_push ranks rank 0 i (before.long ∙ sym e)
-      ∙ here (ap (λ k. is_member k r.survivors) (sym e) ∙ within)
-      ∙ ap (λ k. steps_between (graph_of r) (root (graph_of r) k) k) (sym e))
-      (λ ne within. ap (λ (l : List ℕ). slice_index_or l i 0) is ∙ get_or_append_left ranks (rank ∷ []) 0 i (let long = before.long in omega (arith, lt, ne, long)) ∙ before.each i (omega (arith, lt, ne)) within)
-      (cases_eq i n);
-}
 
 -- ---- parents
 

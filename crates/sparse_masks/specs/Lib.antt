@@ -8,3 +8,4 @@ pub mod OffsetEnds
 pub mod SideParts
 pub mod TreeParts
 pub mod Rows
+pub mod Stretches

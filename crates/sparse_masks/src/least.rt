@@ -70,8 +70,7 @@ fn round_fewest(
         Some(ring) => ring,
         None => return Ok(fewest),
     };
-    let joined = ring.all_joined(alloc)?;
-    let components = ring.components(alloc, &joined)?;
+    let components = ring.components(alloc)?;
     Ok(ring.fewest(&components, fewest))
 }
 

@@ -10,6 +10,7 @@ mod offsets;
 mod ring;
 mod round;
 mod sides;
+mod stretch;
 mod trees;
 
 pub use least::{least_of_book, least_opened};

@@ -166,7 +166,7 @@ impl<'a> Sides<'a> {
     {
         let deltas = self.deltas(alloc)?;
         let joined = ring.all_joined(alloc)?;
-        let components = ring.components(alloc, &joined)?;
+        let components = ring.components(alloc)?;
         let parents = ring.parents(alloc, &joined, &components)?;
         self.add_owns(ring, &components, &deltas, moves)?;
         self.add_pairs(ring, &parents, &deltas, moves)

@@ -2,7 +2,7 @@
 ghost use Rattle.std.specs.Prelude.{◌≡◌, ◌<◌, ◌||◌, ℕ, nat_lt, true, [], IsTrue, IfOk, length, replicate, slice_index_or, if◌then◌else◌};
 ghost use Rattle.std.specs.List.{list_all, list_any};
 ghost use Rattle.missing_round.specs.Sets.{is_member};
-ghost use Rattle.sparse_masks.specs.Trees.{joined_to, touches, widened, around, component};
+ghost use Rattle.sparse_masks.specs.Trees.{joined_to, touches, widened, around};
 ghost use Rattle.group_book.specs.Books.{shape_of, past, has_round};
 ghost use Rattle.sparse_masks.specs.Rounds.{graph_of, IsRingRound, AreJoined, AreComponents, RoundEnds};
 
@@ -74,12 +74,7 @@ impl Round {
     pub(crate) fn is_opened(&self, component: MeterSet) -> bool
         ensures { result ≡ list_all (graph_of self.now).answered component }
     {
-        for meter in component.members() {
-            if !self.answered.has(meter) {
-                return false;
-            }
-        }
-        true
+        component.minus(self.answered).len() == 0
     }
 
     // The survivors with which a meter is joined.
@@ -132,50 +127,26 @@ impl Round {
         self.survivors.minus(self.survivors.without(meter))
     }
 
-    // The component of a meter.
-    fn component(&self, joined: &[MeterSet], meter: u8) -> MeterSet
-        requires round { IsRingRound self.now }
-        requires joined { AreJoined self.now joined.now }
-        ensures { result ≡ component (graph_of self.now) meter }
-    {
-        let mut set = self.alone(meter);
-        for _step in 0..self.survivors.len() {
-            let wider = self.widened(joined, set);
-            if wider == set {
-                return set;
-            }
-            set = wider;
-        }
-        set
-    }
-
     // Puts in the place of each meter its component.
-    fn fill(&self, joined: &[MeterSet], sets: &mut [MeterSet])
+    fn fill(&self, sets: &mut [MeterSet])
         requires round { IsRingRound self.now }
-        requires joined { AreJoined self.now joined.now }
         requires none { sets.old ≡ replicate self.now.meters [] }
         ensures { AreComponents self.now sets.new }
     {
         for meter in self.survivors.members() {
             if sets[meter as usize].len() == 0 {
-                let component = self.component(joined, meter);
-                put_each(component, sets);
+                put_each(self.component(meter), sets);
             }
         }
     }
 
     /// By meter, its component.
-    pub(crate) fn components(
-        &self,
-        alloc: Global,
-        joined: &[MeterSet],
-    ) -> Result<Vec<MeterSet>, AllocError>
-        requires round { IsRingRound self.now }
-        requires joined { AreJoined self.now joined.now }
+    pub(crate) fn components(&self, alloc: Global) -> Result<Vec<MeterSet>, AllocError>
+        requires { IsRingRound self.now }
         ensures { IfOk result (λ sets. AreComponents self.now sets.items) }
     {
         let mut sets = no_sets(alloc, self.meters as usize)?;
-        self.fill(joined, sets.as_mut_slice());
+        self.fill(sets.as_mut_slice());
         Ok(sets)
     }
 }

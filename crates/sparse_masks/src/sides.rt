@@ -78,8 +78,7 @@ impl<'a> Sides<'a> {
             Some(ring) => ring,
             None => return Ok(()),
         };
-        let joined = ring.all_joined(alloc)?;
-        let components = ring.components(alloc, &joined)?;
+        let components = ring.components(alloc)?;
         self.check_ring(&ring, &components)
     }
 }

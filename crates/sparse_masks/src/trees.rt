@@ -1,16 +1,27 @@
 //! The tree of each component of a round, and how the words of its masks move along it.
-ghost use Rattle.std.specs.Prelude.{◌≡◌, ◌<◌, nat_lt, true, IfOk, length, sum_by, if◌then◌else◌};
+ghost use Rattle.std.specs.Prelude.{ℕ, ◌≡◌, ◌<◌, nat_lt, true, IfOk, length, sum_by, slice_index_or, if◌then◌else◌};
 ghost use Rattle.std.specs.List.{filter, list_all};
 ghost use Rattle.missing_round.specs.Words.{word};
 ghost use Rattle.missing_round.specs.Sets.{is_member};
 ghost use Rattle.mask_graphs.specs.Moves.{load};
 ghost use Rattle.sparse_masks.specs.Trees.{joined_to, component, root, steps_between, parent, is_one, passes, gathered, tree_own_move, tree_pair_move};
 ghost use Rattle.sparse_masks.specs.Rounds.{graph_of, IsRingRound, AreJoined, AreComponents};
-ghost use Rattle.sparse_masks.specs.TreeParts.{delta_in, IsRank, AreRanks, AreParents};
+ghost use Rattle.sparse_masks.specs.TreeParts.{delta_in, AreRanks, AreParents};
 
 use crate::round::Round;
 use missing_round::MeterSet;
 use std::alloc::{AllocError, Global};
+
+// Puts so many steps in the place of each of these meters.
+fn put_steps(steps: u16, meters: MeterSet, ranks: &mut [u16])
+    requires { list_all (λ i. nat_lt i (length ranks.old)) meters ≡ true }
+    ensures long { length ranks.new ≡ length ranks.old }
+    ensures each { (i : ℕ) → slice_index_or ranks.new i 0 ≡ (if is_member i meters then steps else slice_index_or ranks.old i 0) }
+{
+    for meter in meters.members() {
+        ranks[meter as usize] = steps;
+    }
+}
 
 impl Round {
     // The root of the component of a meter, which has these members.
@@ -23,37 +34,42 @@ impl Round {
         silent.nth(0).unwrap_or(least)
     }
 
-    // How many steps it is from a meter to another one of its component.
-    fn steps(&self, joined: &[MeterSet], from: u8, to: u8) -> u16
+    // Puts in the place of each meter of a component how many steps it is from this one of them to it.
+    fn put_ranks(&self, joined: &[MeterSet], from: u8, ranks: &mut [u16])
         requires round { IsRingRound self.now }
         requires joined { AreJoined self.now joined.now }
-        requires reached { is_member to (component (graph_of self.now) from) ≡ true }
-        ensures { result ≡ steps_between (graph_of self.now) from to }
+        requires long { length ranks.old ≡ self.now.meters }
+        ensures long { length ranks.new ≡ length ranks.old }
+        ensures each { (i : ℕ) → slice_index_or ranks.new i 0 ≡ (if is_member i (component (graph_of self.now) from) then steps_between (graph_of self.now) from i else slice_index_or ranks.old i 0) }
     {
-        let mut set = self.alone(from);
+        let mut reached = self.alone(from);
+        put_steps(0, reached, ranks);
         for steps in 0..self.survivors.len() {
-            if set.has(to) {
-                return steps;
+            let wider = self.widened(joined, reached);
+            if wider == reached {
+                return;
             }
-            set = self.widened(joined, set);
+            put_steps(steps + 1, wider.minus(reached), ranks);
+            reached = wider;
         }
-        self.survivors.len()
     }
 
-    // How many steps it is from its root to a survivor, and 0 for another meter.
-    fn rank(&self, joined: &[MeterSet], members: MeterSet, meter: u8) -> u16
+    // Puts in the place of each survivor how many steps it is from its root to it.
+    fn fill_ranks(&self, joined: &[MeterSet], components: &[MeterSet], ranks: &mut [u16])
         requires round { IsRingRound self.now }
         requires joined { AreJoined self.now joined.now }
-        requires members { members ≡ component (graph_of self.now) meter }
-        ensures { IsRank self.now meter result }
+        requires components { AreComponents self.now components.now }
+        requires long { length ranks.old ≡ self.now.meters }
+        ensures { AreRanks self.now self.now.meters ranks.new }
     {
-        if !self.survivors.has(meter) {
-            return 0;
+        for meter in self.survivors.members() {
+            if self.root(components[meter as usize], meter) == meter {
+                self.put_ranks(joined, meter, ranks);
+            }
         }
-        self.steps(joined, self.root(members, meter), meter)
     }
 
-    // The same, by meter.
+    // By meter, how many steps it is from its root to it, where it is a survivor.
     fn ranks(
         &self,
         alloc: Global,
@@ -65,11 +81,8 @@ impl Round {
         requires components { AreComponents self.now components.now }
         ensures { IfOk result (λ ranks. AreRanks self.now self.now.meters ranks.items) }
     {
-        let mut ranks = Vec::new(alloc);
-        for meter in 0..self.meters {
-            let rank = self.rank(joined, components[meter as usize], meter as u8);
-            ranks.push(rank)?;
-        }
+        let mut ranks = vec![in alloc; 0; self.meters as usize]?;
+        self.fill_ranks(joined, components, ranks.as_mut_slice());
         Ok(ranks)
     }
 

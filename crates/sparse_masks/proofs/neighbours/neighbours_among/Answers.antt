@@ -1,14 +1,9 @@
-use Rattle.std.proofs.Common.{refl, sym, ◌∙◌}
-use Rattle.sparse_masks.specs.Neighbours.{are_neighbours}
-use Rattle.sparse_masks.proofs.RowLemmas.{sift_begins, sift_drops}
+use Rattle.sparse_masks.proofs.OutsideLemmas.{near-from}
 use Rattle.sparse_masks.proofs.neighbours.neighbours_among.Goals as goal
 
-pub loop-other-init : goal.loop-other-init
-loop-other-init c =
-    sift_begins (are_neighbours c.args.width c.args.meters c.args.meter) c.args.others.now c.into_iter-other-iterator.result c.args.others.now
-    (c.into_iter-other-iterator.ensures.into_iter_gives ∙ c.members-other-items.ensures.members) refl c.members-other-items.ensures.set
-
-pub loop-other-preserved-then-not-are_neighbours : goal.loop-other-preserved-then-not-are_neighbours
-loop-other-preserved-then-not-are_neighbours c =
-    sift_drops (are_neighbours c.args.width c.args.meters c.args.meter) c.args.others.now c.loop-other.other-iterator c.next.new.self c.loop-other.near c.without-near.result c.in-Some.other
-    c.in-Some.ensures.steps (sym c.are_neighbours.ensures ∙ c.if-not-are_neighbours.true) c.without-near.ensures c.loop-other.invariant
+pub returns-clause-neighbours : goal.returns-clause-neighbours
+returns-clause-neighbours c =
+    near-from c.args.width c.args.meters c.args.meter c.from-at.result c.from-width.result c.saturating_sub-around.result c.saturating_add.result c.saturating_sub.result c.saturating_sub-2.result
+    c.args.others.now c.outside-above.result c.outside-near.result c.without.result c.outside-above.ensures.set
+    c.from-at.ensures c.from-width.ensures c.saturating_sub-around.ensures c.saturating_add.ensures c.saturating_sub.ensures c.saturating_sub-2.ensures
+    c.outside-above.ensures.outside c.outside-near.ensures.outside c.without.ensures

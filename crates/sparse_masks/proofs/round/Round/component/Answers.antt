@@ -1,24 +1,12 @@
-use Rattle.std.proofs.Common.{◌≡◌, ◌≤◌, sym, ap, ◌∙◌, arith, length}
-use Rattle.std.proofs.lemmas.Slice.Eq.{bytes_eq-Decides}
-use Rattle.sparse_masks.specs.Trees.{around, widened}
-use Rattle.sparse_masks.specs.Rounds.{graph_of}
-use Rattle.sparse_masks.proofs.RoundLemmas.{settled}
+use Rattle.std.proofs.Common.{◌+◌, ◌-◌, ap}
+use Rattle.sparse_masks.proofs.StretchLemmas.{stretch-is}
 use Rattle.sparse_masks.proofs.round.Round.component.Goals as goal
-
-pub returns-then-eq : goal.returns-then-eq
-returns-then-eq c =
-    let graph = graph_of c.args.self.now in
-    let now = c.loop-step.invariant in
-    let same = (bytes_eq-Decides c.widened-wider.result c.loop-step.set).0 (sym c.eq.ensures ∙ c.if-eq.true) in
-    let long = c.len-step-end.ensures in
-    let test = c.loop-step-test.true in
-    let few : c.loop-step._step ≤ length c.args.self.now.survivors = omega (arith, long, test) in
-    now ∙ sym (settled graph c.args.meter c.loop-step._step (ap (widened graph) (sym now) ∙ sym c.widened-wider.ensures ∙ same ∙ now) (length c.args.self.now.survivors) few)
 
 pub returns : goal.returns
 returns c =
-    let long = c.len-step-end.ensures in
-    let test = c.loop-step-test.false in
-    let few = c.loop-step.auto._step-end in
-    let all : c.loop-step._step ≡ length c.args.self.now.survivors = omega (arith, long, test, few) in
-    c.loop-step.invariant ∙ ap (around (graph_of c.args.self.now) c.args.meter) all
+    let r = c.args.self.now in
+    let up = c.reach.result in
+    let down = c.reach-2.result in
+    stretch-is r c.args.meter up down (c.from.result + up + 1) (c.from-2.result + r.meters - down) c.saturating_sub.result c.saturating_sub-2.result c.outside-rest.result c.outside.result
+    c.requires.round c.requires.survivor c.reach.ensures c.reach-2.ensures (ap (λ k. k + up + 1) c.from.ensures) (ap (λ k. k + r.meters - down) c.from-2.ensures)
+    c.saturating_sub.ensures c.saturating_sub-2.ensures c.outside-rest.ensures.outside c.outside.ensures.outside

@@ -3,6 +3,7 @@ use Rattle.std.specs.Prelude.{nat_lt, slice_index_or, if◌then◌else◌}
 use Rattle.std.specs.List.{list_all}
 use Rattle.std.proofs.lemmas.List.{get_or_default}
 use Rattle.missing_round.specs.Sets.{is_member}
+use Rattle.mask_graphs.proofs.ListFacts.{member_head}
 use Rattle.sparse_masks.proofs.RoundLemmas.{component-below, filled_begins, filled_ends, filled_passes, filled_puts, filled_within}
 use Rattle.sparse_masks.proofs.round.Round.fill.Goals as goal
 
@@ -15,16 +16,20 @@ pub bounds-sets-meter : goal.bounds-sets-meter
 bounds-sets-meter c =
     filled_within c.args.self.now c.requires.round c.loop-meter.sets c.loop-meter.meter-iterator c.next.new.self c.in-Some.meter c.in-Some.ensures.steps c.loop-meter.invariant
 
+pub component-requires-clause-survivor : goal.component-requires-clause-survivor
+component-requires-clause-survivor c =
+    c.loop-meter.invariant.inside c.in-Some.meter (ap (is_member c.in-Some.meter) c.in-Some.ensures.steps ∙ member_head c.in-Some.meter c.next.new.self)
+
 pub put_each-requires : goal.put_each-requires
 put_each-requires c =
-    subst (λ (l : List ℕ). list_all (λ i. nat_lt i (length c.loop-meter.sets)) l ≡ true) (sym c.component-component.ensures)
+    subst (λ (l : List ℕ). list_all (λ i. nat_lt i (length c.loop-meter.sets)) l ≡ true) (sym c.component.ensures)
     (component-below c.args.self.now c.requires.round (length c.loop-meter.sets) c.in-Some.meter c.loop-meter.invariant.long)
 
 pub loop-meter-preserved-then-len-eq0 : goal.loop-meter-preserved-then-len-eq0
 loop-meter-preserved-then-len-eq0 c =
     filled_puts c.args.self.now c.requires.round c.loop-meter.sets c.put_each.new.sets c.loop-meter.meter-iterator c.next.new.self c.in-Some.meter c.in-Some.ensures.steps c.loop-meter.invariant
     c.put_each.ensures.long
-    (λ i. c.put_each.ensures.each i ∙ ap (λ (s : List ℕ). if is_member i s then s else slice_index_or c.loop-meter.sets i []) c.component-component.ensures)
+    (λ i. c.put_each.ensures.each i ∙ ap (λ (s : List ℕ). if is_member i s then s else slice_index_or c.loop-meter.sets i []) c.component.ensures)
 
 pub loop-meter-preserved : goal.loop-meter-preserved
 loop-meter-preserved c =
