@@ -1,7 +1,7 @@
 -- What all groups made of a tick, as it is written down.
 use Rattle.std.proofs.Common.{◌≡◌, ℕ, ◌+◌, ◌<◌, ◌≤◌, List, [], ◌∷◌, ◌++◌, length, map, drop, get_or, refl, sym, ap, ◌∙◌, subst, append_assoc, arith}
 use Rattle.std.specs.Prelude.{Some, Result, Ok, Err, OnOk}
-use Rattle.std.specs.List.{flat_map, All}
+use Rattle.std.specs.List.{flat_map, All, AllZip}
 use Rattle.std.proofs.lemmas.List.{drop_more, map-append}
 use Rattle.std.proofs.lemmas.List.Elements.{All-head, All-tail, All-nil, All-append}
 use Rattle.group_plan.specs.Plans.{PlanView}
@@ -13,7 +13,7 @@ use Rattle.transcript_log.specs.Drafts.{quiet, Begins}
 use Rattle.transcript_log.specs.Events.{lines_of}
 use Rattle.transcript_log.specs.Transcripts.{TranscriptView, FitsLine, last_tick_from}
 use Rattle.tick_run.specs.declared.group_tick.GroupWork.{GroupWork}
-use Rattle.tick_run.specs.ByGroups.{taken_by, closed_by, sent_by}
+use Rattle.tick_run.specs.ByGroups.{taken_by, closed_by, sends_by, sent_by, quiet_then, whole_then, Fated, IsButFates}
 use Rattle.tick_run.specs.GroupRuns.{send_line, sent_with}
 use Rattle.tick_run.specs.Progress.{sending}
 use Rattle.tick_run.specs.Written.{Fits}
@@ -32,14 +32,15 @@ lines_sent t [] fates long = refl
 lines_sent t (f ∷ frames) [] long = absurd (omega arith)
 lines_sent t (f ∷ frames) (fate ∷ fates) long = ap (λ l. send_line f ∷ l) (lines_sent t frames fates (omega arith))
 
-lines_by : (plan : PlanView) (t : ℕ) (works : List GroupWork) → All (Fits plan) works → lines_of (sent_by t works) ≡ flat_map (λ w. w.sent.items) works
-lines_by plan t [] fit = refl
-lines_by plan t (w ∷ works) fit =
+lines_by : (plan : PlanView) (t : ℕ) (works : List GroupWork) → All (Fits plan) works → All Fated works → lines_of (sent_by t works) ≡ sends_by works
+lines_by plan t [] fit fated = refl
+lines_by plan t (w ∷ works) fit fated =
     let here = All-head (Fits plan) w works fit in
+    let met = All-head Fated w works fated in
     let own : List Entry = sent_with t w.frames.items w.fates.items in
     lines_append own (sent_by t works)
-    ∙ ap (λ l. l ++ lines_of (sent_by t works)) (lines_sent t w.frames.items w.fates.items here.fated ∙ sym here.sends)
-    ∙ ap (λ l. w.sent.items ++ l) (lines_by plan t works (All-tail (Fits plan) w works fit))
+    ∙ ap (λ l. l ++ lines_of (sent_by t works)) (lines_sent t w.frames.items w.fates.items met.long ∙ sym here.sends)
+    ∙ ap (λ l. w.sent.items ++ l) (lines_by plan t works (All-tail (Fits plan) w works fit) (All-tail Fated w works fated))
 
 -- ---- the entries of Sends
 
@@ -135,17 +136,53 @@ module _ (t : ℕ) (script : TranscriptView) (works : List GroupWork) (old mid j
 
   -- once they have their entries
   module _ (done : TranscriptView) (made : done ≡ record script { entries = script.entries ++ map (quiet t) (drop (length script.entries) journal) }) where
-    pub done-later : last_tick_from 0 script.entries ≤ t → last_tick_from 0 done.entries ≤ t
-    done-later le =
-        subst (λ (z : TranscriptView). last_tick_from 0 z.entries ≤ t) (sym made) (last_quiet t 0 script.entries (drop (length script.entries) journal) le)
+    pub quiet-script : done ≡ record script { entries = quiet_then t script.entries works }
+    quiet-script =
+        let added : map (quiet t) (drop (length script.entries) journal) ≡ map (quiet t) (taken_by works) ++ map (quiet t) (closed_by works)
+        = ap (map (quiet t)) quiet_beyond ∙ map-append (quiet t) (taken_by works) (closed_by works) in
+        made
+        ∙ ap (λ (es : List Entry). record script { entries = es })
+        (ap (λ (es : List Entry). script.entries ++ es) added ∙ sym (append_assoc script.entries (map (quiet t) (taken_by works)) (map (quiet t) (closed_by works))))
 
-    -- the journal with the Sends has just the lines of all entries
-    pub sent-lines : (last : List Line) → last ≡ journal ++ flat_map (λ w. w.sent.items) works → All (Fits script.plan) works → last ≡ lines_of (done.entries ++ sent_by t works)
-    sent-lines last with_sent fits =
+    -- the journal has the lines of the Sends behind theirs
+    pub quiet-lines : (last : List Line) → last ≡ journal ++ sends_by works → last ≡ lines_of done.entries ++ sends_by works
+    quiet-lines last with_sends =
         let so_far : lines_of done.entries ≡ journal
         = ap (λ (z : TranscriptView). lines_of z.entries) made ∙ lines_append script.entries (map (quiet t) (drop (length script.entries) journal))
         ∙ ap (λ l. lines_of script.entries ++ l) (lines_quiet t (drop (length script.entries) journal) ∙ quiet_beyond) ∙ sym behind in
-        with_sent ∙ ap (λ l. l ++ flat_map (λ w. w.sent.items) works) (sym so_far) ∙ ap (λ l. lines_of done.entries ++ l) (sym (lines_by script.plan t works fits)) ∙ sym (lines_append done.entries (sent_by t works))
+        with_sends ∙ ap (λ l. l ++ sends_by works) (sym so_far)
 
-    pub whole-lines : (last : List Line) (after : TranscriptView) → last ≡ lines_of (done.entries ++ sent_by t works) → after ≡ record done { entries = done.entries ++ sent_by t works } → last ≡ lines_of after.entries
-    whole-lines last after is_all wrote = is_all ∙ sym (ap (λ (z : TranscriptView). lines_of z.entries) wrote)
+-- ---- once the frames have met their fates
+
+-- what does not depend on the fates stays
+flat_same : {X : Type 0} (F : GroupWork → List X) → ((x y : GroupWork) → F (record x { fates = y.fates }) ≡ F x) → (before after : List GroupWork) → AllZip IsButFates before after → flat_map F after ≡ flat_map F before
+flat_same F keeps [] [] same = refl
+flat_same F keeps [] (y ∷ after) same = absurd same
+flat_same F keeps (x ∷ before) [] same = absurd same
+flat_same F keeps (x ∷ before) (y ∷ after) same = ap (λ (w : GroupWork). F w ++ flat_map F after) same.0 ∙ ap (λ l. l ++ flat_map F after) (keeps x y) ∙ ap (λ l. F x ++ l) (flat_same F keeps before after same.1)
+
+quiet_same : (t : ℕ) (entries : List Entry) (before after : List GroupWork) → AllZip IsButFates before after → quiet_then t entries after ≡ quiet_then t entries before
+quiet_same t entries before after same =
+    ap (λ ls. (entries ++ map (quiet t) ls) ++ map (quiet t) (closed_by after)) (flat_same (λ w. w.taken.items) (λ x y. refl) before after same)
+    ∙ ap (λ ls. (entries ++ map (quiet t) (taken_by before)) ++ map (quiet t) ls) (flat_same (λ w. w.closed.items) (λ x y. refl) before after same)
+
+module _ (t : ℕ) (script mid : TranscriptView) (before after : List GroupWork) (made : mid ≡ record script { entries = quiet_then t script.entries before }) where
+  pub made-later : last_tick_from 0 script.entries ≤ t → last_tick_from 0 mid.entries ≤ t
+  made-later le =
+      subst (λ (z : TranscriptView). last_tick_from 0 z.entries ≤ t) (sym made)
+      (last_quiet t 0 (script.entries ++ map (quiet t) (taken_by before)) (closed_by before) (last_quiet t 0 script.entries (taken_by before) le))
+
+  -- the journal has just the lines of all entries
+  pub all-lines : (lines : List Line) → lines ≡ lines_of mid.entries ++ sends_by before → AllZip IsButFates before after → All (Fits mid.plan) after → All Fated after → lines ≡ lines_of (mid.entries ++ sent_by t after)
+  all-lines lines are same fits fated =
+      are ∙ ap (λ l. lines_of mid.entries ++ l) (sym (flat_same (λ w. w.sent.items) (λ x y. refl) before after same) ∙ sym (lines_by mid.plan t after fits fated)) ∙ sym (lines_append mid.entries (sent_by t after))
+
+  -- once the Sends have their entries
+  module _ (done : TranscriptView) (stamped : done ≡ record mid { entries = mid.entries ++ sent_by t after }) where
+    pub whole-script : AllZip IsButFates before after → done ≡ record script { entries = whole_then t script.entries after }
+    whole-script same =
+        stamped ∙ ap (λ (z : TranscriptView). record z { entries = z.entries ++ sent_by t after }) made
+        ∙ ap (λ (es : List Entry). record script { entries = es ++ sent_by t after }) (sym (quiet_same t script.entries before after same))
+
+    pub whole-lines : (lines : List Line) → lines ≡ lines_of (mid.entries ++ sent_by t after) → lines ≡ lines_of done.entries
+    whole-lines lines are = are ∙ sym (ap (λ (z : TranscriptView). lines_of z.entries) stamped)

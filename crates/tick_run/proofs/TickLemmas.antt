@@ -1,6 +1,6 @@
 -- A tick of a run, from the ticks of its groups and the fates that their frames met.
 use Rattle.std.proofs.Common.{◌≡◌, ℕ, zero, suc, ◌+◌, ◌*◌, ◌<◌, ◌≤◌, List, [], ◌∷◌, ◌++◌, length, map, refl, sym, ap, ◌∙◌, subst, append_assoc, append-nil, arith}
-use Rattle.std.specs.Prelude.{Some, Result, Ok, Err, OnOk}
+use Rattle.std.specs.Prelude.{Some}
 use Rattle.std.specs.List.{AllZip, flat_map, range_with_len, All}
 use Rattle.std.proofs.lemmas.List.Elements.{All-head, All-tail, All-weaker, All-nil, All-cons, All-append}
 use Rattle.missing_round.specs.Masks.{Masks}
@@ -77,14 +77,15 @@ sent_all t (w ∷ works) fated =
     let here = All-head Fated w works fated in
     ap (λ l. sent_with t w.frames.items w.fates.items ++ l) (sent_all t works (All-tail Fated w works fated)) ∙ sym (sent_append t w.frames.items w.fates.items (frames_by works) (fates_by works) here.long)
 
-all_fit : (readings : ReadingsView) (m : Masks) (t : ℕ) (entries : List Entry) (a n : ℕ) (works : List GroupWork) → AllTickFrom readings m t entries a n works → All Fated works → All (Fits readings.plan) works
-all_fit readings m t entries a zero [] all fated = All-nil (Fits readings.plan)
-all_fit readings m t entries a zero (w ∷ works) all fated = absurd all
-all_fit readings m t entries a (suc n) [] all fated = absurd all
-all_fit readings m t entries a (suc n) (w ∷ works) all fated =
-    let here = All-head Fated w works fated in
-    All-cons (Fits readings.plan) w works (record { taken = all.0.fit_taken; closed = all.0.fit_closed; frames = all.0.fit_sent; sends = all.0.sends; fated = here.long })
-    (all_fit readings m t entries (a + 1) n works all.1 (All-tail Fated w works fated))
+all_fit : (readings : ReadingsView) (m : Masks) (t : ℕ) (entries : List Entry) (a n : ℕ) (works : List GroupWork) → AllTickFrom readings m t entries a n works → All (Fits readings.plan) works
+all_fit readings m t entries a zero [] all = All-nil (Fits readings.plan)
+all_fit readings m t entries a zero (w ∷ works) all = absurd all
+all_fit readings m t entries a (suc n) [] all = absurd all
+all_fit readings m t entries a (suc n) (w ∷ works) all =
+    All-cons (Fits readings.plan) w works (record { taken = all.0.fit_taken; closed = all.0.fit_closed; frames = all.0.fit_sent; sends = all.0.sends }) (all_fit readings m t entries (a + 1) n works all.1)
+
+pub ticks-fit : (readings : ReadingsView) (m : Masks) (t : ℕ) (entries : List Entry) (plan : PlanView) (works : List GroupWork) → AllTick readings m t entries works → plan ≡ readings.plan → All (Fits plan) works
+ticks-fit readings m t entries plan works ticks is = subst (λ (p : PlanView). All (Fits p) works) (sym is) (all_fit readings m t entries 0 (length readings.plan.groups) works ticks)
 
 -- ---- their lines make no posts
 
@@ -107,16 +108,12 @@ keeps_quiet slots t k xs added lanes posts small phases keeps =
 
 -- ---- the tick
 
-pub on_both : {A E P Q R : Type 0} (r : Result A E) → (P → Q → R) → OnOk r P → OnOk r Q → OnOk r R
-on_both (Ok x) f p q = f p q
-on_both (Err e) f p q = tt
-
 module _ (readings : ReadingsView) (m : Masks) (t : ℕ) (script : TranscriptView) (before after : List GroupWork) (ticks : AllTick readings m t script.entries before) (same : AllZip IsButFates before after) (fated : All Fated after) where
   ticked : AllTick readings m t script.entries after
   ticked = ticks_passed readings m t script.entries 0 (length readings.plan.groups) before after ticks same
 
-  pub all-fit : script.plan ≡ readings.plan → All (Fits script.plan) after
-  all-fit plan = subst (λ (p : PlanView). All (Fits p) after) (sym plan) (all_fit readings m t script.entries 0 (length readings.plan.groups) after ticked fated)
+  pub all-fit : (plan : PlanView) → plan ≡ readings.plan → All (Fits plan) after
+  all-fit plan is = ticks-fit readings m t script.entries plan after ticked is
 
   -- the run stands before the next tick
   pub run-ticked : (run : Running) → run.presence ≡ presence_of readings → script.plan ≡ readings.plan → AreWhole (length readings.plan.groups) t script.entries → run.works.items ≡ after
@@ -135,11 +132,11 @@ module _ (readings : ReadingsView) (m : Masks) (t : ℕ) (script : TranscriptVie
       }
 
   -- the fates are those of the lanes
-  pub fates-ticked : (made : List GroupWork) (done : TranscriptView) (slots lanes hung : List Slot) (posts all : List Post) → after ≡ made → done ≡ record script { entries = whole_then t script.entries after } → KeepsFates slots t script.entries lanes posts
-      → Passes t (frames_by before) lanes hung posts all (fates_by made) → KeptFates slots (t + 1) done.entries hung all
-  fates-ticked made done slots lanes hung posts all same_works is keeps by_lanes =
+  pub fates-ticked : (fates : List (List ℕ)) (done : TranscriptView) (slots lanes hung : List Slot) (posts all : List Post) → fates_by after ≡ fates → done ≡ record script { entries = whole_then t script.entries after } → KeepsFates slots t script.entries lanes posts
+      → Passes t (frames_by before) lanes hung posts all fates → KeptFates slots (t + 1) done.entries hung all
+  fates-ticked fates done slots lanes hung posts all given is keeps by_lanes =
       let n : ℕ = length readings.plan.groups in
-      let passes : Passes t (frames_by before) lanes hung posts all (fates_by after) = subst (λ (ws : List GroupWork). Passes t (frames_by before) lanes hung posts all (fates_by ws)) (sym same_works) by_lanes in
+      let passes : Passes t (frames_by before) lanes hung posts all (fates_by after) = subst (λ (es : List (List ℕ)). Passes t (frames_by before) lanes hung posts all es) (sym given) by_lanes in
       let quiets : List Entry = (script.entries ++ map (quiet t) (taken_by after)) ++ map (quiet t) (closed_by after) in
       let takes : All (λ l. phase (event_of l) ≡ 0) (taken_by after) = all_lines readings m t script.entries (λ l. phase (event_of l) ≡ 0) (λ w. w.taken.items) 0 n after (λ g w tick. tick.takes) ticked in
       let closes : All (λ l. phase (event_of l) ≡ 1) (closed_by after) = all_lines readings m t script.entries (λ l. phase (event_of l) ≡ 1) (λ w. w.closed.items) 0 n after (λ g w tick. tick.closes) ticked in

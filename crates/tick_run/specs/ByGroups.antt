@@ -43,19 +43,25 @@ pub record AreWhole (n t : ℕ) (entries : List Entry) : Type 0 where
   pub of_plan : All (λ e. group_of (event_of e.line) < n) entries
   pub turns : (u : ℕ) → sent_at entries u ≡ flat_map (λ g. sent_at (entries_in g entries) u) (range_with_len 0 n)
 
--- what the groups made of tick t: the lines of their Takes, those of their Closes and Ends, and their Sends with the fates that they met
+-- what the groups made of tick t: the lines of their Takes, those of their Closes and Ends, those of their Sends, and these as entries with the fates that they met
 abbrev pub taken_by : List GroupWork → List Line
 taken_by works = flat_map (λ work. work.taken.items) works
 
 abbrev pub closed_by : List GroupWork → List Line
 closed_by works = flat_map (λ work. work.closed.items) works
 
+abbrev pub sends_by : List GroupWork → List Line
+sends_by works = flat_map (λ work. work.sent.items) works
+
 abbrev pub sent_by : ℕ → List GroupWork → List Entry
 sent_by t works = flat_map (λ work. sent_with t work.frames.items work.fates.items) works
 
--- the entries after it
+-- the entries after its Takes, Closes and Ends, and after all of it
+abbrev pub quiet_then : ℕ → List Entry → List GroupWork → List Entry
+quiet_then t entries works = (entries ++ map (quiet t) (taken_by works)) ++ map (quiet t) (closed_by works)
+
 abbrev pub whole_then : ℕ → List Entry → List GroupWork → List Entry
-whole_then t entries works = ((entries ++ map (quiet t) (taken_by works)) ++ map (quiet t) (closed_by works)) ++ sent_by t works
+whole_then t entries works = quiet_then t entries works ++ sent_by t works
 
 -- ---- the lanes
 
@@ -74,6 +80,12 @@ pub record Passes (t : ℕ) (frames : List Frame) (lanes hung : List Slot) (post
   pub posts_are : all ≡ posts ++ passed t lanes frames
   pub fates_are : fates ≡ fates_met t lanes frames
   pub delays : All (All IsDelay) fates
+
+-- the same, and the fates that they met stand behind those before
+pub record PassesBehind (t : ℕ) (frames : List Frame) (lanes hung : List Slot) (posts all : List Post) (before after : List (List ℕ)) : Type 0 where
+  pub met : List (List ℕ)
+  pub passes : Passes t frames lanes hung posts all met
+  pub behind : after ≡ before ++ met
 
 -- the frames of groups, one after another, and the fates that these met
 abbrev pub frames_by : List GroupWork → List Frame

@@ -9,7 +9,7 @@ ghost use Rattle.plan_meters.specs.Hidden.{IsOfOnePlan};
 ghost use Rattle.tick_run.specs.Progress.{IsDelay};
 ghost use Rattle.tick_run.specs.GroupRuns.{IsGroupAt, CanTick, GroupTicks};
 ghost use Rattle.tick_run.specs.Runs.{IsOfRun};
-ghost use Rattle.tick_run.specs.ByGroups.{AllStand, CanTickAll, AllTick, Passes, frames_by, fates_by, Fated, IsButFates};
+ghost use Rattle.tick_run.specs.ByGroups.{AllStand, CanTickAll, AllTick, Passes, PassesBehind, frames_by, fates_by, Fated, IsButFates};
 
 use crate::context::Context;
 use crate::group_tick::{GroupWork, group_tick};
@@ -107,7 +107,7 @@ fn fate_is(_fate: Fate)
     ensures { All IsDelay _fate }
 {}
 
-/// Passes frames through the lanes, in order, and keeps the fates that they meet.
+/// Passes frames through the lanes, in order. The fates that they meet go behind those before.
 fn pass_frames(
     tick: u32,
     frames: &[Frame],
@@ -117,30 +117,16 @@ fn pass_frames(
     requires posts { length frames.now ≤ spare_of rack.old }
     requires few { length (posts_of rack.old) + length frames.now < 2 ^ 32 }
     requires room { HasRoom (λ b. meaning (b.vtable, b.value)) rack.old }
-    ensures passes { OnOk result (Passes tick frames.now (slots (λ b. meaning (b.vtable, b.value)) rack.old) (slots (λ b. meaning (b.vtable, b.value)) rack.new) (posts_of rack.old) (posts_of rack.new) fates.new.items) }
+    ensures passes { OnOk result (PassesBehind tick frames.now (slots (λ b. meaning (b.vtable, b.value)) rack.old) (slots (λ b. meaning (b.vtable, b.value)) rack.new) (posts_of rack.old) (posts_of rack.new) fates.old.items fates.new.items) }
     ensures spare { OnOk result (spare_of rack.old ≤ spare_of rack.new + length frames.now) }
     ensures room { HasRoom (λ b. meaning (b.vtable, b.value)) rack.new }
 {
-    fates.clear();
     for frame in frames {
         let fate = rack.pass(tick, frame.tag);
         fate_is(fate);
         fates.push(fate)?;
     }
     Ok(())
-}
-
-/// Passes the frames of a group through the lanes.
-fn pass_work(tick: u32, work: &mut GroupWork, rack: &mut Rack) -> Result<(), AllocError>
-    requires posts { length work.old.frames.items ≤ spare_of rack.old }
-    requires few { length (posts_of rack.old) + length work.old.frames.items < 2 ^ 32 }
-    requires room { HasRoom (λ b. meaning (b.vtable, b.value)) rack.old }
-    ensures passes { OnOk result (Passes tick work.old.frames.items (slots (λ b. meaning (b.vtable, b.value)) rack.old) (slots (λ b. meaning (b.vtable, b.value)) rack.new) (posts_of rack.old) (posts_of rack.new) work.new.fates.items) }
-    ensures same { OnOk result (IsButFates work.old work.new) }
-    ensures spare { OnOk result (spare_of rack.old ≤ spare_of rack.new + length work.old.frames.items) }
-    ensures room { HasRoom (λ b. meaning (b.vtable, b.value)) rack.new }
-{
-    pass_frames(tick, &work.frames, &mut work.fates, rack)
 }
 
 /// How many frames all groups have sent; none where they are more than can be counted.
@@ -154,22 +140,49 @@ pub(crate) fn count_frames(works: &[GroupWork]) -> Option<usize>
     Some(count)
 }
 
-/// Passes the frames of all groups through the lanes, one group after another.
+/// Passes the frames of all groups through the lanes, one group after another, and keeps the fates that they meet.
 pub(crate) fn pass_all(
     tick: u32,
-    works: &mut [GroupWork],
+    works: &[GroupWork],
+    fates: &mut Vec<Fate>,
     rack: &mut Rack,
 ) -> Result<(), AllocError>
-    requires posts { length (frames_by works.old) ≤ spare_of rack.old }
-    requires few { length (posts_of rack.old) + length (frames_by works.old) < 2 ^ 32 }
+    requires posts { length (frames_by works.now) ≤ spare_of rack.old }
+    requires few { length (posts_of rack.old) + length (frames_by works.now) < 2 ^ 32 }
     requires room { HasRoom (λ b. meaning (b.vtable, b.value)) rack.old }
-    ensures passes { OnOk result (Passes tick (frames_by works.old) (slots (λ b. meaning (b.vtable, b.value)) rack.old) (slots (λ b. meaning (b.vtable, b.value)) rack.new) (posts_of rack.old) (posts_of rack.new) (fates_by works.new)) }
-    ensures same { OnOk result (AllZip IsButFates works.old works.new) }
-    ensures fated { OnOk result (All Fated works.new) }
+    ensures passes { OnOk result (Passes tick (frames_by works.now) (slots (λ b. meaning (b.vtable, b.value)) rack.old) (slots (λ b. meaning (b.vtable, b.value)) rack.new) (posts_of rack.old) (posts_of rack.new) fates.new.items) }
     ensures room { HasRoom (λ b. meaning (b.vtable, b.value)) rack.new }
 {
+    fates.clear();
+    for work in works {
+        pass_frames(tick, &work.frames, fates, rack)?;
+    }
+    Ok(())
+}
+
+/// Gives a group the fates that its frames have met.
+fn give_fates(work: &mut GroupWork, fates: &[Fate]) -> Result<(), AllocError>
+    ensures same { OnOk result (IsButFates work.old work.new) }
+    ensures fates { OnOk result (work.new.fates.items ≡ fates.now) }
+{
+    work.fates.clear();
+    work.fates.extend_from_slice(fates)
+}
+
+/// Gives each group the fates that its frames have met, of those that the frames of all groups have met, one group after another.
+pub(crate) fn give_all_fates(works: &mut [GroupWork], fates: &[Fate]) -> Result<(), AllocError>
+    requires long { length fates.now ≡ length (frames_by works.old) }
+    requires delays { All (All IsDelay) fates.now }
+    ensures same { OnOk result (AllZip IsButFates works.old works.new) }
+    ensures fated { OnOk result (All Fated works.new) }
+    ensures fates { OnOk result (fates_by works.new ≡ fates.now) }
+{
+    let mut from = 0;
     for at in 0..works.len() {
-        pass_work(tick, &mut works[at], rack)?;
+        let work = &mut works[at];
+        let to = from + work.frames.len();
+        give_fates(work, &fates[from..to])?;
+        from = to;
     }
     Ok(())
 }

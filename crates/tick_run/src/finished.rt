@@ -57,6 +57,7 @@ pub(crate) fn make_finished(alloc: Global, run: Running) -> Result<Finished, All
         works,
         journal,
         transcript,
+        fates: _,
     } = run;
     let groups = pages_of(alloc, works)?;
     let book = Book::of_parts(

@@ -108,5 +108,6 @@ pub(crate) fn begin(alloc: Global, readings: &Readings) -> Result<Running, Alloc
         transcript: Draft::with_room(alloc, plan, lines)?,
         presence,
         journal,
+        fates: Vec::new(alloc),
     })
 }

@@ -1,12 +1,11 @@
 //! What all groups made of a tick, in the journal and in the transcript: their Takes, then their Closes and Ends, then their Sends.
 
 ghost use Rattle.std.specs.Prelude.{◌≡◌, ◌+◌, ◌≤◌, ◌++◌, ◌∷◌, [], All, Some, length, OnOk};
-ghost use Rattle.std.specs.List.{flat_map};
 ghost use Rattle.transcript_log.specs.declared.Line.TheVariants.{Send};
 ghost use Rattle.transcript_log.specs.Drafts.{Begins};
 ghost use Rattle.transcript_log.specs.Events.{lines_of};
 ghost use Rattle.transcript_log.specs.Transcripts.{last_tick_from};
-ghost use Rattle.tick_run.specs.ByGroups.{taken_by, closed_by, sent_by, whole_then};
+ghost use Rattle.tick_run.specs.ByGroups.{taken_by, closed_by, sends_by, sent_by, quiet_then, Fated};
 ghost use Rattle.tick_run.specs.GroupRuns.{sent_with};
 ghost use Rattle.tick_run.specs.Progress.{sending};
 ghost use Rattle.tick_run.specs.Sending.{IsOfPlan};
@@ -40,12 +39,32 @@ fn add_closed(works: &[GroupWork], journal: &mut Lines) -> Result<(), AllocError
 
 /// Adds the Sends of all groups to the journal.
 fn add_sent(works: &[GroupWork], journal: &mut Lines) -> Result<(), AllocError>
-    ensures { OnOk result (journal.new.items ≡ journal.old.items ++ flat_map (λ work. work.sent.items) works.now) }
+    ensures { OnOk result (journal.new.items ≡ journal.old.items ++ sends_by works.now) }
 {
     for work in works {
         journal.append(&work.sent)?;
     }
     Ok(())
+}
+
+/// Writes down the lines of all groups in a tick: Takes, then Closes and Ends with their entries, then Sends, whose entries are left
+/// for when their frames have met their fates.
+pub(crate) fn write_lines(
+    tick: u32,
+    works: &[GroupWork],
+    journal: &mut Lines,
+    transcript: &mut Draft,
+) -> Result<(), AllocError>
+    requires later { last_tick_from 0 transcript.old.entries ≤ tick }
+    requires journal { journal.old.items ≡ lines_of transcript.old.entries }
+    requires fits { All (Fits transcript.old.plan) works.now }
+    ensures transcript { OnOk result (transcript.new ≡ record transcript.old { entries = quiet_then tick transcript.old.entries works.now }) }
+    ensures journal { OnOk result (journal.new.items ≡ lines_of transcript.new.entries ++ sends_by works.now) }
+{
+    add_taken(works, journal)?;
+    add_closed(works, journal)?;
+    transcript.push_all(tick, journal)?;
+    add_sent(works, journal)
 }
 
 /// Adds the entry of a Send to the transcript. Its line is the journal's next one.
@@ -90,7 +109,7 @@ fn stamp_group(
 }
 
 /// Adds the entries of all groups' Sends to the transcript, one group after another. Their lines are the journal's last ones.
-fn stamp_all(
+pub(crate) fn stamp_all(
     tick: u32,
     works: &[GroupWork],
     transcript: &mut Draft,
@@ -98,6 +117,7 @@ fn stamp_all(
 ) -> Result<(), AllocError>
     requires later { last_tick_from 0 transcript.old.entries ≤ tick }
     requires fits { All (Fits transcript.old.plan) works.now }
+    requires fated { All Fated works.now }
     requires lines { journal.now.items ≡ lines_of (transcript.old.entries ++ sent_by tick works.now) }
     ensures { OnOk result (transcript.new ≡ record transcript.old { entries = transcript.old.entries ++ sent_by tick works.now }) }
 {
@@ -105,24 +125,4 @@ fn stamp_all(
         stamp_group(tick, &work.frames, &work.fates, transcript, journal)?;
     }
     Ok(())
-}
-
-/// Writes down what all groups made of a tick, once their frames have met their fates.
-pub(crate) fn write_tick(
-    tick: u32,
-    works: &[GroupWork],
-    journal: &mut Lines,
-    transcript: &mut Draft,
-) -> Result<(), AllocError>
-    requires later { last_tick_from 0 transcript.old.entries ≤ tick }
-    requires journal { journal.old.items ≡ lines_of transcript.old.entries }
-    requires fits { All (Fits transcript.old.plan) works.now }
-    ensures transcript { OnOk result (transcript.new ≡ record transcript.old { entries = whole_then tick transcript.old.entries works.now }) }
-    ensures journal { OnOk result (journal.new.items ≡ lines_of transcript.new.entries) }
-{
-    add_taken(works, journal)?;
-    add_closed(works, journal)?;
-    transcript.push_all(tick, journal)?;
-    add_sent(works, journal)?;
-    stamp_all(tick, works, transcript, journal)
 }

@@ -1,8 +1,17 @@
 use Rattle.std.proofs.Common.{◌≡◌, ◌+◌, ◌∷◌, [], length, sym, ap, ◌∙◌, arith}
 use Rattle.std.proofs.lemmas.List.{length-append}
 use Rattle.link_lanes.specs.Racks.{posts_of}
-use Rattle.tick_run.proofs.PassLemmas.{passing-next, passing-ends}
+use Rattle.tick_run.proofs.PassLemmas.{passing-starts, passing-next, passing-ends}
 use Rattle.tick_run.proofs.by_groups.pass_frames.Goals as goal
+
+pub loop-frame-init : goal.loop-frame-init
+loop-frame-init g c = record {
+  room = c.requires.room;
+  posts = omega (arith, c.requires.posts);
+  spare = omega arith;
+  few = omega (arith, c.requires.few);
+  passing = passing-starts c.args.tick c.args.frames.now _ _ c.args.fates.now.items;
+}
 
 pub loop-frame-preserved : goal.loop-frame-preserved
 loop-frame-preserved g c =
@@ -18,9 +27,9 @@ loop-frame-preserved g c =
       posts = omega (arith, a, b);
       spare = omega (arith, s, b);
       few = omega (arith, few, long);
-      passing = passing-next c.args.tick c.loop-frame.frame-index c.args.frames.now c.frame-item.result _ _ _ _ _ _ c.pass-fate.result c.loop-frame.fates.items _ c.loop-frame-test.true (sym c.frame-item.is)
+      passing = passing-next c.args.tick c.loop-frame.frame-index c.args.frames.now c.frame-item.result _ _ _ _ _ _ c.pass-fate.result c.args.fates.now.items c.loop-frame.fates.items _ c.loop-frame-test.true (sym c.frame-item.is)
           c.pass-fate.ensures.fate c.pass-fate.ensures.lanes c.pass-fate.ensures.posts c.in_ok-push.ensures.items c.fate_is.ensures was.passing;
     }
 
 pub returns-clause-passes : goal.returns-clause-passes
-returns-clause-passes g c = passing-ends c.args.tick c.loop-frame.frame-index c.args.frames.now _ _ _ _ _ c.loop-frame-test.false c.loop-frame.invariant.passing
+returns-clause-passes g c = passing-ends c.args.tick c.loop-frame.frame-index c.args.frames.now _ _ _ _ _ _ c.loop-frame-test.false c.loop-frame.invariant.passing

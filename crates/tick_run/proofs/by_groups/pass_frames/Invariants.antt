@@ -10,5 +10,5 @@ invariant-loop-frame g l = record {
   spare : spare_of l.fn.rack ≤ spare_of l.rack + l.frame-index;
   few : length (posts_of l.rack) + length l.frames < 2 ^ 32 + l.frame-index;
   passing : Passing l.tick l.frame-index l.frames (slots (λ b. (goal.Lane-dyn g (b.vtable, b.value)).meaning b.value) l.fn.rack) (slots (λ b. (goal.Lane-dyn g (b.vtable, b.value)).meaning b.value) l.rack)
-      (posts_of l.fn.rack) (posts_of l.rack) l.fates.items;
+      (posts_of l.fn.rack) (posts_of l.rack) l.fn.fates.items l.fates.items;
 }

@@ -1,13 +1,14 @@
-use Rattle.std.proofs.Common.{◌≡◌, length, sym, subst, ◌∙◌, arith}
-use Rattle.std.specs.Prelude.{All}
+use Rattle.std.proofs.Common.{◌≡◌, List, length, sym, ap, subst, ◌∙◌, arith}
+use Rattle.std.specs.Prelude.{ℕ, All}
 use Rattle.std.specs.List.{AllZip}
 use Rattle.std.specs.Vec.{with_items}
 use Rattle.std.proofs.lemmas.List.{with_items_is}
-use Rattle.tick_run.specs.ByGroups.{AllStand, AllTick, Fated, IsButFates}
-use Rattle.tick_run.specs.Written.{Fits}
-use Rattle.tick_run.proofs.JournalLemmas.{on_ok}
+use Rattle.tick_run.specs.ByGroups.{AllStand, AllTick, Fated, IsButFates, frames_by, fates_by}
+use Rattle.tick_run.specs.Progress.{IsDelay}
+use Rattle.tick_run.proofs.JournalLemmas.{on_ok, made-later, all-lines, whole-script, whole-lines}
+use Rattle.tick_run.proofs.PassLemmas.{fates-long}
 use Rattle.tick_run.proofs.SendingLemmas.{keeps-retired}
-use Rattle.tick_run.proofs.TickLemmas.{on_both, last-whole, all-fit, run-ticked, fates-ticked, extends-whole}
+use Rattle.tick_run.proofs.TickLemmas.{last-whole, ticks-fit, all-fit, run-ticked, fates-ticked, extends-whole}
 use Rattle.tick_run.proofs.tick.run_tick.Goals as goal
 
 pub tick_all-requires-clause-can : goal.tick_all-requires-clause-can
@@ -16,23 +17,84 @@ tick_all-requires-clause-can g c κs within = record {
   stand = subst (AllStand c.args.context.now.known.readings.now (g.M.Masks.table c.args.context.now.known.masks.now) c.args.tick c.args.run.now.transcript.entries) (sym c.deref_mut.ensures.value) c.requires.runs.stand;
 }
 
-pub write_tick-requires-clause-later : goal.write_tick-requires-clause-later
-write_tick-requires-clause-later g c = last-whole (length c.args.context.now.known.readings.now.plan.groups) c.args.tick c.args.run.now.transcript.entries c.requires.runs.whole
+pub pass_and_write-requires-clause-later : goal.pass_and_write-requires-clause-later
+pass_and_write-requires-clause-later g c κs within = last-whole (length c.args.context.now.known.readings.now.plan.groups) c.args.tick c.args.run.now.transcript.entries c.requires.runs.whole
 
-pub write_tick-requires-clause-fits : goal.write_tick-requires-clause-fits
-write_tick-requires-clause-fits g c =
+pub pass_and_write-requires-clause-fits : goal.pass_and_write-requires-clause-fits
+pass_and_write-requires-clause-fits g c κs within =
     let readings = c.args.context.now.known.readings.now in
     let m = g.M.Masks.table c.args.context.now.known.masks.now in
     let t = c.args.tick in
     let script = c.args.run.now.transcript in
     let works = c.args.run.now.works in
     let ticked = with_items works c.tick_all.new.works in
-    let to_pass : c.deref_mut-2.result.now ≡ c.tick_all.new.works = c.deref_mut-2.ensures.value ∙ with_items_is works c.tick_all.new.works (omega (arith, c.tick_all.auto.works, c.deref_mut.ensures.len)) in
-    let passed : c.deref-2.result.now ≡ c.pass_all.new.works = c.deref-2.ensures.value ∙ with_items_is ticked c.pass_all.new.works (omega (arith, c.pass_all.auto.works, c.deref_mut-2.ensures.len)) in
+    let ticked_are : ticked.items ≡ c.tick_all.new.works = with_items_is works c.tick_all.new.works (omega (arith, c.tick_all.auto.works, c.deref_mut.ensures.len)) in
     let stand = subst (AllStand readings m t script.entries) (sym c.deref_mut.ensures.value) c.requires.runs.stand in
-    let ticks = subst (AllTick readings m t script.entries) (sym to_pass) (c.in_ok-tick_all.ensures script.entries stand) in
-    subst (All (Fits script.plan)) (sym passed)
-    (all-fit readings m t script c.deref_mut-2.result.now c.pass_all.new.works ticks c.in_ok-pass_all.ensures.same c.in_ok-pass_all.ensures.fated c.requires.runs.plan)
+    let ticks = subst (AllTick readings m t script.entries) (sym ticked_are) (c.in_ok-tick_all.ensures script.entries stand) in
+    ticks-fit readings m t script.entries script.plan ticked.items ticks c.requires.runs.plan
+
+pub give_all_fates-requires-clause-long : goal.give_all_fates-requires-clause-long
+give_all_fates-requires-clause-long g c =
+    let to_give : c.deref_mut-2.result.now ≡ (with_items c.args.run.now.works c.tick_all.new.works).items = c.deref_mut-2.ensures.value ∙ ap (λ v. v.items) c.pass_and_write.ensures.works in
+    ap length c.deref-2.ensures.value ∙ fates-long c.args.tick _ _ _ _ _ _ c.in_ok-pass_and_write.ensures.passes ∙ sym (ap (λ ws. length (frames_by ws)) to_give)
+
+pub give_all_fates-requires-clause-delays : goal.give_all_fates-requires-clause-delays
+give_all_fates-requires-clause-delays g c = subst (λ (es : List (List ℕ)). All (All IsDelay) es) (sym c.deref-2.ensures.value) c.in_ok-pass_and_write.ensures.passes.delays
+
+pub stamp_all-requires-clause-later : goal.stamp_all-requires-clause-later
+stamp_all-requires-clause-later g c =
+    let works = (with_items c.args.run.now.works c.tick_all.new.works).items in
+    made-later c.args.tick c.args.run.now.transcript c.pass_and_write.new.run.transcript works c.deref-3.result.now c.in_ok-pass_and_write.ensures.transcript
+    (last-whole (length c.args.context.now.known.readings.now.plan.groups) c.args.tick c.args.run.now.transcript.entries c.requires.runs.whole)
+
+pub stamp_all-requires-clause-fits : goal.stamp_all-requires-clause-fits
+stamp_all-requires-clause-fits g c =
+    let readings = c.args.context.now.known.readings.now in
+    let m = g.M.Masks.table c.args.context.now.known.masks.now in
+    let t = c.args.tick in
+    let script = c.args.run.now.transcript in
+    let works = c.args.run.now.works in
+    let ticked = with_items works c.tick_all.new.works in
+    let ticked_are : ticked.items ≡ c.tick_all.new.works = with_items_is works c.tick_all.new.works (omega (arith, c.tick_all.auto.works, c.deref_mut.ensures.len)) in
+    let stand = subst (AllStand readings m t script.entries) (sym c.deref_mut.ensures.value) c.requires.runs.stand in
+    let ticks = subst (AllTick readings m t script.entries) (sym ticked_are) (c.in_ok-tick_all.ensures script.entries stand) in
+    let before = ticked.items in
+    let after = c.deref-3.result.now in
+    let mid = c.pass_and_write.new.run in
+    let to_give : c.deref_mut-2.result.now ≡ before = c.deref_mut-2.ensures.value ∙ ap (λ v. v.items) c.pass_and_write.ensures.works in
+    let given : after ≡ c.give_all_fates.new.works = c.deref-3.ensures.value ∙ with_items_is mid.works c.give_all_fates.new.works (omega (arith, c.give_all_fates.auto.works, c.deref_mut-2.ensures.len)) in
+    let same = subst (λ ws. AllZip IsButFates ws after) to_give (subst (AllZip IsButFates c.deref_mut-2.result.now) (sym given) c.in_ok-give_all_fates.ensures.same) in
+    let fated = subst (All Fated) (sym given) c.in_ok-give_all_fates.ensures.fated in
+    let written = c.in_ok-pass_and_write.ensures.transcript in
+    all-fit readings m t script before after ticks same fated mid.transcript.plan (ap (λ z. z.plan) written ∙ c.requires.runs.plan)
+
+pub stamp_all-requires-clause-fated : goal.stamp_all-requires-clause-fated
+stamp_all-requires-clause-fated g c =
+    let mid = c.pass_and_write.new.run in
+    let given : c.deref-3.result.now ≡ c.give_all_fates.new.works = c.deref-3.ensures.value ∙ with_items_is mid.works c.give_all_fates.new.works (omega (arith, c.give_all_fates.auto.works, c.deref_mut-2.ensures.len)) in
+    subst (All Fated) (sym given) c.in_ok-give_all_fates.ensures.fated
+
+pub stamp_all-requires-clause-lines : goal.stamp_all-requires-clause-lines
+stamp_all-requires-clause-lines g c =
+    let readings = c.args.context.now.known.readings.now in
+    let m = g.M.Masks.table c.args.context.now.known.masks.now in
+    let t = c.args.tick in
+    let script = c.args.run.now.transcript in
+    let works = c.args.run.now.works in
+    let ticked = with_items works c.tick_all.new.works in
+    let ticked_are : ticked.items ≡ c.tick_all.new.works = with_items_is works c.tick_all.new.works (omega (arith, c.tick_all.auto.works, c.deref_mut.ensures.len)) in
+    let stand = subst (AllStand readings m t script.entries) (sym c.deref_mut.ensures.value) c.requires.runs.stand in
+    let ticks = subst (AllTick readings m t script.entries) (sym ticked_are) (c.in_ok-tick_all.ensures script.entries stand) in
+    let before = ticked.items in
+    let after = c.deref-3.result.now in
+    let mid = c.pass_and_write.new.run in
+    let to_give : c.deref_mut-2.result.now ≡ before = c.deref_mut-2.ensures.value ∙ ap (λ v. v.items) c.pass_and_write.ensures.works in
+    let given : after ≡ c.give_all_fates.new.works = c.deref-3.ensures.value ∙ with_items_is mid.works c.give_all_fates.new.works (omega (arith, c.give_all_fates.auto.works, c.deref_mut-2.ensures.len)) in
+    let same = subst (λ ws. AllZip IsButFates ws after) to_give (subst (AllZip IsButFates c.deref_mut-2.result.now) (sym given) c.in_ok-give_all_fates.ensures.same) in
+    let fated = subst (All Fated) (sym given) c.in_ok-give_all_fates.ensures.fated in
+    let written = c.in_ok-pass_and_write.ensures.transcript in
+    let fits = all-fit readings m t script before after ticks same fated mid.transcript.plan (ap (λ z. z.plan) written ∙ c.requires.runs.plan) in
+    all-lines t script mid.transcript before after written mid.journal.items c.in_ok-pass_and_write.ensures.journal same fits fated
 
 pub returns-clause-runs : goal.returns-clause-runs
 returns-clause-runs g c =
@@ -42,17 +104,25 @@ returns-clause-runs g c =
     let script = c.args.run.now.transcript in
     let works = c.args.run.now.works in
     let ticked = with_items works c.tick_all.new.works in
-    let to_pass : c.deref_mut-2.result.now ≡ c.tick_all.new.works = c.deref_mut-2.ensures.value ∙ with_items_is works c.tick_all.new.works (omega (arith, c.tick_all.auto.works, c.deref_mut.ensures.len)) in
-    let passed : c.deref-2.result.now ≡ c.pass_all.new.works = c.deref-2.ensures.value ∙ with_items_is ticked c.pass_all.new.works (omega (arith, c.pass_all.auto.works, c.deref_mut-2.ensures.len)) in
-    let before = c.deref_mut-2.result.now in
-    let after = c.deref-2.result.now in
+    let ticked_are : ticked.items ≡ c.tick_all.new.works = with_items_is works c.tick_all.new.works (omega (arith, c.tick_all.auto.works, c.deref_mut.ensures.len)) in
     let stand = subst (AllStand readings m t script.entries) (sym c.deref_mut.ensures.value) c.requires.runs.stand in
-    let ticks = subst (AllTick readings m t script.entries) (sym to_pass) (c.in_ok-tick_all.ensures script.entries stand) in
-    let same = subst (AllZip IsButFates before) (sym passed) c.in_ok-pass_all.ensures.same in
-    let fated = subst (All Fated) (sym passed) c.in_ok-pass_all.ensures.fated in
-    on_both c.write_tick.result
-    (λ wrote lines. run-ticked readings m t script before after ticks same fated _ c.requires.runs.presence c.requires.runs.plan c.requires.runs.whole (sym c.deref-2.ensures.value) wrote lines)
-    c.write_tick.ensures.transcript c.write_tick.ensures.journal
+    let ticks = subst (AllTick readings m t script.entries) (sym ticked_are) (c.in_ok-tick_all.ensures script.entries stand) in
+    let before = ticked.items in
+    let after = c.deref-3.result.now in
+    let mid = c.pass_and_write.new.run in
+    let to_give : c.deref_mut-2.result.now ≡ before = c.deref_mut-2.ensures.value ∙ ap (λ v. v.items) c.pass_and_write.ensures.works in
+    let given : after ≡ c.give_all_fates.new.works = c.deref-3.ensures.value ∙ with_items_is mid.works c.give_all_fates.new.works (omega (arith, c.give_all_fates.auto.works, c.deref_mut-2.ensures.len)) in
+    let same = subst (λ ws. AllZip IsButFates ws after) to_give (subst (AllZip IsButFates c.deref_mut-2.result.now) (sym given) c.in_ok-give_all_fates.ensures.same) in
+    let fated = subst (All Fated) (sym given) c.in_ok-give_all_fates.ensures.fated in
+    let written = c.in_ok-pass_and_write.ensures.transcript in
+    let fits = all-fit readings m t script before after ticks same fated mid.transcript.plan (ap (λ z. z.plan) written ∙ c.requires.runs.plan) in
+    let lines = all-lines t script mid.transcript before after written mid.journal.items c.in_ok-pass_and_write.ensures.journal same fits fated in
+    on_ok c.stamp_all.result
+    (λ stamped.
+    let done = c.stamp_all.new.transcript in
+    run-ticked readings m t script before after ticks same fated _ (c.pass_and_write.ensures.presence ∙ c.requires.runs.presence) c.requires.runs.plan c.requires.runs.whole (sym c.deref-3.ensures.value)
+    (whole-script t script mid.transcript before after written done stamped same) (whole-lines t script mid.transcript before after written done stamped mid.journal.items lines))
+    c.stamp_all.ensures
 
 pub returns-clause-fates : goal.returns-clause-fates
 returns-clause-fates g c = λ hung kept.
@@ -62,16 +132,45 @@ returns-clause-fates g c = λ hung kept.
     let script = c.args.run.now.transcript in
     let works = c.args.run.now.works in
     let ticked = with_items works c.tick_all.new.works in
-    let to_pass : c.deref_mut-2.result.now ≡ c.tick_all.new.works = c.deref_mut-2.ensures.value ∙ with_items_is works c.tick_all.new.works (omega (arith, c.tick_all.auto.works, c.deref_mut.ensures.len)) in
-    let passed : c.deref-2.result.now ≡ c.pass_all.new.works = c.deref-2.ensures.value ∙ with_items_is ticked c.pass_all.new.works (omega (arith, c.pass_all.auto.works, c.deref_mut-2.ensures.len)) in
-    let before = c.deref_mut-2.result.now in
-    let after = c.deref-2.result.now in
+    let ticked_are : ticked.items ≡ c.tick_all.new.works = with_items_is works c.tick_all.new.works (omega (arith, c.tick_all.auto.works, c.deref_mut.ensures.len)) in
     let stand = subst (AllStand readings m t script.entries) (sym c.deref_mut.ensures.value) c.requires.runs.stand in
-    let ticks = subst (AllTick readings m t script.entries) (sym to_pass) (c.in_ok-tick_all.ensures script.entries stand) in
-    let same = subst (AllZip IsButFates before) (sym passed) c.in_ok-pass_all.ensures.same in
-    let fated = subst (All Fated) (sym passed) c.in_ok-pass_all.ensures.fated in
+    let ticks = subst (AllTick readings m t script.entries) (sym ticked_are) (c.in_ok-tick_all.ensures script.entries stand) in
+    let before = ticked.items in
+    let after = c.deref-3.result.now in
+    let mid = c.pass_and_write.new.run in
+    let to_give : c.deref_mut-2.result.now ≡ before = c.deref_mut-2.ensures.value ∙ ap (λ v. v.items) c.pass_and_write.ensures.works in
+    let given : after ≡ c.give_all_fates.new.works = c.deref-3.ensures.value ∙ with_items_is mid.works c.give_all_fates.new.works (omega (arith, c.give_all_fates.auto.works, c.deref_mut-2.ensures.len)) in
+    let same = subst (λ ws. AllZip IsButFates ws after) to_give (subst (AllZip IsButFates c.deref_mut-2.result.now) (sym given) c.in_ok-give_all_fates.ensures.same) in
+    let fated = subst (All Fated) (sym given) c.in_ok-give_all_fates.ensures.fated in
+    let written = c.in_ok-pass_and_write.ensures.transcript in
+    let fates : fates_by after ≡ mid.fates.items = ap fates_by given ∙ c.in_ok-give_all_fates.ensures.fates ∙ c.deref-2.ensures.value in
     let keeps = keeps-retired hung t script.entries _ _ _ _ kept (c.reserve_posts.ensures.lanes ∙ c.retire.ensures.lanes) (c.reserve_posts.ensures.posts_same ∙ c.retire.ensures.posts) in
-    on_ok c.write_tick.result (λ wrote. fates-ticked readings m t script before after ticks same fated c.pass_all.new.works c.write_tick.new.transcript hung _ _ _ _ passed wrote keeps c.in_ok-pass_all.ensures.passes) c.write_tick.ensures.transcript
+    on_ok c.stamp_all.result
+    (λ stamped.
+    fates-ticked readings m t script before after ticks same fated mid.fates.items c.stamp_all.new.transcript hung _ _ _ _ fates (whole-script t script mid.transcript before after written c.stamp_all.new.transcript stamped same) keeps c.in_ok-pass_and_write.ensures.passes)
+    c.stamp_all.ensures
 
 pub returns-clause-grows : goal.returns-clause-grows
-returns-clause-grows g c = on_ok c.write_tick.result (λ wrote. extends-whole c.args.tick c.args.run.now.transcript c.write_tick.new.transcript c.deref-2.result.now wrote) c.write_tick.ensures.transcript
+returns-clause-grows g c =
+    let readings = c.args.context.now.known.readings.now in
+    let m = g.M.Masks.table c.args.context.now.known.masks.now in
+    let t = c.args.tick in
+    let script = c.args.run.now.transcript in
+    let works = c.args.run.now.works in
+    let ticked = with_items works c.tick_all.new.works in
+    let ticked_are : ticked.items ≡ c.tick_all.new.works = with_items_is works c.tick_all.new.works (omega (arith, c.tick_all.auto.works, c.deref_mut.ensures.len)) in
+    let stand = subst (AllStand readings m t script.entries) (sym c.deref_mut.ensures.value) c.requires.runs.stand in
+    let ticks = subst (AllTick readings m t script.entries) (sym ticked_are) (c.in_ok-tick_all.ensures script.entries stand) in
+    let before = ticked.items in
+    let after = c.deref-3.result.now in
+    let mid = c.pass_and_write.new.run in
+    let to_give : c.deref_mut-2.result.now ≡ before = c.deref_mut-2.ensures.value ∙ ap (λ v. v.items) c.pass_and_write.ensures.works in
+    let given : after ≡ c.give_all_fates.new.works = c.deref-3.ensures.value ∙ with_items_is mid.works c.give_all_fates.new.works (omega (arith, c.give_all_fates.auto.works, c.deref_mut-2.ensures.len)) in
+    let same = subst (λ ws. AllZip IsButFates ws after) to_give (subst (AllZip IsButFates c.deref_mut-2.result.now) (sym given) c.in_ok-give_all_fates.ensures.same) in
+    let fated = subst (All Fated) (sym given) c.in_ok-give_all_fates.ensures.fated in
+    let written = c.in_ok-pass_and_write.ensures.transcript in
+    on_ok c.stamp_all.result
+    (λ stamped.
+    let done = c.stamp_all.new.transcript in
+    extends-whole t script done after (whole-script t script mid.transcript before after written done stamped same))
+    c.stamp_all.ensures
