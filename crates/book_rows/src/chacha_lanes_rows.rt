@@ -1,7 +1,7 @@
 //! Mask words made eight at a time, compared with those made one by one.
 
 use crate::fixtures::{check_all, check_same};
-use chacha_lanes::{WordRow, stream_blocks, stream_word, words_of_rounds};
+use chacha_lanes::{WordRow, block_words_of_rounds, stream_blocks, stream_word, words_of_rounds};
 
 fn key_ending_in(last: u8) -> [u8; 32] {
     let mut key = [0; 32];
@@ -102,5 +102,9 @@ fn published_block(rt: HostRuntime) {
     ];
     for block in stream_blocks(&[[0; 32]; 8], 0) {
         check_all(&rt, &block, &words, "a block");
+    }
+    for place in 0..8 {
+        let rounds = block_words_of_rounds(&[0; 32], 0, place);
+        check_same(&rt, &rounds[0], &words[place], "a word of a block");
     }
 }

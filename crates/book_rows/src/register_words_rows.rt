@@ -11,6 +11,7 @@ use register_words::{
 use row_fixtures::{PLAIN, keys_of_north};
 use std::alloc::Global;
 use std::test::Fail;
+use std::thread::Threads;
 use totals_report::{Report, read_report};
 use transcript_log::Transcript;
 use transcript_text::read;
@@ -70,10 +71,14 @@ fn two_tables(alloc: Global, transcript: &Transcript) -> Result<Registers, Fail>
     }
 }
 
-fn plain_words(alloc: Global, transcript: &Transcript) -> Result<SideWords, Fail> {
+fn plain_words<R: Threads + Sync>(
+    rt: &R,
+    alloc: Global,
+    transcript: &Transcript,
+) -> Result<SideWords, Fail> {
     let tables = two_tables(alloc, transcript)?;
     let keys = keys_of_north(alloc, transcript.plan(), [0; 6])?;
-    Ok(side_words(alloc, transcript, &tables, &keys)?)
+    Ok(side_words(rt, alloc, transcript, &tables, &keys)?)
 }
 
 fn plain_report(alloc: Global) -> Result<Report, Fail> {
@@ -99,7 +104,7 @@ fn totals(
 #[test]
 fn two_registers(rt: HostRuntime) -> Result<(), Fail> {
     let transcript = plain_transcript(rt.alloc())?;
-    let words = plain_words(rt.alloc(), &transcript)?;
+    let words = plain_words(&rt, rt.alloc(), &transcript)?;
     let text = side_text(rt.alloc(), &words)?;
     check(&rt, text.as_slice() == WORDS.as_bytes(), "the side words");
     let report = plain_report(rt.alloc())?;

@@ -55,7 +55,8 @@ fn report_of(alloc: Global, text: &[u8]) -> Result<Report, AllocError>
 }
 
 // The texts of all registers, from those of register 0.
-fn with_words(
+fn with_words<R: Threads + Sync>(
+    rt: &R,
     alloc: Global,
     first: RunTexts,
     tables: &Registers,
@@ -66,7 +67,7 @@ fn with_words(
     requires report { (rows : List ReportRow) × (rows_of_text first.report.items ≡ Ok rows) × (length rows ≤ length first.transcript.plan.groups * first.transcript.plan.rounds) }
     ensures { IfOk result (AreWordsOf tables.now (table_of keys.now) first.transcript (texts_of first)) }
 {
-    let words = side_words(alloc, &first.transcript, tables, keys)?;
+    let words = side_words(rt, alloc, &first.transcript, tables, keys)?;
     let report = report_of(alloc, &first.report)?;
     let text = register_report(alloc, &report, &first.transcript, &words)?;
     Ok(RegisterTexts {
@@ -140,7 +141,7 @@ pub fn register_texts<R: Threads + Wait + Sync, G: Gate>(
         Ok(texts) => texts,
         Err(AllocError) => return Err(Refusal::Memory),
     };
-    match with_words(alloc, first, &tables, &file.keys) {
+    match with_words(rt, alloc, first, &tables, &file.keys) {
         Ok(texts) => Ok(texts),
         Err(AllocError) => Err(Refusal::Memory),
     }

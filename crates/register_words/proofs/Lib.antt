@@ -1,5 +1,7 @@
 pub mod HidingLemmas
+pub mod ReadingLemmas
 pub mod ReportLemmas
+pub mod RowLemmas
 pub mod ShareLoops
 pub mod SideLemmas
 pub mod TotalLemmas

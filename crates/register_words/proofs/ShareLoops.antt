@@ -38,7 +38,8 @@ few_of : (n : ℕ) (p : ℕ → Bool) (xs : List ℕ) → filter p (range_with_l
 few_of n p xs e =
     omega (arith, ap length e, length-filter p (range_with_len 0 n), count_by-le-length p (range_with_len 0 n), length-range_with_len 0 n)
 
-few : (xs : List ℕ) → IsSet xs → length xs ≤ 256
+-- a set has at most 256 members
+pub few : (xs : List ℕ) → IsSet xs → length xs ≤ 256
 few xs h = few_of 256 (λ i. is_member i xs) xs (picked-set xs h)
 
 -- no meter's words are added yet

@@ -108,13 +108,13 @@ further_is words side n some few is =
           ∙ ap (λ m. get_or (made ++ replicate (8 - n) 0) m 0) (sym split)
     ])
 
--- words that are the registers' give the row
+-- words that are the further registers' give the row
 pub row_is : (registers : RegistersView) (keys : Keys) (line : ℕ) (f : Frame) (words : List ℕ) (n : ℕ) → n ≡ length registers.tables → 1 ≤ n
-    → ((k : ℕ) → k < length registers.tables → slice_index words k ≡ word_for (register_contents registers keys k) f) → row_by line words n ≡ side_row registers keys line f
+    → ((k : ℕ) → 1 ≤ k → k < length registers.tables → slice_index words k ≡ word_for (register_contents registers keys k) f) → row_by line words n ≡ side_row registers keys line f
 row_is registers keys line f words n count some is =
     subst (λ (m : ℕ). row_by line words m ≡ side_row registers keys line f) (sym count)
     (ap (λ (l : List ℕ). made_row line (length registers.tables - 1) (l ++ replicate (8 - length registers.tables) 0))
-    (same_map (slice_index words) (λ k. word_for (register_contents registers keys k) f) 1 (length registers.tables - 1) (λ k low high. is k (omega (arith, high, some, count)))))
+    (same_map (slice_index words) (λ k. word_for (register_contents registers keys k) f) 1 (length registers.tables - 1) (λ k low high. is k low (omega (arith, high, some, count)))))
   where
     same_map : (f h : ℕ → ℕ) (a n : ℕ) → ((k : ℕ) → a ≤ k → k < a + n → f k ≡ h k) → map f (range_with_len a n) ≡ map h (range_with_len a n)
     same_map f h a zero same = refl

@@ -1,5 +1,5 @@
 -- The words of a group's readings in a round, in all registers.
-use Rattle.std.specs.Prelude.{◌≡◌, ℕ, ◌<◌, [], true, List, length, slice_index, slice_index_or}
+use Rattle.std.specs.Prelude.{◌≡◌, ℕ, ◌<◌, ◌≤◌, [], true, List, length, slice_index, slice_index_or}
 use Rattle.group_plan.specs.Plans.{members}
 use Rattle.missing_round.specs.Sets.{is_member}
 use Rattle.pair_keys.specs.Keys.{Keys}
@@ -22,6 +22,11 @@ pair_words keys g r k i j = word_of (keys.key (pair_of g i j)) r k
 abbrev pub AreReadingWords : RegistersView → Keys → (g r i : ℕ) → List ℕ → Type 0
 AreReadingWords registers keys g r i words =
     (k : ℕ) → k < length registers.tables → slice_index words k ≡ (register_contents registers keys k).reading g r i
+
+-- the words are those of the reading of a meter in each register but register 0
+abbrev pub AreFurtherWords : RegistersView → Keys → (g r i : ℕ) → List ℕ → Type 0
+AreFurtherWords registers keys g r i words =
+    (k : ℕ) → 1 ≤ k → k < length registers.tables → slice_index words k ≡ (register_contents registers keys k).reading g r i
 
 -- each member of the round has its reading words
 pub record IsHidden (registers : RegistersView) (keys : Keys) (hidden : HiddenGroup) : Type 0 where

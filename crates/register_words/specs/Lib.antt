@@ -1,6 +1,7 @@
 pub mod Blocks
 pub mod Hidden
 pub mod MaskTables
+pub mod Readings
 pub mod ReportParts
 pub mod SideReports
 pub mod SideText

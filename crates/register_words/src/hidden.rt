@@ -84,8 +84,13 @@ fn hide_group(
     })
 }
 
-// The words of one reading, whose meter need not be a member.
-fn words_alone(blocks: &mut Blocks, tables: &Registers, keys: &KeyTable, tag: Tag) -> [u64; 8]
+/// The words of one reading, whose meter need not be a member.
+pub(crate) fn words_alone(
+    blocks: &mut Blocks,
+    tables: &Registers,
+    keys: &KeyTable,
+    tag: Tag,
+) -> [u64; 8]
     requires plan { (table_of keys.now).plan ≡ tables.now.plan }
     requires place { HasPlace tables.now.plan tag }
     ensures { AreReadingWords tables.now (table_of keys.now) tag.group tag.round tag.meter result }

@@ -5,6 +5,7 @@ mod blocks;
 mod hidden;
 pub mod laws;
 mod masks;
+mod readings;
 mod report;
 mod row;
 mod rows;

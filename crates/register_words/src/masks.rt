@@ -1,8 +1,12 @@
 //! The mask table of a register.
 ghost use Rattle.std.specs.Prelude.{◌≡◌, ◌<◌};
 
+use crate::blocks::Blocks;
+use crate::rows::{own_blocks, pair_blocks, register_row};
 use crate::word::word_of_register;
-use mask_stream::Masks;
+use chacha_lanes::block_words_of_rounds;
+use mask_stream::{Masks, Row};
+use missing_round::MeterSet;
 use mod_word::Word;
 use pair_keys::KeyTable;
 
@@ -11,6 +15,7 @@ use pair_keys::KeyTable;
 pub struct RegisterMasks<'k> {
     keys: &'k KeyTable,
     register: u8,
+    ghost within: { register < 8 },
 }
 
 impl<'k> RegisterMasks<'k> {
@@ -41,5 +46,29 @@ impl<'k> Masks for RegisterMasks<'k> {
 
     fn pair(&self, group: u16, round: u32, low: u8, high: u8) -> Word {
         word_of_register(self.keys.pair(group, low, high), round, self.register)
+    }
+
+    fn owns(&self, group: u16, round: u32, meters: &MeterSet) -> Row {
+        let mut blocks = Blocks::new();
+        own_blocks(&mut blocks, self.keys, group, round, meters);
+        register_row(&blocks, self.register)
+    }
+
+    fn pairs(&self, group: u16, round: u32, meter: u8, others: &MeterSet) -> Row {
+        let mut blocks = Blocks::new();
+        pair_blocks(&mut blocks, self.keys, group, round, meter, others);
+        register_row(&blocks, self.register)
+    }
+
+    fn own_rounds(&self, group: u16, first: u32, meter: u8) -> [u64; 8] {
+        block_words_of_rounds(self.keys.own(group, meter), first, self.register as usize)
+    }
+
+    fn pair_rounds(&self, group: u16, first: u32, low: u8, high: u8) -> [u64; 8] {
+        block_words_of_rounds(
+            self.keys.pair(group, low, high),
+            first,
+            self.register as usize,
+        )
     }
 }

@@ -1,13 +1,15 @@
 //! Rows of blocks: the words of all registers of the keys of some meters.
-ghost use Rattle.std.specs.Prelude.{◌≡◌, ◌+◌, ◌<◌, ◌≤◌, ◌∷◌, ◌++◌, IsTrue, Some, length, map, nat_lt};
+ghost use Rattle.std.specs.Prelude.{◌≡◌, ◌+◌, ◌<◌, ◌≤◌, ◌∷◌, ◌++◌, IsTrue, Some, length, map, nat_lt, slice_index};
 ghost use Rattle.std.specs.List.{list_all};
 ghost use Rattle.group_plan.specs.Plans.{size};
+ghost use Rattle.missing_round.specs.Sets.{IsSet};
 ghost use Rattle.pair_keys.specs.Keys.{table_of};
 ghost use Rattle.pair_keys.specs.declared.KeyId.TheVariants.{Own};
 ghost use Rattle.register_words.specs.Blocks.{is_end, made_with, pair_of};
 ghost use Rattle.register_words.specs.Words.{words_of};
 
 use crate::blocks::{Blocks, KeyBatch};
+use mask_stream::Row;
 use missing_round::MeterSet;
 use pair_keys::KeyTable;
 
@@ -38,6 +40,7 @@ fn put_pairs(
     requires room { length blocks.old.items + length batch.old.keys ≤ 1 }
     ensures round { batch.new.round ≡ batch.old.round }
     ensures fits { length blocks.new.items + length batch.new.keys ≤ 257 }
+    ensures set { IsSet others.now }
     ensures made { made_with batch.new blocks.new.items ≡ made_with batch.old blocks.old.items ++ map (λ j. words_of ((table_of keys.now).key (pair_of group meter j)) batch.old.round) others.now }
 {
     for other in others.members() {
@@ -56,7 +59,8 @@ pub(crate) fn pair_blocks(
 )
     requires meter { meter < size (table_of keys.now).plan.groups group }
     requires others { IsTrue (list_all (is_end (table_of keys.now).plan group meter) others.now) }
-    ensures { blocks.new.items ≡ map (λ j. words_of ((table_of keys.now).key (pair_of group meter j)) round) others.now }
+    ensures made { blocks.new.items ≡ map (λ j. words_of ((table_of keys.now).key (pair_of group meter j)) round) others.now }
+    ensures set { IsSet others.now }
 {
     blocks.clear();
     let mut batch = KeyBatch::new(round);
@@ -93,7 +97,8 @@ pub(crate) fn own_blocks(
     meters: &MeterSet,
 )
     requires { IsTrue (list_all (λ i. nat_lt i (size (table_of keys.now).plan.groups group)) meters.now) }
-    ensures { blocks.new.items ≡ map (λ i. words_of ((table_of keys.now).key (Own group i)) round) meters.now }
+    ensures made { blocks.new.items ≡ map (λ i. words_of ((table_of keys.now).key (Own group i)) round) meters.now }
+    ensures set { IsSet meters.now }
 {
     blocks.clear();
     let mut batch = KeyBatch::new(round);
@@ -101,4 +106,17 @@ pub(crate) fn own_blocks(
         batch.put(keys.own(group, meter), blocks);
     }
     batch.finish(blocks);
+}
+
+/// The words of a register in these blocks.
+pub(crate) fn register_row(blocks: &Blocks, register: u8) -> Row
+    requires register { register < 8 }
+    requires room { length blocks.now.items ≤ 256 }
+    ensures { result.items ≡ map (λ block. slice_index block register) blocks.now.items }
+{
+    let mut row = Row::new();
+    for block in blocks.as_slice() {
+        row.push(block[register as usize]);
+    }
+    row
 }

@@ -1,12 +1,12 @@
 //! The side words of a transcript.
 ghost use Rattle.std.specs.Prelude.{◌≡◌, ℕ, ◌<◌, ◌≤◌, ◌++◌, [], ◌∷◌, IfOk, IfSome, OnOk, length, slice_index};
 ghost use Rattle.pair_keys.specs.Keys.{table_of};
-ghost use Rattle.register_words.specs.Hidden.{IsHidden};
+ghost use Rattle.register_words.specs.Readings.{AreReady};
 ghost use Rattle.register_words.specs.SideParts.{FitsFrame, row_by};
 ghost use Rattle.register_words.specs.Sides.{and_rows, rows_of, side_frame, side_row, register_contents, word_for};
 
 use crate::blocks::Blocks;
-use crate::hidden::{HiddenGroup, reading_words};
+use crate::readings::ReadingWords;
 use crate::row::{SideRow, SideWords};
 use crate::shares::answer_words;
 use group_plan::Kind;
@@ -15,6 +15,7 @@ use mod_word::Word;
 use pair_keys::KeyTable;
 use plan_files::Registers;
 use std::alloc::{AllocError, Global};
+use std::thread::Threads;
 use transcript_log::{Line, Transcript};
 use transcript_text::entry_line;
 
@@ -38,25 +39,25 @@ pub(crate) fn side_frame(line: &Line) -> Option<Frame>
     }
 }
 
-// The words of a frame in the registers.
+// The words of a frame in the registers, past register 0.
 fn frame_words(
     alloc: Global,
     blocks: &mut Blocks,
-    kept: &mut Option<HiddenGroup>,
+    readings: &mut ReadingWords,
     tables: &Registers,
     keys: &KeyTable,
     frame: &Frame,
 ) -> Result<[u64; 8], AllocError>
     requires plan { (table_of keys.now).plan ≡ tables.now.plan }
-    requires kept { IfSome kept.old (IsHidden tables.now (table_of keys.now)) }
+    requires ready { AreReady tables.now (table_of keys.now) readings.old }
     requires fits { FitsFrame tables.now.plan frame.now }
-    ensures words { IfOk result (λ words. (k : ℕ) → k < length tables.now.tables → slice_index words k ≡ word_for (register_contents tables.now (table_of keys.now) k) frame.now) }
-    ensures kept { OnOk result (IfSome kept.new (IsHidden tables.now (table_of keys.now))) }
+    ensures words { IfOk result (λ words. (k : ℕ) → 1 ≤ k → k < length tables.now.tables → slice_index words k ≡ word_for (register_contents tables.now (table_of keys.now) k) frame.now) }
+    ensures ready { OnOk result (AreReady tables.now (table_of keys.now) readings.new) }
 {
     let _plan = tables.plan();
     let tag = frame.tag;
     match tag.kind {
-        Kind::Reading => reading_words(alloc, blocks, kept, tables, keys, tag),
+        Kind::Reading => readings.of_reading(alloc, blocks, tables, keys, tag),
         Kind::Announcement => Ok([0; 8]),
         Kind::Answer => {
             let missing = frame.missing.without(tag.meter);
@@ -99,19 +100,19 @@ fn push_row(
 fn side_row(
     alloc: Global,
     blocks: &mut Blocks,
-    kept: &mut Option<HiddenGroup>,
+    readings: &mut ReadingWords,
     tables: &Registers,
     keys: &KeyTable,
     line: u64,
     frame: &Frame,
 ) -> Result<SideRow, AllocError>
     requires plan { (table_of keys.now).plan ≡ tables.now.plan }
-    requires kept { IfSome kept.old (IsHidden tables.now (table_of keys.now)) }
+    requires ready { AreReady tables.now (table_of keys.now) readings.old }
     requires fits { FitsFrame tables.now.plan frame.now }
     ensures row { IfOk result (λ row. row ≡ side_row tables.now (table_of keys.now) line frame.now) }
-    ensures kept { OnOk result (IfSome kept.new (IsHidden tables.now (table_of keys.now))) }
+    ensures ready { OnOk result (AreReady tables.now (table_of keys.now) readings.new) }
 {
-    let words = frame_words(alloc, blocks, kept, tables, keys, frame)?;
+    let words = frame_words(alloc, blocks, readings, tables, keys, frame)?;
     Ok(row_of_words(line, &words, tables.count()))
 }
 
@@ -120,20 +121,20 @@ fn put_row(
     rows: &mut Vec<SideRow>,
     alloc: Global,
     blocks: &mut Blocks,
-    kept: &mut Option<HiddenGroup>,
+    readings: &mut ReadingWords,
     tables: &Registers,
     keys: &KeyTable,
     number: u64,
     frame: Option<Frame>,
 ) -> Result<(), AllocError>
     requires plan { (table_of keys.now).plan ≡ tables.now.plan }
-    requires kept { IfSome kept.old (IsHidden tables.now (table_of keys.now)) }
+    requires ready { AreReady tables.now (table_of keys.now) readings.old }
     requires fits { IfSome frame (λ f. FitsFrame tables.now.plan f) }
     ensures rows { OnOk result (rows.new.items ≡ rows.old.items ++ and_rows tables.now (table_of keys.now) number frame []) }
-    ensures kept { OnOk result (IfSome kept.new (IsHidden tables.now (table_of keys.now))) }
+    ensures ready { OnOk result (AreReady tables.now (table_of keys.now) readings.new) }
 {
     if let Some(frame) = frame {
-        let row = side_row(alloc, blocks, kept, tables, keys, number, &frame)?;
+        let row = side_row(alloc, blocks, readings, tables, keys, number, &frame)?;
         push_row(rows, row.line, row.count, row.words)?;
     }
     Ok(())
@@ -141,7 +142,8 @@ fn put_row(
 
 /// The words in the further registers of each reading and each answer that the transcript has with a frame: reading words of
 /// the registers' tables, and answer words to the frames' missing sets, by the words of the keys that each register has.
-pub fn side_words(
+pub fn side_words<R: Threads + Sync>(
+    rt: &R,
     alloc: Global,
     transcript: &Transcript,
     tables: &Registers,
@@ -154,7 +156,7 @@ pub fn side_words(
     let count = transcript.len();
     let first = entry_line(transcript.plan(), count as u64) - count as u64;
     let mut blocks = Blocks::new();
-    let mut kept = None;
+    let mut readings = ReadingWords::new(rt, alloc, tables, keys)?;
     let mut rows = Vec::new(alloc);
     for at in 0..count {
         let entry = transcript.entry(at);
@@ -162,7 +164,7 @@ pub fn side_words(
             &mut rows,
             alloc,
             &mut blocks,
-            &mut kept,
+            &mut readings,
             tables,
             keys,
             first + at as u64,

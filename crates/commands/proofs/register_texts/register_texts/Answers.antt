@@ -29,7 +29,7 @@ returns-then-not-is_writable g c = (
 )
 
 pub with_words-requires-clause-report : goal.with_words-requires-clause-report
-with_words-requires-clause-report g c =
+with_words-requires-clause-report g c κs within =
     let told = c.in-Ok-finished_texts.ensures in
     subst (λ (t : TranscriptView). (rows : List ReportRow) × (rows_of_text c.in-Ok-finished_texts.texts.report.items ≡ Ok rows) × (length rows ≤ length t.plan.groups * t.plan.rounds)) (sym told.transcript)
     (rows_fit _ (table_of c.in-Ok.file.keys) _ c.in-Ok-run_plan.finished.book c.in-Ok-run_plan.finished.transcript (texts_of c.in-Ok-finished_texts.texts) c.in-Ok-run_plan.ensures.finished told.texts)

@@ -19,7 +19,7 @@ answer_words-requires-clause-missing c =
     (set_ends c.args.tables.now.plan tag.group tag.meter c.args.frame.now.missing c.requires.fits.set))
 
 pub returns-in-Answer-clause-words : goal.returns-in-Answer-clause-words
-returns-in-Answer-clause-words c k lt =
+returns-in-Answer-clause-words c k further lt =
     let tag = c.args.frame.now.tag in
     let keys = table_of c.args.keys.now in
     let most = c.plan-plan.ensures.sound.most in

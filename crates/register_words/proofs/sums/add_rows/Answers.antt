@@ -28,7 +28,7 @@ pair_blocks-requires-clause-others c =
     c.in-Some.low _ c.without-higher.result c.loop-low.invariant c.in-Some.ensures.steps c.without-higher.ensures)).0
 
 pub take_row-row-requires-clause-row : goal.take_row-row-requires-clause-row
-take_row-row-requires-clause-row c = ap length c.pair_blocks.ensures ∙ length-map c.without-higher.result (λ j. words_of ((table_of c.args.keys.now).key (pair_of c.args.group c.in-Some.low j)) c.args.round)
+take_row-row-requires-clause-row c = ap length c.pair_blocks.ensures.made ∙ length-map c.without-higher.result (λ j. words_of ((table_of c.args.keys.now).key (pair_of c.args.group c.in-Some.low j)) c.args.round)
 
 pub take_row-row-requires-clause-within : goal.take_row-row-requires-clause-within
 take_row-row-requires-clause-within c =
@@ -51,8 +51,8 @@ loop-low-preserved c =
     omega (arith, c.take_row-row.auto.sums, next_within keys.plan g r (pair_words keys g r) c.args.members.now c.loop-low.low-iterator c.loop-low.higher c.args.sums.now c.loop-low.sums low c.next.new.self c.loop-low.invariant c.in-Some.ensures.steps) in
     columns_next keys.plan g r (pair_words keys g r) c.args.members.now _ c.loop-low.higher c.args.sums.now c.loop-low.sums
     low _ others c.take_row-row.new.sums c.take_row-row.result _ c.loop-low.invariant c.in-Some.ensures.steps c.without-higher.ensures inside
-    (λ k h. c.take_row-row.ensures.sums (λ j. words_of (keys.key (pair_of g low j)) r) c.pair_blocks.ensures k h ∙ ap (λ (row : ℕ → ℕ). taken_from row others (column 0 k c.loop-low.sums)) (pair_at keys g r low k h))
-    (λ k h. c.take_row-row.ensures.row (λ j. words_of (keys.key (pair_of g low j)) r) c.pair_blocks.ensures k h ∙ ap (λ (row : ℕ → ℕ). word (sum_by row others)) (pair_at keys g r low k h))
+    (λ k h. c.take_row-row.ensures.sums (λ j. words_of (keys.key (pair_of g low j)) r) c.pair_blocks.ensures.made k h ∙ ap (λ (row : ℕ → ℕ). taken_from row others (column 0 k c.loop-low.sums)) (pair_at keys g r low k h))
+    (λ k h. c.take_row-row.ensures.row (λ j. words_of (keys.key (pair_of g low j)) r) c.pair_blocks.ensures.made k h ∙ ap (λ (row : ℕ → ℕ). word (sum_by row others)) (pair_at keys g r low k h))
     c.add.ensures
 
 pub returns-clause-rows : goal.returns-clause-rows

@@ -16,7 +16,7 @@ pub own_blocks-requires : goal.own_blocks-requires
 own_blocks-requires c = places-within (table_of c.args.keys.now).plan c.args.group c.args.round (size (table_of c.args.keys.now).plan.groups c.args.group) c.args.members.now refl c.requires.places
 
 pub put_owns-requires-clause-row : goal.put_owns-requires-clause-row
-put_owns-requires-clause-row c = ap length c.own_blocks.ensures ∙ length-map c.args.members.now (λ i. words_of ((table_of c.args.keys.now).key (Own c.args.group i)) c.args.round)
+put_owns-requires-clause-row c = ap length c.own_blocks.ensures.made ∙ length-map c.args.members.now (λ i. words_of ((table_of c.args.keys.now).key (Own c.args.group i)) c.args.round)
 
 pub put_owns-requires-clause-within : goal.put_owns-requires-clause-within
 put_owns-requires-clause-within c = places-within (table_of c.args.keys.now).plan c.args.group c.args.round (length c.args.sums.now) c.args.members.now c.requires.meters c.requires.places
@@ -35,4 +35,4 @@ returns c k h =
     (places-within keys.plan g r (length sums) members c.requires.meters c.requires.places)
     (length-column 0 k sums)
     (c.add_rows.ensures.rows k h ∙ ap (with_rows (pair_words keys g r k) members)
-    (c.put_owns.ensures (λ i. words_of (keys.key (Own g i)) r) c.own_blocks.ensures k h ∙ ap (λ (own : ℕ → ℕ). with_owns own members (column 0 k sums)) (own_at keys g r k h)))
+    (c.put_owns.ensures (λ i. words_of (keys.key (Own g i)) r) c.own_blocks.ensures.made k h ∙ ap (λ (own : ℕ → ℕ). with_owns own members (column 0 k sums)) (own_at keys g r k h)))
