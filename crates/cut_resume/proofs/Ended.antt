@@ -300,12 +300,12 @@ after_few (line ∷ lines) = by_test (bytes_eq line (codes "begin")) (after_few 
     by_test true few = omega arith
     by_test false few = omega arith
 
-but_last_push : (lines : List (List ℕ)) (last : List ℕ) → but_last (lines ++ last ∷ []) ≡ lines
+pub but_last_push : (lines : List (List ℕ)) (last : List ℕ) → but_last (lines ++ last ∷ []) ≡ lines
 but_last_push [] last = refl
 but_last_push (line ∷ []) last = refl
 but_last_push (line ∷ next ∷ more) last = ap (λ l. line ∷ l) (but_last_push (next ∷ more) last)
 
-any_push : (lines : List (List ℕ)) (line : List ℕ) → is_end line ≡ true → list_any is_end (lines ++ line ∷ []) ≡ true
+pub any_push : (lines : List (List ℕ)) (line : List ℕ) → is_end line ≡ true → list_any is_end (lines ++ line ∷ []) ≡ true
 any_push [] line h = or_left (is_end line) false h
 any_push (first ∷ lines) line h = or_right (is_end first) (list_any is_end (lines ++ line ∷ [])) (any_push lines line h)
 
@@ -329,8 +329,8 @@ module _ (text : List ℕ) (long : length text < 2 ^ 63) where
   whole_clean : AllClean 10 (whole_lines text)
   whole_clean = front_clean 10 (whole_lines text) (last_part (parts 10 text) ∷ []) (subst (AllClean 10) split (parts_are_clean 10 text))
 
-  few : after_begin (whole_lines text) < 2 ^ 64
-  few =
+  pub few_after : after_begin (whole_lines text) < 2 ^ 64
+  few_after =
       let count = ap length split in
       let all = length-append (whole_lines text) (last_part (parts 10 text) ∷ []) in
       omega (arith, long, count, all, few_parts text, after_few (whole_lines text))
@@ -355,5 +355,5 @@ module _ (text : List ℕ) (long : length text < 2 ^ 63) where
       by_test false h =
           let last : List ℕ = end_line (after_begin (whole_lines text)) in
           has_end (whole_lines text ++ last ∷ [])
-          (clean_push (whole_lines text) last whole_clean (clean_append 10 (codes "end,") (decimal (after_begin (whole_lines text))) refl (clean_decimal 10 (after_begin (whole_lines text)) (omega arith) few)))
+          (clean_push (whole_lines text) last whole_clean (clean_append 10 (codes "end,") (decimal (after_begin (whole_lines text))) refl (clean_decimal 10 (after_begin (whole_lines text)) (omega arith) few_after)))
           (any_push (whole_lines text) last (end_is_end (after_begin (whole_lines text))))

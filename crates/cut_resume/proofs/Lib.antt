@@ -9,4 +9,8 @@ pub mod Picks
 pub mod LeftLemmas
 pub mod Replayed
 pub mod MadeLemmas
+pub mod HeardLemmas
+pub mod LastLine
+pub mod BegunBytes
 pub mod ResumedLemmas
+pub mod InTime

@@ -1,5 +1,5 @@
 -- A run whose entries follow those of a cut is that run; and where they do not, the cut is not on course.
-use Rattle.std.proofs.Common.{◌≡◌, ℕ, ◌*◌, ◌<◌, ◌≤◌, List, [], ◌∷◌, ◌++◌, length, take, get_or, sym, ap, ◌∙◌, subst, arith, Ok, Err}
+use Rattle.std.proofs.Common.{◌≡◌, ℕ, ◌*◌, ◌<◌, ◌≤◌, List, [], ◌∷◌, ◌++◌, length, take, drop, get_or, sym, ap, ◌∙◌, subst, arith, Ok, Err}
 use Rattle.std.specs.Prelude.{Result}
 use Rattle.std.specs.List.{All}
 use Rattle.std.proofs.lemmas.List.{take_more}
@@ -19,14 +19,16 @@ use Rattle.run_rows.specs.Runs.{IsRun}
 use Rattle.run_rows.specs.Ticks.{Clock, IsOrdered, IsRunPlan, IsTickRun, NoneBefore, clock_of, moment}
 use Rattle.run_rows.proofs.PlanLemmas.{can_run}
 use Rattle.tick_run.specs.declared.finished.Finished.{Finished}
-use Rattle.tick_run.specs.Finished.{IsFinished, IsFinishedUnder}
+use Rattle.tick_run.specs.Finished.{HasRowsOf, IsFinished, IsFinishedUnder}
 use Rattle.tick_run.proofs.RowsOf.{rows-are}
 use Rattle.tick_run.proofs.ShapeLemmas.{shapes-same}
 use Rattle.cut_resume.specs.declared.errors.ResumeError.{ResumeError}
 use Rattle.cut_resume.specs.declared.errors.ResumeError.TheVariants.{NotThis, Memory}
+use Rattle.cut_resume.specs.Heard.{AreFirst}
 use Rattle.cut_resume.specs.Left.{IsNoneOf, Leaves}
 use Rattle.cut_resume.specs.OnCourse.{IsFirstOff, OnCourse}
-use Rattle.cut_resume.specs.Resumed.{Follows, FollowEnds, ResumeEnds}
+use Rattle.cut_resume.specs.Resumed.{Follows, FollowEnds, IsResumed, ResumeEnds}
+use Rattle.cut_resume.proofs.HeardLemmas.{begins}
 use Rattle.cut_resume.proofs.Moves.{all-two, leaves_keep, ordered_moved, run_moved}
 use Rattle.cut_resume.proofs.OnCourse.{beginnings_are_on_course}
 use Rattle.cut_resume.proofs.Picks.{picks}
@@ -137,3 +139,13 @@ resume_ends readings keys slots run cut (Ok f) plan is members follows =
     }
 resume_ends readings keys slots run cut (Err (NotThis n)) plan is members follows = (follows.0, follows.1, first_off readings (streams keys) slots run cut.entries follows.0 is members follows.2)
 resume_ends readings keys slots run cut (Err Memory) plan is members follows = tt
+
+-- a run that begins with the entries of the cut in their order
+pub resumed_itself : (readings : ReadingsView) (keys : Keys) (slots : List Slot) (run : Finished) (cut : TranscriptView) → IsFinished readings keys slots run.book run.transcript → HasRowsOf run.transcript.entries run.book
+    → AreFirst cut.entries run.transcript.entries (length cut.entries) → IsResumed readings keys slots cut run
+resumed_itself readings keys slots run cut finished report first = record {
+  finished = finished;
+  report = report;
+  more = drop (length cut.entries) run.transcript.entries;
+  begins = begins cut.entries run.transcript.entries first;
+}

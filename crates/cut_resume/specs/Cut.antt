@@ -1,5 +1,6 @@
 -- The cut of a text: its whole lines, with an `end` line where none of them is one.
-use Rattle.std.specs.Prelude.{◌≡◌, ℕ, Bool, List, [], ◌∷◌, ◌++◌, length, codes, decimal, bytes_eq, Result, Ok, Err, ⊤, if◌then◌else◌}
+use Rattle.std.specs.Prelude.{◌≡◌, ℕ, ◌+◌, Bool, List, [], ◌∷◌, ◌++◌, length, codes, decimal, bytes_eq, Option, Some, None, Result, Ok, Err, ⊤, if◌then◌else◌}
+use Rattle.std.specs.Borrow.{Bor}
 use Rattle.std.specs.List.{list_any}
 use Rattle.field_texts.specs.Parts.{parts}
 use Rattle.transcript_log.specs.Transcripts.{TranscriptView}
@@ -30,6 +31,15 @@ is_end line = bytes_eq (at (parts 44 line) 0) (codes "end")
 abbrev pub after_begin : List (List ℕ) → ℕ
 after_begin [] = 0
 after_begin (line ∷ rest) = if bytes_eq line (codes "begin") then length rest else after_begin rest
+
+-- the text before the last newline and that after it, where there is one
+abbrev pub CutsLast : List ℕ → Option (Bor (List ℕ) × Bor (List ℕ)) → Type 0
+CutsLast text None = parts 10 text ≡ text ∷ []
+CutsLast text (Some x) = (parts 10 text ≡ parts 10 x.0.now ++ x.1.now ∷ []) × (length text ≡ length x.0.now + 1 + length x.1.now)
+
+-- it is the last of the parts of a text
+abbrev pub IsLastPart : List ℕ → List ℕ → Type 0
+IsLastPart text last = (before : List (List ℕ)) × (parts 10 text ≡ before ++ last ∷ [])
 
 -- the `end` line of so many entries
 abbrev pub end_line : ℕ → List ℕ

@@ -1,4 +1,5 @@
 pub mod Cut
+pub mod Heard
 pub mod Left
 pub mod Made
 pub mod OnCourse

@@ -1,17 +1,24 @@
 -- What the laws of this crate say. Each is proved for every plan, presence, list of lanes, words and lists of entries.
-use Rattle.std.specs.Prelude.{◌≡◌, ℕ, true, List, [], ◌∷◌, ◌++◌}
-use Rattle.group_plan.specs.Tables.{PresenceView}
+use Rattle.std.specs.Prelude.{◌≡◌, ℕ, true, List, [], ◌∷◌, ◌++◌, Result, Ok, Err, ⊤}
+use Rattle.group_plan.specs.Tables.{PresenceView, ReadingsView}
 use Rattle.group_book.specs.Groups.{GroupView}
 use Rattle.group_book.specs.Replay.{AreReplayed}
 use Rattle.link_lanes.specs.Lanes.{Slot}
+use Rattle.pair_keys.specs.Keys.{Keys}
 use Rattle.transcript_log.specs.declared.Entry.{Entry}
 use Rattle.transcript_log.specs.Events.{lines_of}
 use Rattle.transcript_log.specs.Schedule.{Shape}
 use Rattle.transcript_log.specs.Transcript.{Contents}
+use Rattle.transcript_log.specs.Transcripts.{IsTranscript, TranscriptView}
 use Rattle.run_rows.specs.Ticks.{Clock, HaveDelays}
 use Rattle.run_rows.specs.Runs.{IsRun}
+use Rattle.run_course.specs.declared.errors.CourseError.{CourseError}
+use Rattle.run_course.specs.declared.errors.CourseError.TheVariants as course
+use Rattle.run_course.specs.Ends.{CourseEnds}
+use Rattle.tick_run.specs.declared.finished.Finished.{Finished}
 use Rattle.cut_resume.specs.Order.{may_pass}
 use Rattle.cut_resume.specs.OnCourse.{AreOnCourse, IsNext, IsWholeTick}
+use Rattle.cut_resume.specs.Resumed.{ResumeEnds}
 
 -- a run of these lanes and words begins with these entries
 abbrev pub BeginsRun : Shape → Clock → List Slot → Contents → List Entry → Type 0
@@ -45,3 +52,27 @@ OrdersSayNothing = (s : Shape) (c : Clock) (slots : List Slot) (words : Contents
 abbrev pub BooksKeepAsMuch : Type 0
 BooksKeepAsMuch = (p : PresenceView) (groups : List GroupView) (before after : List Entry) (x e : Entry) → may_pass e x ≡ true →
     AreReplayed p (lines_of (before ++ x ∷ e ∷ after)) groups → AreReplayed p (lines_of (before ++ e ∷ x ∷ after)) groups
+
+-- ---- times
+
+-- no entry is refused
+abbrev pub RefusesNone : Result (Unit {0}) CourseError → Type 0
+RefusesNone (Err (course.Entry k)) = ⊥
+RefusesNone _ = ⊤
+
+-- no entry is refused, nor that there are no more
+abbrev pub LetsPass : Result (Unit {0}) CourseError → Type 0
+LetsPass (Ok _) = ⊤
+LetsPass (Err course.Memory) = ⊤
+LetsPass (Err _) = ⊥
+
+-- what the judge of times answers: of the cut that it refuses no entry, and of the run that it passes
+pub record AreInTime (cut run : TranscriptView) : Type 0 where
+  pub of_cut : (answer : Result (Unit {0}) CourseError) → CourseEnds cut answer → RefusesNone answer
+  pub of_run : (answer : Result (Unit {0}) CourseError) → CourseEnds run answer → LetsPass answer
+
+-- a cut from which a run goes on is in time, and so is the run
+abbrev pub ResumedRunsAreInTime : Type 0
+ResumedRunsAreInTime =
+    (readings : ReadingsView) (keys : Keys) (slots : List Slot) (cut : TranscriptView) (f : Finished) → cut.plan ≡ readings.plan → IsTranscript f.transcript
+    → ResumeEnds readings keys slots cut (Ok f) → AreInTime cut f.transcript

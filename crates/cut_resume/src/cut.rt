@@ -1,6 +1,6 @@
 //! The reader of a cut text.
 
-ghost use Rattle.std.specs.Prelude.{◌≡◌, ◌≤◌, ◌<◌, ◌+◌, ◌^◌, ◌||◌, ◌++◌, ℕ, List, length, take, codes, bytes_eq, IfOk, Ok, Result, Err, if◌then◌else◌};
+ghost use Rattle.std.specs.Prelude.{◌≡◌, ◌≤◌, ◌<◌, ◌+◌, ◌^◌, ◌||◌, ◌++◌, ℕ, List, length, take, codes, bytes_eq, true, false, IfOk, IfSome, Ok, Result, Err, if◌then◌else◌};
 ghost use Rattle.std.specs.List.{list_any};
 ghost use Rattle.transcript_log.specs.Transcripts.{IsTranscript, TranscriptView, no_entries};
 ghost use Rattle.transcript_text.specs.declared.Version.TheVariants.{Two};
@@ -10,12 +10,15 @@ ghost use Rattle.transcript_text.specs.Reading.{Fails};
 ghost use Rattle.transcript_text.specs.Faults.{lines_text};
 ghost use Rattle.transcript_text.specs.Heads.{read_of};
 ghost use Rattle.transcript_text.specs.Spelling.{ended, transcript_text};
+ghost use Rattle.transcript_text.specs.Writing.{begun_text};
 ghost use Rattle.cut_resume.specs.Left.{Decides};
-ghost use Rattle.cut_resume.specs.Cut.{whole_lines, is_end, after_begin, end_line, completed, HasEnd, CutEnds};
+ghost use Rattle.cut_resume.specs.Cut.{whole_lines, is_end, after_begin, end_line, completed, CutsLast, IsLastPart, HasEnd, CutEnds};
 
 use crate::errors::CutError;
 use field_texts::{cut, cut_far, put_number};
 use group_plan::Plan;
+use itoa::Buffer;
+use memchr::memrchr;
 use std::alloc::{AllocError, Global};
 use transcript_log::Transcript;
 use transcript_text::{ReadError, read, write};
@@ -41,7 +44,7 @@ struct WholeLines {
     bytes: usize,
     /// Whether one of them has the first field `end`.
     is_ended: bool,
-    /// How many of them stand after `begin`.
+    /// How many of them stand after `begin`, where none has the first field `end`.
     after_begin: u64,
 }
 
@@ -69,8 +72,8 @@ fn see(seen: Seen, line: &[u8]) -> Seen
     }
 }
 
-/// The whole lines of a text.
-fn whole_lines(text: &[u8]) -> WholeLines
+/// The whole lines of a text, one after another.
+fn each_line(text: &[u8]) -> WholeLines
     ensures few { length text.now < 2 ^ 63 }
     ensures within { result.bytes ≤ length text.now }
     ensures bytes { take result.bytes text.now ≡ lines_text (whole_lines text.now) }
@@ -91,6 +94,61 @@ fn whole_lines(text: &[u8]) -> WholeLines
         bytes: text.len() - rest.len(),
         is_ended: seen.is_ended,
         after_begin: seen.after_begin,
+    }
+}
+
+/// The text before its last newline, and that after it, or nothing where there is none.
+fn cut_last(text: &[u8]) -> Option<(&[u8], &[u8])>
+    ensures { CutsLast text.now result }
+{
+    match memrchr(b'\n', text) {
+        Some(end) => Some((&text[..end], &text[end + 1..])),
+        None => None,
+    }
+}
+
+/// The last line of a text that does not end with a newline.
+fn last_line(text: &[u8]) -> &[u8]
+    ensures { IsLastPart text.now result.now }
+{
+    match cut_last(text) {
+        Some((_, line)) => line,
+        None => text,
+    }
+}
+
+/// How many bytes the whole lines of a text are, where the last of them has the first field `end`.
+fn ended_lines(text: &[u8]) -> Option<usize>
+    ensures few { length text.now < 2 ^ 63 }
+    ensures within { IfSome result (λ n. n ≤ length text.now) }
+    ensures bytes { IfSome result (λ n. take n text.now ≡ lines_text (whole_lines text.now)) }
+    ensures ended { IfSome result (λ _. list_any is_end (whole_lines text.now) ≡ true) }
+{
+    let Some((lines, _)) = cut_last(text) else {
+        return None;
+    };
+    if is_end(last_line(lines)) {
+        Some(lines.len() + 1)
+    } else {
+        None
+    }
+}
+
+/// The whole lines of a text. Where the last of them has the first field `end`, the others are not looked at.
+fn whole_lines(text: &[u8]) -> WholeLines
+    ensures few { length text.now < 2 ^ 63 }
+    ensures within { result.bytes ≤ length text.now }
+    ensures bytes { take result.bytes text.now ≡ lines_text (whole_lines text.now) }
+    ensures ended { result.is_ended ≡ list_any is_end (whole_lines text.now) }
+    ensures after_begin { result.is_ended ≡ false → result.after_begin ≡ after_begin (whole_lines text.now) }
+{
+    match ended_lines(text) {
+        Some(bytes) => WholeLines {
+            bytes,
+            is_ended: true,
+            after_begin: 0,
+        },
+        None => each_line(text),
     }
 }
 
@@ -126,6 +184,7 @@ fn fault(error: ReadError) -> CutError
 fn read_ended(alloc: Global, text: &[u8]) -> Result<Transcript, CutError>
     requires { HasEnd text.now }
     ensures exact { CutEnds result (read_of Two text.now) }
+    ensures found { IfOk result (λ t. text.now ≡ transcript_text t) }
     ensures sound { IfOk result (λ t. IsTranscript t) }
 {
     match read(alloc, text) {
@@ -138,6 +197,7 @@ fn read_ended(alloc: Global, text: &[u8]) -> Result<Transcript, CutError>
 /// first field `end`, they are read with the `end` line of their entries, in a copy of the text.
 pub fn read_cut(alloc: Global, bytes: &[u8]) -> Result<Transcript, CutError>
     ensures exact { CutEnds result (read_of Two (completed bytes.now)) }
+    ensures found { IfOk result (λ t. completed bytes.now ≡ transcript_text t) }
     ensures sound { IfOk result (λ t. IsTranscript t) }
 {
     let whole = whole_lines(bytes);
@@ -147,6 +207,28 @@ pub fn read_cut(alloc: Global, bytes: &[u8]) -> Result<Transcript, CutError>
     }
     let text = with_end(alloc, lines, whole.after_begin)?;
     read_ended(alloc, &text)
+}
+
+/// How many bytes the `end` line of so many entries has, with its newline.
+fn end_len(count: u64) -> usize
+    ensures { result ≡ length (ended (end_line count)) }
+{
+    let mut number = Buffer::new();
+    b"end,\n".len() + number.format(count).len()
+}
+
+/// The bytes of a text that are the head and the entries of the cut that it is read as: all of its whole lines but the `end` line.
+pub fn begun_bytes<'b>(bytes: &'b [u8], cut: &Transcript) -> &'b [u8]
+    requires { completed bytes.now ≡ transcript_text cut.now }
+    ensures { result.now ≡ begun_text cut.now.plan cut.now.entries }
+{
+    let entries = cut.len();
+    let whole = whole_lines(bytes);
+    if whole.is_ended {
+        let end = end_len(entries as u64);
+        return &bytes[..whole.bytes - end];
+    }
+    &bytes[..whole.bytes]
 }
 
 // The text of a transcript of the plan, before its first entry.

@@ -1,6 +1,6 @@
 //! What holds of entries on course. Each law is a contract with an empty body.
 
-ghost use Rattle.cut_resume.specs.Statements.{BeginningsAreOnCourse, BooksKeepAsMuch, CoursesGoOnByOne, OrdersSayNothing, WholeTicksAreRuns};
+ghost use Rattle.cut_resume.specs.Statements.{BeginningsAreOnCourse, BooksKeepAsMuch, CoursesGoOnByOne, OrdersSayNothing, ResumedRunsAreInTime, WholeTicksAreRuns};
 
 /// The entries with which a run begins are on course.
 pub fn beginnings()
@@ -21,4 +21,9 @@ pub fn whole_ticks()
 pub fn orders()
     ensures runs { OrdersSayNothing }
     ensures books { BooksKeepAsMuch }
+{}
+
+/// What `resume_plan` goes on from, `run_course::in_time` lets pass: no entry of the cut, and nothing in the run, is refused.
+pub fn times()
+    ensures { ResumedRunsAreInTime }
 {}

@@ -33,7 +33,8 @@ fn is_same_line(one: &Line, other: &Line) -> bool
     one == other
 }
 
-fn is_same(one: &Entry, other: &Entry) -> bool
+/// Whether two entries are the same.
+pub(crate) fn is_same(one: &Entry, other: &Entry) -> bool
     ensures { Decides (one.now ≡ other.now) result }
 {
     if one.tick != other.tick {

@@ -4,11 +4,12 @@
 
 mod cut;
 mod errors;
+mod heard;
 pub mod laws;
 mod left;
 mod made;
 mod resume;
 
-pub use cut::{is_of_plan, read_cut};
+pub use cut::{begun_bytes, is_of_plan, read_cut};
 pub use errors::{CutError, ResumeError};
 pub use resume::resume_plan;

@@ -9,29 +9,20 @@ ghost use Rattle.transcript_log.specs.Events.{lines_of};
 ghost use Rattle.cut_resume.specs.Resumed.{FollowEnds, ResumeEnds};
 
 use crate::ResumeError;
+use crate::heard::{Heard, run_beside};
 use crate::left::pick_all;
 use crate::made::{Made, remake};
 use collector_workers::Gate;
 use group_book::{Book, Parts};
 use group_plan::{Plan, Presence, Readings};
 use link_lanes::{Lane, Rack};
+use mask_stream::ChaMasks;
 use pair_keys::KeyTable;
 use std::alloc::Global;
 use std::sync::Wait;
 use std::thread::Threads;
-use tick_run::{Crew, Finished, RunError, run_plan};
+use tick_run::{Crew, Finished};
 use transcript_log::Transcript;
-
-impl From<RunError> for ResumeError {
-    ghost use Rattle.std.specs.Prelude.{◌≡◌};
-    ghost use Rattle.cut_resume.specs.declared.errors.ResumeError.TheVariants.{Memory};
-
-    ghost from_gives = { λ _ e. e ≡ Memory };
-
-    fn from(_error: RunError) -> ResumeError {
-        ResumeError::Memory
-    }
-}
 
 /// Learns that only members have a reading.
 fn presence_is_of_members(presence: &Presence)
@@ -73,8 +64,8 @@ fn follow(alloc: Global, run: Finished, cut: &Transcript) -> Result<Finished, Re
     })
 }
 
-/// Goes on from a cut: the run of a plan, with the entries of the cut first. The plan is run again from its first tick, and the
-/// cut's entries are picked out of its own.
+/// Goes on from a cut: the run of a plan, with the entries of the cut first. The plan is run again from its first tick. Where its
+/// entries begin with the cut's, it is the run; else the cut's entries are picked out of its own.
 pub fn resume_plan<R: Threads + Wait + Sync, G: Gate>(
     crew: &Crew<'_, R, G>,
     plan: &Plan,
@@ -90,6 +81,10 @@ pub fn resume_plan<R: Threads + Wait + Sync, G: Gate>(
     requires cut { cut.now.plan ≡ plan.now }
     ensures { ResumeEnds readings.now (table_of keys.now) (slots (λ b. meaning (b.vtable, b.value)) rack.old) cut.now result }
 {
-    let run = run_plan(crew, plan, readings, keys, rack)?;
+    let masks = ChaMasks::new(keys);
+    let Heard { run, is_in_order } = run_beside(crew, readings, &masks, rack, cut)?;
+    if is_in_order {
+        return Ok(run);
+    }
     follow(crew.alloc, run, cut)
 }

@@ -11,3 +11,4 @@ pub mod Finishing
 pub mod Refusals
 pub mod Noting
 pub mod CourseLemmas
+pub mod SomeRuns

@@ -6,3 +6,4 @@ pub mod Stages
 pub mod Marks
 pub mod Removing
 pub mod Courses
+pub mod Statements

@@ -4,6 +4,7 @@
 mod course;
 mod errors;
 mod judging;
+pub mod laws;
 mod marks;
 mod owed;
 mod waiting;

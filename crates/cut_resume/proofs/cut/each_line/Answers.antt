@@ -1,6 +1,6 @@
 use Rattle.std.proofs.Common.{◌≤◌, ℕ, Bool, true, false, cond, sym, ◌∙◌, arith}
 use Rattle.cut_resume.proofs.WholeLines.{after_more, bytes_are, ended_more, last_more}
-use Rattle.cut_resume.proofs.cut.whole_lines.Goals as goal
+use Rattle.cut_resume.proofs.cut.each_line.Goals as goal
 
 few : (q : Bool) → cond {A = ℕ} q 1 0 ≤ 1
 few true = omega arith

@@ -4,7 +4,7 @@ use Rattle.std.specs.List.{list_any}
 use Rattle.field_texts.specs.Parts.{parts}
 use Rattle.cut_resume.specs.Cut.{after_begin, is_end, whole_lines}
 use Rattle.cut_resume.proofs.WholeLines.{after_all, last_part}
-use Rattle.cut_resume.proofs.cut.whole_lines.Given as goal
+use Rattle.cut_resume.proofs.cut.each_line.Given as goal
 
 abbrev pub invariant-loop-line : goal.invariant-loop-line
 invariant-loop-line l = record {
