@@ -11,7 +11,7 @@ mod meter_journal;
 mod said;
 
 pub use head_end_journal::{put_logged, read_logged};
-pub use heads::journal_head;
+pub use heads::{HeadFound, find_head, journal_head, meter_journal_head};
 pub use heard::{ToHeadEnd, ToMeter, read_to_head_end, read_to_meter};
 pub use meter_journal::{put_noted, read_noted};
 pub use said::{HeadEndSays, MeterSays, put_head_end_says, put_meter_says};

@@ -11,6 +11,13 @@ abbrev pub MakesPart : PlanView → ℕ → ℕ → Option Part → Type 0
 MakesPart home g i None = ((length home.groups == 1) && nat_lt i (size home.groups 0)) ≡ false
 MakesPart home g i (Some part) = (((length home.groups == 1) && nat_lt i (size home.groups 0)) ≡ true) × (part.home ≡ home) × (part.group ≡ g) × (part.meter ≡ i)
 
+-- the meter's group as a plan of one group, and the number by which frames name it
+abbrev pub home_of : Part → PlanView
+home_of part = part.home
+
+abbrev pub group_of : Part → ℕ
+group_of part = part.group
+
 -- the members of the meter's group in round r
 abbrev pub members_in : Part → ℕ → List ℕ
 members_in part r = members part.home.groups 0 r

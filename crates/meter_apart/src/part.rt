@@ -18,7 +18,7 @@ pub struct Part {
 }
 
 impl Part {
-    ghost use Rattle.meter_apart.specs.Parts.{MakesPart, members_in, takes_part, own_tag, is_to_me};
+    ghost use Rattle.meter_apart.specs.Parts.{MakesPart, home_of, group_of, members_in, takes_part, own_tag, is_to_me};
 
     /// The part of a meter, or `None` where the plan has another number of groups than one, or no such meter.
     pub fn new(home: Plan, group: u16, meter: u8) -> Option<Part>
@@ -37,6 +37,23 @@ impl Part {
         ensures most { result ≤ 4096 }
     {
         self.home.rounds()
+    }
+
+    /// The meter's group as a plan of one group. Its windows mean nothing.
+    pub fn home(&self) -> &Plan
+        ensures home { result.now ≡ home_of self.now }
+        ensures one { length (home_of self.now).groups ≡ 1 }
+        ensures meter { self.now.meter < size (home_of self.now).groups 0 }
+    {
+        let _rounds = self.home.rounds();
+        &self.home
+    }
+
+    /// The number by which frames name the group.
+    pub fn group(&self) -> u16
+        ensures { result ≡ group_of self.now }
+    {
+        self.group
     }
 
     /// The number of the meter in its group.

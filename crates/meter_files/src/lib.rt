@@ -1,0 +1,13 @@
+//! Meter files: what a meter has of its plan, with its keys; and the head of its journal.
+#![tactic(auto)]
+
+mod file;
+mod journal;
+mod names;
+mod putting;
+mod rows;
+
+pub use file::meter_text;
+pub use journal::journal_head;
+pub use names::{PartFile, part_name};
+pub use putting::{PartFailure, put_parts};
