@@ -7,7 +7,7 @@ use Rattle.std.proofs.lemmas.List.{get_or_default, get_or_past, get_or-replicate
 use Rattle.std.proofs.lemmas.List.FromFn.{length-map-range_with_len, get_or-map-range_with_len}
 use Rattle.group_plan.specs.Plans.{PlanView, size, is_place, is_member, IsWithinLimits}
 use Rattle.group_plan.specs.Places.{place_at, places}
-use Rattle.group_plan.specs.Tables.{Table, entry, table_of, IsTable, reading, IsReadingTable, ReadingsView, absent, is_same_place, PutsReading, is_present, IsPresenceTable, PresenceView, presence_of}
+use Rattle.group_plan.specs.Tables.{Table, entry, table_of, IsTable, reading, IsReadingTable, ReadingsView, absent, is_same_place, PutsReading, NotesReading, is_present, IsPresenceTable, PresenceView, presence_of}
 use Rattle.group_plan.specs.TableParts.{kept_table, KeepsReadings, KeepsPresence}
 use Rattle.group_plan.proofs.MeterNumbers.{group-lt, in_place, place_at-lt, same_place}
 
@@ -283,6 +283,33 @@ puts_now now plan kept keeps view g r i value n is at =
     let place : is_place plan g r i ≡ true = ap (λ t. is_place t.plan g r i) view ∙ is in
     let new : ℕ → ReadingsView = λ k. record { plan = plan; table = kept_table None plan (set kept k value) } in
     subst (λ t. PutsReading t g r i value (new n)) view (subst (λ k. PutsReading (record { plan = plan; table = kept_table None plan kept }) g r i value (new k)) (sym at) (puts plan kept g r i value keeps.long place))
+
+pub keeps_note : (plan : PlanView) (kept : List Bool) (g r i : ℕ) → KeepsPresence plan kept → is_place plan g r i ≡ true → is_member plan.groups g r i ≡ true → KeepsPresence plan (set kept (place_at plan g r i) true)
+keeps_note plan kept g r i keeps is member = record {
+  within = keeps.within;
+  long = length-set kept (place_at plan g r i) true ∙ keeps.long;
+  of_members = λ a b c there. member_at a b c there (is_same_place g r i a b c) refl;
+}
+  where
+    member_at : (a b c : ℕ) → is_place plan a b c ≡ true → (same : Bool) → is_same_place g r i a b c ≡ same → get_or (set kept (place_at plan g r i) true) (place_at plan a b c) false ≡ true → is_member plan.groups a b c ≡ true
+    member_at a b c there true same present = let one = one_place g r i a b c same in rw (one.0, one.1, one.2) member
+    member_at a b c there false apart present = keeps.of_members a b c there (sym (set_there false plan kept g r i true a b c is there apart) ∙ present)
+
+notes : (plan : PlanView) (kept : List Bool) (g r i : ℕ) → length kept ≡ places plan → is_place plan g r i ≡ true → NotesReading (record { plan = plan; table = kept_table false plan kept }) g r i (record { plan = plan; table = kept_table false plan (set kept (place_at plan g r i) true) })
+notes plan kept g r i long is = record {
+  plan = refl;
+  here = at_place false plan (set kept (place_at plan g r i) true) g r i is ∙ set_here false plan kept g r i true long is;
+  elsewhere = λ a b c apart. elim (cases_Bool (is_place plan a b c)) [
+    | inl there ↦ at_place false plan (set kept (place_at plan g r i) true) a b c there ∙ set_there false plan kept g r i true a b c is there apart ∙ sym (at_place false plan kept a b c there)
+    | inr out ↦ outside false plan (set kept (place_at plan g r i) true) a b c out ∙ sym (outside false plan kept a b c out)
+  ];
+}
+
+pub notes_now : (now : PresenceView) (plan : PlanView) (kept : List Bool) → KeepsPresence plan kept → ◌≡◌ {A = PresenceView} (record { plan = plan; table = kept_table false plan kept }) now → (g r i n : ℕ) → is_place now.plan g r i ≡ true → n ≡ place_at plan g r i → NotesReading now g r i (record { plan = plan; table = kept_table false plan (set kept n true) })
+notes_now now plan kept keeps view g r i n is at =
+    let place : is_place plan g r i ≡ true = ap (λ t. is_place t.plan g r i) view ∙ is in
+    let new : ℕ → PresenceView = λ k. record { plan = plan; table = kept_table false plan (set kept k true) } in
+    subst (λ t. NotesReading t g r i (new n)) view (subst (λ k. NotesReading (record { plan = plan; table = kept_table false plan kept }) g r i (new k)) (sym at) (notes plan kept g r i keeps.long place))
 
 none_at : (n k : ℕ) → ◌≡◌ {A = Option ℕ} (get_or (replicate n None) k None) None
 none_at zero k = refl

@@ -70,6 +70,12 @@ pub record IsPresenceTable (plan : PlanView) (table : Table Bool) : Type 0 where
   pub shape : IsTable plan table
   pub of_members : (g r i : ℕ) → is_present table g r i ≡ true → is_member plan.groups g r i ≡ true
 
+-- one place has a reading now, and no other changes
+pub record NotesReading (old : PresenceView) (g r i : ℕ) (new : PresenceView) : Type 0 where
+  pub plan : new.plan ≡ old.plan
+  pub here : is_present new.table g r i ≡ true
+  pub elsewhere : (a b c : ℕ) → is_same_place g r i a b c ≡ false → is_present new.table a b c ≡ is_present old.table a b c
+
 -- the places with a reading
 abbrev pub presence_of : ReadingsView → PresenceView
 presence_of readings = record { plan = readings.plan; table = map (map (map is_some)) readings.table }

@@ -3,7 +3,7 @@
 ghost use Rattle.std.specs.Prelude.{◌≡◌, ◌<◌, ◌^◌, IsTrue, IsSome, IfOk, IfSome, None, is_some, map, replicate};
 ghost use Rattle.group_plan.specs.Plans.{is_place, is_member};
 ghost use Rattle.group_plan.specs.Places.{places};
-ghost use Rattle.group_plan.specs.Tables.{reading, absent, is_present, presence_of, IsReadingTable, IsPresenceTable, PutsReading};
+ghost use Rattle.group_plan.specs.Tables.{reading, absent, is_present, presence_of, IsReadingTable, IsPresenceTable, PutsReading, NotesReading};
 
 use crate::Plan;
 use std::alloc::{AllocError, Global};
@@ -134,6 +134,16 @@ impl Presence {
         ensures member { IsTrue result → IsTrue (is_member self.now.plan.groups group round meter) }
     {
         self.present[self.plan.place_at(group, round, meter)]
+    }
+
+    /// Notes that a member has a reading at a place.
+    pub fn note(&mut self, group: u16, round: u32, meter: u8)
+        requires place { IsTrue (is_place self.old.plan group round meter) }
+        requires member { IsTrue (is_member self.old.plan.groups group round meter) }
+        ensures { NotesReading self.old group round meter self.new }
+    {
+        let at = self.plan.place_at(group, round, meter);
+        self.present[at] = true;
     }
 
     /// An equal presence.
