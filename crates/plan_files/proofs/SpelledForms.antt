@@ -33,7 +33,7 @@ use Rattle.plan_files.proofs.FormLemmas.{after}
 
 -- ---- fields
 
-number_at : (fields : List (List ℕ)) (place n : ℕ) → text fields place ≡ decimal n → n < 2 ^ 32 → number_in fields place ≡ Ok n
+pub number_at : (fields : List (List ℕ)) (place n : ℕ) → text fields place ≡ decimal n → n < 2 ^ 32 → number_in fields place ≡ Ok n
 unfolding number_in
 number_at fields place n is small =
     rw is (ap (or_cause cause.Number) (within_again 0 (2 ^ 32) n (omega arith) small (omega arith)))
@@ -47,11 +47,11 @@ key_read key is =
     let size = is.long in
     sized (encode_lower key) (omega (arith, long, size)) ∙ decode_pairs-encode_with lower_digits IsDigits-lower_digits 0 key is.bytes
 
-key_at : (fields : List (List ℕ)) (place : ℕ) (key : List ℕ) → text fields place ≡ encode_lower key → IsKey key → key_in fields place ≡ Ok key
+pub key_at : (fields : List (List ℕ)) (place : ℕ) (key : List ℕ) → text fields place ≡ encode_lower key → IsKey key → key_in fields place ≡ Ok key
 unfolding key_in
 key_at fields place key is good = rw is (ap (λ r. or_cause cause.Hex (result_ok r)) (key_read key good))
 
-name_at : (fields : List (List ℕ)) (place : ℕ) (name : List ℕ) → text fields place ≡ name → is_name name ≡ true → name_in fields place ≡ Ok name
+pub name_at : (fields : List (List ℕ)) (place : ℕ) (name : List ℕ) → text fields place ≡ name → is_name name ≡ true → name_in fields place ≡ Ok name
 unfolding name_in
 name_at fields place name is good = rw is (rw good refl)
 
@@ -65,7 +65,7 @@ arg_at fields place arg is good = rw is (rw good refl)
 abbrev pub head_by : PlanView → Head
 head_by plan = record { rounds = plan.rounds; windows = record { reading = plan.w1; recovery = plan.w2 } }
 
-rounds_read : (n : ℕ) → n < 2 ^ 32 → rounds_row (codes "rounds" ∷ decimal n ∷ []) ≡ Ok n
+pub rounds_read : (n : ℕ) → n < 2 ^ 32 → rounds_row (codes "rounds" ∷ decimal n ∷ []) ≡ Ok n
 unfolding rounds_row has_fields
 rounds_read n small = number_at (codes "rounds" ∷ decimal n ∷ []) 1 n refl small
 

@@ -46,7 +46,7 @@ pub enum FileCause {
 }
 
 /// Want of memory.
-pub(crate) const NO_MEMORY: FileError = FileError {
+pub const NO_MEMORY: FileError = FileError {
     row: 0,
     cause: FileCause::Memory,
 };

@@ -87,7 +87,7 @@ fn hang_lane(lanes: &mut Vec<LaneRow>, lane: LaneRow, last_tick: u32) -> Result<
 }
 
 /// Refuses the member row at this place among those of the file, where the fault of all spans is there.
-fn check_member(fault: Option<SpanError>, place: u32) -> Result<(), FileCause>
+pub fn check_member(fault: Option<SpanError>, place: u32) -> Result<(), FileCause>
     ensures { result ≡ member_fault fault place }
 {
     match fault {

@@ -43,7 +43,7 @@ fn check_version(form: PlanForm, row: &Row<'_>) -> Result<(), FileCause>
 
 /// The number in a row `rounds,ROUNDS`.
 #[tactic(auto, unfolding(crate::specs::PlanRows::rounds_row))]
-fn read_rounds(row: &Row<'_>) -> Result<u32, FileCause>
+pub fn read_rounds(row: &Row<'_>) -> Result<u32, FileCause>
     requires kept { IsKept row.now }
     ensures { result ≡ rounds_row (fields_in row.now) }
 {

@@ -18,18 +18,18 @@ const MOST_BYTES: usize = 168;
 #[derive(Drop)]
 pub struct Row<'b> {
     /// The bytes of the file from the row's first one on.
-    pub start: &'b [u8],
+    pub(crate) start: &'b [u8],
     /// What is kept of its fields.
-    pub kept: ByteRecord,
+    pub(crate) kept: ByteRecord,
     /// The bytes of the file from the third field on, since an argument may have any length.
-    pub third: &'b [u8],
+    pub(crate) third: &'b [u8],
     /// What is kept of a quoted field, while it is read.
-    pub text: Vec<u8>,
+    pub(crate) text: Vec<u8>,
 }
 
 impl<'b> Row<'b> {
     /// A row that isn't read yet.
-    pub fn new(alloc: Global) -> Row<'b> {
+    pub(crate) fn new(alloc: Global) -> Row<'b> {
         Row {
             start: &[],
             kept: ByteRecord::new(alloc),

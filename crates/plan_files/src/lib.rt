@@ -15,9 +15,10 @@ mod readings;
 mod registers;
 mod row;
 mod row_reader;
+pub mod rows;
 mod writing;
 
-pub use fault::{FileCause, FileError};
+pub use fault::{FileCause, FileError, NO_MEMORY};
 pub use plan::{PlanFile, read_plan, read_public};
 pub use readings::read_readings;
 pub use registers::{Registers, read_registers};

@@ -40,7 +40,7 @@ struct Opening {
 
 /// The plan that the first rows and the groups state.
 #[tactic(auto, using(crate::proofs::PlanLemmas::stated, crate::proofs::PlanLemmas::not_stated))]
-fn stated_plan(alloc: Global, head: Head, groups: &[GroupPlan]) -> Result<Plan, FileError>
+pub fn stated_plan(alloc: Global, head: Head, groups: &[GroupPlan]) -> Result<Plan, FileError>
     ensures made { IfOk result (λ plan. stated_plan head groups.now ≡ Ok plan) }
     ensures refused { IfErr result (λ error. ButMemory error.cause (stated_plan head groups.now ≡ Err error)) }
 {
