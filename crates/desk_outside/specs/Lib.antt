@@ -1,4 +1,6 @@
 pub mod Begun
 pub mod Desk
 pub mod Memory
+pub mod MemoryWires
 pub mod Parts
+pub mod Wire

@@ -16,17 +16,17 @@ use std::collections::BTreeMap;
 
 // Which calls fail, the number of the next call, and the count of faults.
 #[derive(Drop)]
-struct Turns {
-    failing: Vec<u64>,
-    next: u64,
-    faults: u64,
+pub(crate) struct Turns {
+    pub(crate) failing: Vec<u64>,
+    pub(crate) next: u64,
+    pub(crate) faults: u64,
     ghost counted: { faults < 2 ^ 64 },
 }
 
 impl Turns {
     // Gives a call its number, and counts a fault where it fails: where its number is to fail, or
     // the call has to.
-    fn take(&mut self, has_to_fail: bool) -> bool
+    pub(crate) fn take(&mut self, has_to_fail: bool) -> bool
         ensures fails { result ≡ (is_listed self.old.failing.items self.old.next || has_to_fail) }
         ensures failing { self.new.failing ≡ self.old.failing }
         ensures next { self.new.next ≡ one_more self.old.next }

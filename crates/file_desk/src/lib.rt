@@ -3,8 +3,11 @@
 
 mod begun;
 mod files;
+mod lines;
 mod parts;
+mod wire;
 mod writing;
 
 pub use begun::BegunOnDisk;
 pub use files::FileDesk;
+pub use wire::FileWire;
