@@ -1,2 +1,6 @@
 pub mod RowLemmas
 pub mod PutLemmas
+pub mod PartLemmas
+pub mod PartRowsRead
+pub mod PartKeysPut
+pub mod SpelledParts

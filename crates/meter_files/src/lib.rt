@@ -3,11 +3,15 @@
 
 mod file;
 mod journal;
+pub mod laws;
 mod names;
+mod part_file;
+mod part_row;
 mod putting;
 mod rows;
 
 pub use file::meter_text;
 pub use journal::journal_head;
 pub use names::{PartFile, part_name};
+pub use part_file::{MeterFile, read_meter};
 pub use putting::{PartFailure, put_parts};
