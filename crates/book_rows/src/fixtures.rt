@@ -1,17 +1,17 @@
 //! What several modules share: frames of readings, books of the group `north`, how lines are compared, and assertions, each of
 //! which is made in one place, since every assertion of a body is proved by itself.
 
-ghost use Rattle.std.specs.Prelude.{◌≡◌, ◌≤◌, IfOk, [], length, vec_len};
+ghost use Rattle.std.specs.Prelude.{◌≡◌, ◌≤◌, IfOk, []};
 ghost use Rattle.group_plan.specs.declared.Kind.TheVariants.{Reading};
 ghost use Rattle.shared_book.specs.Passes.{new_pass};
-ghost use Rattle.shared_book.specs.Ends.{view, opening, IsPassOf};
+ghost use Rattle.shared_book.specs.Ends.{view, IsPassOf};
 
 use group_book::{Book, SendAnswer};
-use group_plan::Presence;
+use group_plan::{Plan, Presence, Readings};
 use meter_frames::{Frame, encode};
 use missing_round::MeterSet;
 use mod_word::Word;
-use row_fixtures::{plan_of_north, reading_tag, table};
+use row_fixtures::{group, plan_of_north, reading_tag, table};
 use shared_book::{Parcel, Pass, SharedBook};
 use std::alloc::Global;
 use std::fmt::Debug;
@@ -96,32 +96,22 @@ pub(crate) fn sent_book(alloc: Global, readings: &[u64], words: &[u64]) -> Resul
     Ok(book)
 }
 
-// Shares a book for these parcels.
-fn begin(alloc: Global, book: Book, parcels: Vec<Parcel>) -> Result<(SharedBook, Pass), Fail>
-    requires few { vec_len parcels ≤ 4 }
-    requires room { 4 ≤ book.spare }
-    ensures pass { IfOk result (λ r. IsPassOf r.0 r.1 × (view r.1 ≡ new_pass 0 [])) }
-    ensures parcels { IfOk result (λ r. (opening r.0).parcels ≡ parcels.items) }
+/// Shares a book.
+pub(crate) fn shared_of(alloc: Global, book: Book) -> Result<(SharedBook, Pass), Fail>
+    ensures { IfOk result (λ r. IsPassOf r.0 r.1 × (view r.1 ≡ new_pass 0 [])) }
 {
-    match SharedBook::begin(alloc, book, parcels) {
+    match SharedBook::begin(alloc, book, 0) {
         Ok(begun) => Ok(begun),
         Err(_) => Err(Fail::new("no memory")),
     }
 }
 
-/// Shares such a book for these parcels.
-pub(crate) fn begun(
-    alloc: Global,
-    readings: &[u64],
-    words: &[u64],
-    batch: &[Parcel],
-) -> Result<(SharedBook, Pass), Fail>
-    requires { length batch.now ≤ 4 }
-    ensures pass { IfOk result (λ r. IsPassOf r.0 r.1 × (view r.1 ≡ new_pass 0 [])) }
-    ensures parcels { IfOk result (λ r. (opening r.0).parcels ≡ batch.now) }
-{
-    let parcels = Vec::from_slice(alloc, batch)?;
-    begin(alloc, sent_book(alloc, readings, words)?, parcels)
+/// A book of the groups `north` and `south`, of three meters each, in one round, without a reading.
+pub(crate) fn book_of_two(alloc: Global) -> Result<Book, Fail> {
+    let groups = [group(b"north", 3, 2)?, group(b"south", 3, 2)?];
+    let plan = Plan::new(alloc, &groups, 1, 1, 2)?;
+    let presence = Presence::of(alloc, &Readings::new(alloc, &plan)?)?;
+    book_of(alloc, &presence, 0)
 }
 
 /// Whether the two lines are one.

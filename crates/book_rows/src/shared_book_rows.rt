@@ -1,148 +1,165 @@
 //! A book after the Sends of three readings, whose frames are the parcels.
 
-ghost use Rattle.std.specs.Prelude.{◌≡◌, ◌<◌, ◌≤◌, [], length};
-ghost use Rattle.shared_book.specs.Passes.{new_pass, SamePass};
+ghost use Rattle.std.specs.Prelude.{◌≡◌, ◌≤◌, IfOk, OnOk, None, []};
+ghost use Rattle.shared_book.specs.Passes.{new_pass};
 ghost use Rattle.shared_book.specs.Ends.{view, IsPassOf};
 
-use crate::fixtures::{begun, check_all, check_same, parcel};
+use crate::fixtures::{check_same, parcel, sent_book, shared_of};
 use meter_frames::FrameError;
 use round_machine::Verdict;
-use shared_book::{CommitError, Parcel, Pass, Reply, SharedBook, Shut};
+use shared_book::{CommitError, Parcel, Pass, Reply, SharedBook};
 use std::alloc::Global;
 use std::process::Abort;
 use std::sync::Wait;
 use std::test::Fail;
-use std::thread::{self, Threads};
+use transcript_log::Lines;
 
 const FRESH: Reply = Reply::Took(Verdict::Fresh);
 
-const DONE: Result<Reply, CommitError> = Err(CommitError::Done(FRESH));
+const AGAIN: Reply = Reply::Took(Verdict::Again);
 
 const READINGS: [u64; 3] = [10, 10, 10];
 
 const WORDS: [u64; 3] = [100, 101, 102];
 
-/// The parcels of the three readings.
-fn three_parcels() -> [Parcel; 3] {
-    [parcel(0, 100), parcel(1, 101), parcel(2, 102)]
+/// The book of these rows, shared.
+fn begun(alloc: Global) -> Result<(SharedBook, Pass), Fail>
+    ensures { IfOk result (λ r. IsPassOf r.0 r.1 × (view r.1 ≡ new_pass 0 [])) }
+{
+    shared_of(alloc, sent_book(alloc, &READINGS, &WORDS)?)
 }
 
-/// Looks for the number of lines.
-fn check_lines(rt: &impl Abort, shut: &Shut, count: usize) {
-    check_same(rt, &shut.book.journal().len(), &count, "the lines");
+/// No line, with room for so many.
+fn room_for(alloc: Global, count: u64) -> Result<Lines, Fail>
+    ensures { IfOk result (λ lines. count ≤ lines.spare) }
+{
+    let mut lines = Lines::new(alloc);
+    lines.reserve(count)?;
+    Ok(lines)
 }
 
-/// Commits the parcel of a reading, and looks for what it comes to.
-fn check_commit(
+/// Commits a parcel with these lines, and looks for what it comes to.
+fn check_with(
     rt: &(impl Wait + Abort),
     book: &SharedBook,
     pass: &mut Pass,
-    meter: u8,
+    parcel: &Parcel,
     answer: &Result<Reply, CommitError>,
+    lines: &mut Lines,
     row: &str,
 )
-    requires { IsPassOf book.now pass.old }
-    ensures { IsPassOf book.now pass.new × SamePass (view pass.old) (view pass.new) }
+    requires pass { IsPassOf book.now pass.old × ((view pass.old).held ≡ None) }
+    requires room { 1 ≤ lines.old.spare }
+    ensures pass { IsPassOf book.now pass.new }
+    ensures same { ((view pass.new).held ≡ None) × ((view pass.new).number ≡ (view pass.old).number) × ((view pass.new).out ≡ (view pass.old).out) }
 {
-    let parcel = parcel(meter, 100 + u64::from(meter));
-    let came = book.commit(rt, pass, u32::from(meter), &parcel);
+    let came = book.commit(rt, pass, parcel, lines);
     check_same(rt, &came, answer, row);
+    check_same(rt, &lines.len(), &usize::from(answer.is_ok()), row);
 }
 
-/// Looks for the lines and the replies of a book of which two places were committed.
-fn check_two(rt: &impl Abort, shut: &Shut) {
-    check_lines(rt, shut, 5);
-    let replies = [Some(FRESH), None, Some(FRESH)];
-    check_all(rt, &shut.replies, &replies, "the replies");
+/// Commits a parcel, and looks for what it comes to.
+fn check_parcel(
+    rt: &(impl Wait + Abort),
+    alloc: Global,
+    book: &SharedBook,
+    pass: &mut Pass,
+    parcel: &Parcel,
+    answer: &Result<Reply, CommitError>,
+    row: &str,
+) -> Result<(), Fail>
+    requires { IsPassOf book.now pass.old × ((view pass.old).held ≡ None) }
+    ensures pass { IsPassOf book.now pass.new }
+    ensures same { ((view pass.new).held ≡ None) × ((view pass.new).number ≡ (view pass.old).number) × ((view pass.new).out ≡ (view pass.old).out) }
+{
+    let mut lines = room_for(alloc, 1)?;
+    check_with(rt, book, pass, parcel, answer, &mut lines, row);
+    Ok(())
+}
+
+/// The same with the frame of a reading.
+fn check_commit(
+    rt: &(impl Wait + Abort),
+    alloc: Global,
+    book: &SharedBook,
+    pass: &mut Pass,
+    meter: u8,
+    reply: Reply,
+    row: &str,
+) -> Result<(), Fail>
+    requires { IsPassOf book.now pass.old × ((view pass.old).held ≡ None) }
+    ensures pass { IsPassOf book.now pass.new }
+    ensures same { ((view pass.new).held ≡ None) × ((view pass.new).number ≡ (view pass.old).number) × ((view pass.new).out ≡ (view pass.old).out) }
+{
+    let parcel = parcel(meter, 100 + u64::from(meter));
+    check_parcel(rt, alloc, book, pass, &parcel, &Ok(reply), row)
+}
+
+/// Looks for the lines that the book was opened with, and for the pages of its group.
+fn check_shut(rt: &impl Abort, book: SharedBook, pass: Pass)
+    requires { IsPassOf book pass × ((view pass).number ≡ 0) × ((view pass).held ≡ None) × ((view pass).out ≡ 0) }
+{
+    let parts = book.shut(pass);
+    check_same(rt, &parts.journal.len(), &3, "the opening lines");
+    check_same(rt, &parts.groups.len(), &1, "the groups");
 }
 
 #[test]
 fn place_committed_again(rt: HostRuntime) -> Result<(), Fail> {
-    let (book, mut pass) = begun(rt.alloc(), &READINGS, &WORDS, &three_parcels())?;
-    check_commit(&rt, &book, &mut pass, 2, &Ok(FRESH), "place 2");
-    check_commit(&rt, &book, &mut pass, 0, &Ok(FRESH), "place 0");
-    check_commit(&rt, &book, &mut pass, 2, &DONE, "place 2 again");
-    check_two(&rt, &book.shut(pass));
+    let (book, mut pass) = begun(rt.alloc())?;
+    check_commit(&rt, rt.alloc(), &book, &mut pass, 2, FRESH, "place 2")?;
+    check_commit(&rt, rt.alloc(), &book, &mut pass, 0, FRESH, "place 0")?;
+    check_commit(&rt, rt.alloc(), &book, &mut pass, 2, AGAIN, "place 2 again")?;
+    check_shut(&rt, book, pass);
     Ok(())
-}
-
-/// Commits a block, and looks for what its parcels come to.
-fn check_block(
-    rt: &(impl Wait + Abort),
-    alloc: Global,
-    book: &SharedBook,
-    pass: &mut Pass,
-    block: (u32, u32),
-    answers: &[Result<Reply, CommitError>],
-) -> Result<(), Fail>
-    requires { IsPassOf book.now pass.old }
-    ensures { IsPassOf book.now pass.new × SamePass (view pass.old) (view pass.new) }
-{
-    let (from, count) = block;
-    let came = book.commit_block(rt, alloc, pass, from, count)?;
-    assert!(rt; came.as_slice() == answers, "block from {from}");
-    Ok(())
-}
-
-/// Three parcels of readings, and one that is no frame.
-fn four_parcels() -> [Parcel; 4] {
-    [
-        parcel(0, 100),
-        Parcel::Bytes([0; 52]),
-        parcel(1, 101),
-        parcel(2, 102),
-    ]
-}
-
-/// The second parcel is no frame. The second block begins with a place of the first, and the third behind all places.
-fn check_blocks(
-    rt: &(impl Wait + Abort),
-    alloc: Global,
-    book: &SharedBook,
-    pass: &mut Pass,
-) -> Result<(), Fail>
-    requires { IsPassOf book.now pass.old }
-    ensures { IsPassOf book.now pass.new × SamePass (view pass.old) (view pass.new) }
-{
-    let bad = Err(CommitError::Frame(FrameError::Magic));
-    check_block(rt, alloc, book, pass, (0, 3), &[Ok(FRESH), bad, Ok(FRESH)])?;
-    check_block(rt, alloc, book, pass, (2, 10), &[DONE, Ok(FRESH)])?;
-    check_block(rt, alloc, book, pass, (u32::MAX, u32::MAX), &[])
-}
-
-/// Looks for the lines and the passes of a book of whose four places one was not committed.
-fn check_three(rt: &impl Abort, shut: &Shut) {
-    check_lines(rt, shut, 6);
-    let passes = [Some(0), None, Some(0), Some(0)];
-    check_all(rt, &shut.passes, &passes, "the passes");
 }
 
 #[test]
-fn blocks_by_rows(rt: HostRuntime) -> Result<(), Fail> {
-    let (book, mut pass) = begun(rt.alloc(), &READINGS, &WORDS, &four_parcels())?;
-    check_blocks(&rt, rt.alloc(), &book, &mut pass)?;
-    check_three(&rt, &book.shut(pass));
+fn parcels_without_a_line(rt: HostRuntime) -> Result<(), Fail> {
+    let (book, mut pass) = begun(rt.alloc())?;
+    let bad = Err(CommitError::Frame(FrameError::Magic));
+    let bytes = Parcel::Bytes([0; 52]);
+    check_parcel(&rt, rt.alloc(), &book, &mut pass, &bytes, &bad, "no frame")?;
+    let close = Parcel::Close { group: 1, round: 0 };
+    let outside = Err(CommitError::Place);
+    check_parcel(
+        &rt,
+        rt.alloc(),
+        &book,
+        &mut pass,
+        &close,
+        &outside,
+        "no group",
+    )?;
+    let end = Parcel::End { group: 0, round: 1 };
+    check_parcel(
+        &rt,
+        rt.alloc(),
+        &book,
+        &mut pass,
+        &end,
+        &outside,
+        "no round",
+    )?;
+    check_shut(&rt, book, pass);
     Ok(())
 }
 
-/// Commits two places by two passes at once, and joins the second to the first.
-fn check_both(rt: &(impl Threads + Wait + Abort + Sync), book: &SharedBook, first: &mut Pass)
+/// Commits two places by two passes, and joins the second to the first. Passes on two threads are the rows of `gather`.
+fn check_both(
+    rt: &(impl Wait + Abort),
+    alloc: Global,
+    book: &SharedBook,
+    first: &mut Pass,
+) -> Result<(), Fail>
     requires { IsPassOf book.now first.old × (view first.old ≡ new_pass 0 []) }
-    ensures { IsPassOf book.now first.new × ((view first.new).number ≡ 0) × ((view first.new).out ≡ 0) }
+    ensures { OnOk result (IsPassOf book.now first.new × ((view first.new).number ≡ 0) × ((view first.new).held ≡ None) × ((view first.new).out ≡ 0)) }
 {
     let mut second = book.split(first);
-    let (theirs, mine) = thread::join_mut(
-        rt,
-        &mut ||
-            requires { IsPassOf book.now second }
-        { book.commit(rt, &mut second, 0, &parcel(0, 100)) },
-        &mut ||
-            requires { IsPassOf book.now first.now }
-        { book.commit(rt, first, 1, &parcel(1, 101)) },
-    );
-    check_same(rt, &theirs, &Ok(FRESH), "theirs");
-    check_same(rt, &mine, &Ok(FRESH), "mine");
+    check_commit(rt, alloc, book, &mut second, 0, FRESH, "theirs")?;
+    check_commit(rt, alloc, book, first, 1, FRESH, "mine")?;
     book.join(first, second);
+    Ok(())
 }
 
 /// No pass is out, and one was made.
@@ -151,21 +168,21 @@ fn check_passes(rt: &impl Abort, first: &Pass) {
     check_same(rt, &first.made(), &1, "the passes that were made");
 }
 
-/// Looks for the lines, the replies and the passes of a book of whose three places the second pass committed the first.
-fn check_history(rt: &impl Abort, shut: &Shut) {
-    check_lines(rt, shut, 6);
-    check_all(rt, &shut.replies, &[Some(FRESH); 3], "the replies");
-    let passes = [Some(1), Some(0), Some(0)];
-    check_all(rt, &shut.passes, &passes, "the passes");
-}
-
 #[test]
 fn two_passes_one_history(rt: HostRuntime) -> Result<(), Fail> {
-    let (book, mut first) = begun(rt.alloc(), &READINGS, &WORDS, &three_parcels())?;
-    check_both(&rt, &book, &mut first);
+    let (book, mut first) = begun(rt.alloc())?;
+    check_both(&rt, rt.alloc(), &book, &mut first)?;
     check_passes(&rt, &first);
-    check_commit(&rt, &book, &mut first, 0, &DONE, "place 0 again");
-    check_commit(&rt, &book, &mut first, 2, &Ok(FRESH), "place 2");
-    check_history(&rt, &book.shut(first));
+    check_commit(
+        &rt,
+        rt.alloc(),
+        &book,
+        &mut first,
+        0,
+        AGAIN,
+        "place 0 again",
+    )?;
+    check_commit(&rt, rt.alloc(), &book, &mut first, 2, FRESH, "place 2")?;
+    check_shut(&rt, book, first);
     Ok(())
 }

@@ -1,8 +1,7 @@
-pub mod Histories
-pub mod Marks
-pub mod Growth
-pub mod Replies
-pub mod Counts
-pub mod Journals
-pub mod Numbers
-pub mod InOrder
+pub mod Crossings
+pub mod Dealing
+pub mod Gathered
+pub mod Joins
+pub mod Merging
+pub mod Openings
+pub mod Told

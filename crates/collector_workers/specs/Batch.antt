@@ -1,5 +1,5 @@
 -- A batch of parcels: what each is marked with, and what the book gains.
-use Rattle.std.specs.Prelude.{◌≡◌, Bool, false, List, ◌++◌, count_by, zip, Option, Some, None, Result, Ok, Err}
+use Rattle.std.specs.Prelude.{◌≡◌, Bool, false, List, ◌++◌, map, count_by, zip, Option, Some, None, Result, Ok, Err}
 use Rattle.std.specs.List.{AllZip}
 use Rattle.transcript_log.specs.declared.Event.{Event}
 use Rattle.transcript_log.specs.declared.Line.{Line}
@@ -12,6 +12,8 @@ use Rattle.shared_book.specs.Parcels.{Judged, Accepted, BadFrame, RefusedFrame, 
 use Rattle.collector_workers.specs.declared.mark.Mark.{Mark}
 use Rattle.collector_workers.specs.declared.mark.Mark.TheVariants.{Made, Bad, Refused, OutOfPlan}
 use Rattle.collector_workers.specs.declared.mark.Collected.{Collected}
+use Rattle.collector_workers.specs.declared.outcome.Outcome.{Outcome}
+use Rattle.collector_workers.specs.Outcomes.{IsOutcome, lines_told}
 use Rattle.collector_workers.specs.declared.mark.CollectRefused.{CollectRefused}
 
 -- ---- marks
@@ -46,13 +48,21 @@ says these line = is_reply these (event_of line) (reply_of line)
 
 -- ---- the calls
 
--- a batch was collected: the book has one line more for each accepted parcel, in some order
+-- what became of each parcel, and the lines and marks in the order of the batch
+pub record InOrder (b : BookView) (batch : List Parcel) (added : List Line) (marks : List Mark) : Type 0 where
+  pub outcomes : List Outcome
+  pub told : AllZip (λ parcel x. IsOutcome (judged b parcel) x) batch outcomes
+  pub lines_are : added ≡ lines_told outcomes
+  pub marks_are : marks ≡ map (λ x. x.mark) outcomes
+
+-- a batch was collected: the book has one line more for each accepted parcel, in the order of the batch
 pub record Collects (b : BookView) (batch : List Parcel) (marks : List Mark) (c : BookView) : Type 0 where
   pub presence : c.presence ≡ b.presence
   pub added : List Line
   pub journal : c.journal ≡ b.journal ++ added
   -- each added line is the core's, after the lines before it
   pub legal : IsJournalAfter (shape_of b) b.journal added
+  pub in_order : InOrder b batch added marks
   pub marked : AllZip (λ parcel mark. IsMark (judged b parcel) mark) batch marks
   -- whichever events are counted: as many added lines are of them as accepted parcels
   pub lines : (these : Event → Bool) →

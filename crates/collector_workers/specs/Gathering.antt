@@ -1,119 +1,148 @@
--- What a first pass gains by a batch.
-use Rattle.std.specs.Prelude.{◌≡◌, ℕ, ◌+◌, ◌==◌, ⊤, List, Vec, [], ◌∷◌, ◌++◌, length, map, reverse, filter, All, slice_get, Option, Some, None, Result, Ok, Err}
-use Rattle.std.specs.List.{range_with_len}
+-- What workers make of a batch, and what a first pass gains by it.
+use Rattle.std.specs.Prelude.{◌≡◌, ◌≢◌, ◌<◌, ◌≤◌, ℕ, ◌+◌, ◌==◌, if◌then◌else◌, List, Vec, [], ◌∷◌, ◌++◌, length, map, slice_index_or, All, Contains, None, Result, Ok, Err, vec_len, vec_capacity}
+use Rattle.std.specs.List.{AllZip, range_with_len}
 use Rattle.std.specs.declared.alloc.AllocError.{AllocError}
 use Rattle.std.specs.declared.alloc.Global.{Global}
-use Rattle.transcript_log.specs.Events.{event_of}
+use Rattle.group_book.specs.Books.{BookView}
 use Rattle.shared_book.specs.declared.parcel.Parcel.{Parcel}
-use Rattle.shared_book.specs.declared.parcel.Reply.{Reply}
-use Rattle.shared_book.specs.declared.parcel.CommitError.{CommitError}
-use Rattle.shared_book.specs.declared.parcel.CommitError.TheVariants.{Done}
 use Rattle.shared_book.specs.declared.turn.Turn.{Turn}
-use Rattle.shared_book.specs.declared.turn.Opening.{Opening}
 use Rattle.shared_book.specs.declared.parts.SharedBook.{SharedBook}
-use Rattle.shared_book.specs.Ends.{view, IsPassOf}
-use Rattle.shared_book.specs.Parcels.{Judged, Accepted, BadFrame, RefusedFrame, Outside, judged, reply_of}
-use Rattle.shared_book.specs.Turns.{reply_at, StartsWith}
-use Rattle.shared_book.specs.Passes.{PassView}
-use Rattle.collector_workers.specs.declared.crew.Committed.{Committed}
+use Rattle.shared_book.specs.Ends.{opening, view, IsPassOf}
+use Rattle.shared_book.specs.Turns.{StartsWith, turns_by, turns_of}
+use Rattle.shared_book.specs.Passes.{PassView, new_pass}
 use Rattle.collector_workers.specs.declared.crew.Worker.{Worker}
-use Rattle.collector_workers.specs.declared.mark.Mark.{Mark}
-use Rattle.collector_workers.specs.declared.mark.Mark.TheVariants.{Made, Bad, Refused, OutOfPlan}
+use Rattle.collector_workers.specs.declared.desk.Desk.{Desk}
+use Rattle.collector_workers.specs.declared.outcome.Outcome.{Outcome}
+use Rattle.collector_workers.specs.Outcomes.{Becomes, lines_told, lines_by, worker_for, parcels_for}
 
--- the turns of a place
-abbrev pub turns_of : ℕ → List Turn → List Turn
-turns_of place turns = filter (λ t. t.place == place) turns
+-- ---- desks
 
--- an accepted place has one turn, of the parcel's event, and is marked with its reply; another place has none, and is marked with its own cause
-abbrev pub IsMarkOf : Judged → List Turn → Mark → Type 0
-IsMarkOf (Accepted event) turns mark = (t : Turn) × (reply : Reply) × (turns ≡ t ∷ []) × (event_of t.line ≡ event) × (reply_of t.line ≡ Some reply) × (mark ≡ Made reply)
-IsMarkOf (BadFrame e) turns mark = (turns ≡ []) × (mark ≡ Bad e)
-IsMarkOf (RefusedFrame e) turns mark = (turns ≡ []) × (mark ≡ Refused e)
-IsMarkOf Outside turns mark = (turns ≡ []) × (mark ≡ OutOfPlan)
+-- a desk on which nothing was done, with room for what becomes of its parcels
+pub record IsNewDesk (desk : Desk) : Type 0 where
+  pub none : desk.outcomes.items ≡ []
+  pub empty : vec_len desk.outcomes ≡ 0
+  pub room : length desk.parcels.items ≤ vec_capacity desk.outcomes
+  pub lines : length desk.parcels.items ≤ desk.lines.spare
 
--- the marks, from the first place on, are those of their places
-abbrev pub AreMarksOf : Opening → List Turn → List Mark → Type 0
-AreMarksOf o turns marks =
-    (place : ℕ) (parcel : Parcel) (mark : Mark) → slice_get o.parcels place ≡ Some parcel → slice_get marks place ≡ Some mark →
-    IsMarkOf (judged o.book parcel) (turns_of place turns) mark
+-- the desk of one of so many workers
+abbrev pub IsDeskFor : List Parcel → ℕ → ℕ → Desk → Type 0
+IsDeskFor batch workers k desk = (desk.parcels.items ≡ parcels_for workers k batch) × IsNewDesk desk
 
--- ---- what workers tell
+-- the desks of so many workers, from the first on
+abbrev pub AreDesks : List Parcel → ℕ → List Desk → Type 0
+AreDesks batch workers desks = (k : ℕ) (d : Desk) → k < length desks → IsDeskFor batch workers k (slice_index_or desks k d)
 
--- the history has the reply of the place
-abbrev pub IsReplyAt : List Turn → Committed → Type 0
-IsReplyAt seen committed = reply_at committed.place seen ≡ Some committed.reply
+-- ---- a worker
 
--- a worker with a pass of the book, which has seen each reply that the worker keeps
-abbrev pub IsWorkerOf : SharedBook → Worker → Type 0
-IsWorkerOf book worker = IsPassOf book worker.pass × All (IsReplyAt (view worker.pass).seen) worker.committed.items
+-- a worker that has done nothing
+pub record IsReady (book : SharedBook) (worker : Worker) : Type 0 where
+  pub pass : IsPassOf book worker.pass
+  pub free : (view worker.pass).held ≡ None
+  pub desk : IsNewDesk worker.desk
 
--- nothing is told of the place, or the history has its reply
-abbrev pub IsTold : List Turn → ℕ → Option Reply → Type 0
-IsTold seen place None = ⊤
-IsTold seen place (Some reply) = reply_at place seen ≡ Some reply
+-- a worker commits a parcel
+pub record Commits (o : BookView) (a : Worker) (parcel : Parcel) (b : Worker) : Type 0 where
+  pub outcome : Outcome
+  pub outcomes : b.desk.outcomes.items ≡ a.desk.outcomes.items ++ outcome ∷ []
+  pub parcels : b.desk.parcels ≡ a.desk.parcels
+  pub becomes : Becomes o (view a.pass).seen (view b.pass).seen parcel outcome
+  pub seen : StartsWith (view b.pass).seen (view a.pass).seen
+  pub mine : (view b.pass).mine ≡ (view a.pass).mine ++ turns_of (view a.pass).number (lines_told (outcome ∷ []))
+  pub number : (view b.pass).number ≡ (view a.pass).number
+  pub held : (view b.pass).held ≡ None
 
--- what a commit tells: the reply of a place that is committed, now or before
-abbrev pub told_by : Result Reply CommitError → Option Reply
-told_by (Ok reply) = Some reply
-told_by (Err (Done reply)) = Some reply
-told_by (Err _) = None
+-- a worker has committed these parcels: each became what it was judged when it was committed, and its turns are those of their lines
+pub record Does (o : BookView) (a : Worker) (parcels : List Parcel) (b : Worker) : Type 0 where
+  pub parcels_same : b.desk.parcels ≡ a.desk.parcels
+  pub told : AllZip (Becomes o (view a.pass).seen (view b.pass).seen) parcels b.desk.outcomes.items
+  pub seen : StartsWith (view b.pass).seen (view a.pass).seen
+  pub mine : (view b.pass).mine ≡ (view a.pass).mine ++ turns_of (view a.pass).number (lines_told b.desk.outcomes.items)
+  pub number : (view b.pass).number ≡ (view a.pass).number
+  pub held : (view b.pass).held ≡ None
 
--- the history has each reply that the commits of the places from this one on tell
-abbrev pub AreTold : List Turn → ℕ → List (Result Reply CommitError) → Type 0
-AreTold seen from results = (k : ℕ) (result : Result Reply CommitError) → slice_get results k ≡ Some result → IsTold seen (from + k) (told_by result)
+-- a worker has committed all its parcels
+abbrev pub Works : SharedBook → Worker → Worker → Type 0
+Works book a b = IsPassOf book b.pass × Does (opening book) a a.desk.parcels.items b
 
--- the history has each reply that is told, at its place
-abbrev pub AreReplies : List Turn → List (Option Reply) → Type 0
-AreReplies seen replies = (place : ℕ) (told : Option Reply) → slice_get replies place ≡ Some told → IsTold seen place told
-
--- ---- the parts of a gathering
-
--- a first pass has seen more, perhaps by turns of its own
-pub record Grows (v w : PassView) : Type 0 where
-  pub seen : StartsWith w.seen v.seen
-  pub mine : StartsWith w.mine v.mine
-  pub number : w.number ≡ v.number
-  pub made : w.made ≡ v.made
-  pub out : w.out ≡ v.out
-  pub joined : w.joined ≡ v.joined
-
--- the place with this parcel has its turn, where it is accepted, and its mark
-pub record Settles (o : Opening) (v : PassView) (place : ℕ) (parcel : Parcel) (mark : Mark) (w : PassView) : Type 0 where
-  pub at : slice_get o.parcels place ≡ Some parcel
-  pub grows : Grows v w
-  pub marked : IsMarkOf (judged o.book parcel) (turns_of place w.seen) mark
+-- ---- all workers
 
 -- so many passes were split off
 abbrev pub SplitsAll : PassView → ℕ → PassView → Type 0
 SplitsAll v count w = w ≡ record v { made = v.made + count; out = v.out + count }
 
+-- a worker with a new pass of this number and this desk
+abbrev pub IsNewWorker : SharedBook → PassView → ℕ → Desk → Worker → Type 0
+IsNewWorker book v number desk worker = IsPassOf book worker.pass × (view worker.pass ≡ new_pass number v.seen) × (worker.desk ≡ desk)
+
+-- a worker for each desk, whose passes have the next numbers
+abbrev pub IsNewCrew : SharedBook → PassView → List Desk → List Worker → Type 0
+IsNewCrew book v desks crew = (length crew ≡ length desks)
+    × ((k : ℕ) (d : Worker) → k < length crew → IsNewWorker book v (v.made + 1 + k) (slice_index_or desks k d.desk) (slice_index_or crew k d))
+
+-- each worker has committed all its parcels
+abbrev pub AllWork : SharedBook → List Worker → List Worker → Type 0
+AllWork book crew crew' = (length crew' ≡ length crew) × ((k : ℕ) (d : Worker) → k < length crew → Works book (slice_index_or crew k d) (slice_index_or crew' k d))
+
+-- the workers' passes have the last numbers, in their order, of so many that were made
+abbrev pub AreLast : ℕ → List Worker → Type 0
+AreLast made crew = (k : ℕ) (d : Worker) → k < length crew → (view (slice_index_or crew k d).pass).number + length crew ≡ made + 1 + k
+
 -- the numbers of some workers' passes
 abbrev pub numbers_of : List Worker → List ℕ
-numbers_of workers = map (λ worker. (view worker.pass).number) workers
+numbers_of crew = map (λ worker. (view worker.pass).number) crew
 
--- the passes with these numbers were joined, the last one first
-pub record JoinsAll (v : PassView) (numbers : List ℕ) (w : PassView) : Type 0 where
+-- a worker's turns are all in the history, which begins with what the worker has seen
+abbrev pub IsJoined : List Turn → Worker → Type 0
+IsJoined seen worker = StartsWith seen (view worker.pass).seen × (turns_by (view worker.pass).number seen ≡ (view worker.pass).mine)
+
+-- the workers' passes were joined in their order
+pub record JoinsAll (v : PassView) (crew : List Worker) (w : PassView) : Type 0 where
   pub seen : StartsWith w.seen v.seen
   pub mine : w.mine ≡ v.mine
   pub number : w.number ≡ v.number
   pub made : w.made ≡ v.made
-  pub out : w.out + length numbers ≡ v.out
-  pub joined : w.joined ≡ v.joined ++ reverse numbers
+  pub held : w.held ≡ v.held
+  pub out : w.out + length crew ≡ v.out
+  pub joined : w.joined ≡ v.joined ++ numbers_of crew
+  pub own : 0 < length crew → turns_by v.number w.seen ≡ w.mine
+  pub all : All (IsJoined w.seen) crew
+  pub others : (n : ℕ) → Contains v.joined n → ((k : ℕ) (d : Worker) → k < length crew → n ≢ (view (slice_index_or crew k d).pass).number) → turns_by n w.seen ≡ turns_by n v.seen
+
+-- ---- what became of the parcels, in the order of the batch
+
+-- what one of so many workers told of these parcels
+abbrev pub told_by : ℕ → ℕ → List Parcel → List Outcome → List Outcome
+told_by workers k [] xs = []
+told_by workers k (p ∷ ps) [] = []
+told_by workers k (p ∷ ps) (x ∷ xs) = if worker_for workers p == k then x ∷ told_by workers k ps xs else told_by workers k ps xs
+
+-- each worker has told of all its parcels
+abbrev pub AreWhole : List Parcel → List Worker → Type 0
+AreWhole batch crew = (k : ℕ) (d : Worker) → k < length crew → length (slice_index_or crew k d).desk.outcomes.items ≡ length (parcels_for (length crew) k batch)
+
+-- what the workers told, in the order of the batch
+abbrev pub Merges : List Parcel → List Worker → List Outcome → Type 0
+Merges batch crew outcomes = (length outcomes ≡ length batch)
+    × ((k : ℕ) (d : Worker) → k < length crew → told_by (length crew) k batch outcomes ≡ (slice_index_or crew k d).desk.outcomes.items)
 
 -- ---- gather
 
--- a batch was gathered by so many workers. Each had a pass of its own with the next number, and all were joined, the last one first
-pub record Gathers (o : Opening) (v : PassView) (workers : ℕ) (marks : List Mark) (w : PassView) : Type 0 where
+-- a batch was gathered by so many workers. Each had a pass of its own with the next number, all were joined, and the turns of each are the lines of
+-- the parcels of its groups, each once and in their order; the passes before them, and the first, made none
+pub record Gathers (o : BookView) (v : PassView) (batch : List Parcel) (workers : ℕ) (outcomes : List Outcome) (w : PassView) : Type 0 where
   pub seen : StartsWith w.seen v.seen
-  pub mine : StartsWith w.mine v.mine
+  pub mine : w.mine ≡ v.mine
   pub number : w.number ≡ v.number
   pub made : w.made ≡ v.made + workers
   pub out : w.out ≡ 0
-  pub joined : w.joined ≡ v.joined ++ reverse (range_with_len (v.made + 1) workers)
-  pub long : length marks ≡ length o.parcels
-  pub marked : AreMarksOf o w.seen marks
+  pub held : w.held ≡ None
+  pub joined : w.joined ≡ v.joined ++ range_with_len (v.made + 1) workers
+  pub told : AllZip (Becomes o v.seen w.seen) batch outcomes
+  pub own : turns_by v.number w.seen ≡ w.mine
+  pub turns : (k : ℕ) → k < workers → turns_by (v.made + 1 + k) w.seen ≡ turns_of (v.made + 1 + k) (lines_by workers k (lines_told outcomes))
+  pub others : (n : ℕ) → Contains v.joined n → n ≤ v.made → turns_by n w.seen ≡ turns_by n v.seen
 
--- gather of the parcels of a book, by a first pass
-abbrev pub GatherEnds : Opening → PassView → ℕ → Result (Vec Mark Global) AllocError → PassView → Type 0
-GatherEnds o v workers (Ok marks) w = Gathers o v workers marks.items w
-GatherEnds o v workers (Err e) w = w ≡ v
+-- gather of a batch by a first pass
+abbrev pub GatherEnds : BookView → PassView → List Parcel → ℕ → Result (Vec Outcome Global) AllocError → PassView → Type 0
+GatherEnds o v batch workers (Ok outcomes) w = Gathers o v batch workers outcomes.items w
+GatherEnds o v batch workers (Err e) w = w ≡ v

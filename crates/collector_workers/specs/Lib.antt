@@ -1,3 +1,3 @@
 pub mod Batch
 pub mod Gathering
-pub mod Alone
+pub mod Outcomes

@@ -1,12 +1,14 @@
 //! A batch of parcels that workers bring to one book.
 #![tactic(auto)]
 
-mod alone;
 mod batch;
 mod crew;
+mod desk;
 mod gate;
 mod mark;
+mod outcome;
 
 pub use batch::{collect, gather};
 pub use gate::{Free, Gate};
 pub use mark::{CollectRefused, Collected, Mark};
+pub use outcome::Outcome;

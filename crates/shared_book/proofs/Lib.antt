@@ -1,11 +1,11 @@
-pub mod Blocks
-pub mod Desks
+pub mod Crossings
 pub mod Frames
-pub mod Histories
 pub mod Judging
-pub mod NoTurns
+pub mod Ledgers
 pub mod Openings
 pub mod Shares
-pub mod Tickets
+pub mod Slots
+pub mod Steps
 pub mod Turning
 pub mod Views
+pub mod Writing

@@ -1,23 +1,17 @@
 -- What stays of the views of passes where one of them changes.
-use Rattle.std.proofs.Common.{◌≡◌, ◌≢◌, ◌<◌, ◌≤◌, ◌+◌, ◌*◌, ◌/◌, ◌%◌, ◌^◌, ◌⊎◌, ℕ, zero, suc, Bool, true, false, List, [], ◌∷◌, length, set, sym, refl, ap, ◌∙◌, subst, arith, if◌then◌else◌, inl, inr, ⊎_elim, length-set}
-use Rattle.std.proofs.Math.Nat.{mul-add-mod_self_left, div-add-mod}
+use Rattle.std.proofs.Common.{◌≡◌, ◌≢◌, ◌<◌, ◌≤◌, ◌+◌, ◌⊎◌, ℕ, zero, suc, Bool, true, false, List, [], ◌∷◌, length, set, get_or, sym, refl, ap, ◌∙◌, subst, arith, inl, inr, ⊎_elim, length-set}
 use Rattle.std.specs.List.{Contains}
+use Rattle.std.specs.Prelude.{Option, Some}
 use mathlib.Core.Option.{some, some-injective, some-ne-none}
 use lib.ListN.{get_elem?}
 use Rattle.atomic_table.specs.Table.{State}
 use Rattle.atomic_table.proofs.Lists.{at_set, set_else}
 use Rattle.shared_book.specs.declared.turn.Turn.{Turn}
-use Rattle.shared_book.specs.declared.turn.Opening.{Opening}
+use Rattle.group_book.specs.Books.{BookView}
 use Rattle.shared_book.specs.declared.turn.View.{View}
-use Rattle.shared_book.specs.declared.desk.Desk.{Desk}
+use Rattle.shared_book.specs.declared.handed.Handed.{Handed}
 use Rattle.shared_book.specs.Turns.{turns_by, StartsWith}
-use Rattle.shared_book.specs.Law.{total, tick, alive, Holds, Leads, Tells, IsOut, Kept}
-
--- one more, where the number wraps
-pub next_mod : (a : ℕ) → (a % 2 ^ 64 + 1) % 2 ^ 64 ≡ (a + 1) % 2 ^ 64
-next_mod a =
-    let e : 2 ^ 64 * (a / 2 ^ 64) + (a % 2 ^ 64 + 1) ≡ a + 1 = omega (arith, div-add-mod a (2 ^ 64)) in
-    sym (mul-add-mod_self_left (2 ^ 64) (a / 2 ^ 64) (a % 2 ^ 64 + 1)) ∙ ap (λ (n : ℕ). n % 2 ^ 64) e
+use Rattle.shared_book.specs.Law.{total, alive, Fits, Holds, Leads, Tells, IsOut, Kept}
 
 pub is_bool : (b : Bool) → (b ≡ true) ⊎ (b ≡ false)
 is_bool true = inl refl
@@ -27,13 +21,6 @@ pub total_set : (f : View → ℕ) (vs : List View) (i : ℕ) (v w : View) → g
 total_set f [] i v w e = absurd (some-ne-none v (sym e))
 total_set f (x ∷ xs) zero v w e = let h : f x ≡ f v = ap f (some-injective x v e) in omega arith
 total_set f (x ∷ xs) (suc i) v w e = let h = total_set f xs i v w e in omega arith
-
-tick_small : (v : View) → tick v ≤ 1
-tick_small v = elim v.waits as (λ b. (if b then 1 else 0) ≤ 1) [ true ↦ omega arith | false ↦ omega arith ]
-
-pub total_few : (vs : List View) → total tick vs ≤ length vs
-total_few [] = omega arith
-total_few (v ∷ vs) = let h = total_few vs in let t = tick_small v in omega arith
 
 pub total_one : (f : View → ℕ) (vs : List View) (i : ℕ) (v : View) → get_elem? vs i ≡ some v → f v ≤ total f vs
 total_one f [] i v e = absurd (some-ne-none v (sym e))
@@ -46,12 +33,6 @@ total_two f (x ∷ xs) zero zero v w n e h = absurd (n refl)
 total_two f (x ∷ xs) zero (suc j) v w n e h = let a : f x ≡ f v = ap f (some-injective x v e) in let b = total_one f xs j w h in omega arith
 total_two f (x ∷ xs) (suc i) zero v w n e h = let a : f x ≡ f w = ap f (some-injective x w h) in let b = total_one f xs i v e in omega arith
 total_two f (x ∷ xs) (suc i) (suc j) v w n e h = let b = total_two f xs i j v w (λ q. n (ap suc q)) e h in omega arith
-
-pub tick_one : (v : View) → v.waits ≡ true → tick v ≡ 1
-tick_one v e = rw e refl
-
-pub tick_none : (v : View) → v.waits ≡ false → tick v ≡ 0
-tick_none v e = rw e refl
 
 pub alive_one : (v : View) → v.live ≡ true → alive v ≡ 1
 alive_one v e = rw e refl
@@ -67,22 +48,21 @@ pub stay : (P : ℕ → View → Type 0) (vs : List View) (me : ℕ) (w : View) 
 stay P vs me w mine others j x e = ⊎_elim (λ (t : (j ≡ me) × (w ≡ x)). subst (λ (y : ℕ × View). P y.0 y.1) (λ i. (sym t.0 i, t.1 i)) mine)
     (λ (t : (j ≢ me) × (get_elem? vs j ≡ some x)). others j x t.0 t.1) (at_set vs me j w x e)
 
-module _ {o : Opening} {log : List Turn} {served drawn i : ℕ} {v : View} where
-  pub due_of : Holds o log served drawn i v → v.waits ≡ true → (served ≤ v.ticket) × (v.ticket < drawn)
-  due_of h w = ⊎_elim (λ (l : v.live ≡ true). (h.0 l).due w) (λ (d : v.live ≡ false). let n = (h.1 d).0 in absurd (cc)) (is_bool v.live)
+-- a pass that has pages is not spent
+pub fits_of : (o : BookView) (log : List Turn) (i g : ℕ) (v : View) → Holds o log i v → v.held ≡ Some g → Fits o log i v
+fits_of o log i g v h held = ⊎_elim (λ (l : v.live ≡ true). h.0 l) (λ (d : v.live ≡ false). let n = h.1 d in absurd (cc)) (is_bool v.live)
 
-  pub has_of : Holds o log served drawn i v → v.has ≡ true → (v.waits ≡ true) × (v.ticket ≡ served) × (v.seen ≡ log)
-  has_of h w = ⊎_elim (λ (l : v.live ≡ true). (h.0 l).has w) (λ (d : v.live ≡ false). let n = (h.1 d).1 in absurd (cc)) (is_bool v.live)
+-- a spent pass stays so, where an unspent one changes
+pub spent_stays : (vs : List View) (me n : ℕ) (v w x : View) → get_elem? vs me ≡ some v → v.live ≡ true → get_elem? vs n ≡ some x → x.live ≡ false → (n ≢ me) × (get_elem? (set vs me w) n ≡ some x)
+spent_stays vs me n v w x at live e d =
+    let apart : n ≢ me = λ q. let h : some x ≡ some v = sym e ∙ (ap (get_elem? vs) q ∙ at) in let l : v.live ≡ false = ap (λ (y : View). y.live) (sym (some-injective x v h)) ∙ d in cc in
+    (apart, set_else vs me n w apart ∙ e)
 
--- an unspent view that has no ticket has no slot
-pub idle_has : (o : Opening) (log : List Turn) (served drawn i : ℕ) (v : View) → Holds o log served drawn i v → v.waits ≡ false → v.has ≡ false
-idle_has o log served drawn i v h w = ⊎_elim (λ (t : v.has ≡ true). let k = (has_of h t).0 in absurd (cc)) (λ (t : v.has ≡ false). t) (is_bool v.has)
-
--- what the first pass knows of the others, where an unspent pass changes that keeps its counts
-pub leads_stay : (log log' : List Turn) (vs : List View) (me : ℕ) (v w : View) → get_elem? vs me ≡ some v → v.live ≡ true → w.live ≡ v.live → w.made ≡ v.made → w.out ≡ v.out → w.joined ≡ v.joined
+-- what the first pass knows of the others, where an unspent pass changes that keeps its counts, and that has then seen all
+pub leads_stay : (log log' : List Turn) (vs : List View) (me : ℕ) (v w : View) → get_elem? vs me ≡ some v → v.live ≡ true → w.live ≡ v.live → w.made ≡ v.made → w.out ≡ v.out → w.joined ≡ v.joined → w.seen ≡ log' → ((n : ℕ) → n ≢ me → turns_by n log' ≡ turns_by n log)
     → ((x : View) → get_elem? vs 0 ≡ some x → Leads log vs x) → ((j : ℕ) (x : View) → get_elem? (set vs me w) j ≡ some x → j ≡ 0 → x.out ≡ 0 → x.pending ≡ false → x.seen ≡ log')
     → (x : View) → get_elem? (set vs me w) 0 ≡ some x → Leads log' (set vs me w) x
-leads_stay log log' vs me v w at alive_v live made out joined old whole x e =
+leads_stay log log' vs me v w at alive_v live made out joined now others old whole x e =
     let same : total alive (set vs me w) ≡ total alive vs = (let t = total_set alive vs me v w at in let a : alive w ≡ alive v = rw live refl in omega arith) in
     let long = length-set vs me w in
     let dead : (i : ℕ) (y : View) → get_elem? (set vs me w) i ≡ some y → y.live ≡ false → get_elem? vs i ≡ some y = λ i y q d.
@@ -99,6 +79,7 @@ leads_stay log log' vs me v w at alive_v live made out joined old whole x e =
       made = (let m = l.made in omega arith);
       out = (let m = l.out in omega arith);
       joined = λ i y q d. subst (λ (ns : List ℕ). Contains ns i) (sym xj) (l.joined i y (dead i y q d) d);
+      gone = λ n h. let k = l.gone n (subst (λ (ns : List ℕ). Contains ns n) xj h) in let z = spent_stays vs me n v w k.0 at alive_v k.1 k.2 in (k.0, z.1, k.2, λ _. ap (turns_by n) (sym now ∙ ap (λ (y : View). y.seen) t.1));
       whole = whole 0 x e refl;
     })
     (λ (t : (0 ≢ me) × (get_elem? vs 0 ≡ some x)). let l = old x t.1 in record {
@@ -106,22 +87,23 @@ leads_stay log log' vs me v w at alive_v live made out joined old whole x e =
       made = (let m = l.made in omega arith);
       out = (let m = l.out in omega arith);
       joined = λ i y q d. l.joined i y (dead i y q d) d;
+      gone = λ n h. let k = l.gone n h in let z = spent_stays vs me n v w k.0 at alive_v k.1 k.2 in (k.0, z.1, k.2, λ q. others n z.0 ∙ k.3 q);
       whole = whole 0 x e refl;
     })
     (at_set vs me 0 w x e)
 
--- no other view changes its ticket
+-- where a view changes, no other view has the pages that it then has
 pub apart_stay : (vs : List View) (me : ℕ) (w : View)
-    → ((i j : ℕ) (a b : View) → get_elem? vs i ≡ some a → get_elem? vs j ≡ some b → a.waits ≡ true → b.waits ≡ true → a.ticket ≡ b.ticket → i ≡ j)
-    → ((j : ℕ) (b : View) → j ≢ me → get_elem? vs j ≡ some b → w.waits ≡ true → b.waits ≡ true → w.ticket ≢ b.ticket)
-    → (i j : ℕ) (a b : View) → get_elem? (set vs me w) i ≡ some a → get_elem? (set vs me w) j ≡ some b → a.waits ≡ true → b.waits ≡ true → a.ticket ≡ b.ticket → i ≡ j
-apart_stay vs me w old new i j a b ea eb wa wb t =
+    → ((i j g : ℕ) (a b : View) → get_elem? vs i ≡ some a → get_elem? vs j ≡ some b → a.held ≡ Some g → b.held ≡ Some g → i ≡ j)
+    → ((j g : ℕ) (b : View) → j ≢ me → get_elem? vs j ≡ some b → w.held ≡ Some g → b.held ≡ Some g → ⊥)
+    → (i j g : ℕ) (a b : View) → get_elem? (set vs me w) i ≡ some a → get_elem? (set vs me w) j ≡ some b → a.held ≡ Some g → b.held ≡ Some g → i ≡ j
+apart_stay vs me w old new i j g a b ea eb wa wb =
     ⊎_elim
     (λ (p : (i ≡ me) × (w ≡ a)). ⊎_elim (λ (q : (j ≡ me) × (w ≡ b)). p.0 ∙ sym q.0)
-    (λ (q : (j ≢ me) × (get_elem? vs j ≡ some b)). absurd (new j b q.0 q.1 (ap (λ (y : View). y.waits) p.1 ∙ wa) wb (ap (λ (y : View). y.ticket) p.1 ∙ t)))
+    (λ (q : (j ≢ me) × (get_elem? vs j ≡ some b)). absurd (new j g b q.0 q.1 (ap (λ (y : View). y.held) p.1 ∙ wa) wb))
     (at_set vs me j w b eb))
-    (λ (p : (i ≢ me) × (get_elem? vs i ≡ some a)). ⊎_elim (λ (q : (j ≡ me) × (w ≡ b)). absurd (new i a p.0 p.1 (ap (λ (y : View). y.waits) q.1 ∙ wb) wa (ap (λ (y : View). y.ticket) q.1 ∙ sym t)))
-    (λ (q : (j ≢ me) × (get_elem? vs j ≡ some b)). old i j a b p.1 q.1 wa wb t)
+    (λ (p : (i ≢ me) × (get_elem? vs i ≡ some a)). ⊎_elim (λ (q : (j ≡ me) × (w ≡ b)). absurd (new i g a p.0 p.1 (ap (λ (y : View). y.held) q.1 ∙ wb) wa))
+    (λ (q : (j ≢ me) × (get_elem? vs j ≡ some b)). old i j g a b p.1 q.1 wa wb)
     (at_set vs me j w b eb))
     (at_set vs me i w a ea)
 
@@ -144,12 +126,30 @@ tells_stay log log' vs me v w at live same grows others old =
     })
     (λ j x other e p. moved x (old j x e p))
 
--- a view that the slot is out with is another than one with no slot
-pub out_stays : (s : State Desk View) (me : ℕ) (v w : View) (ws : List ℕ) → get_elem? s.views me ≡ some v → v.has ≡ false → IsOut s → IsOut (record { words = ws; homes = s.homes; views = set s.views me w })
-out_stays s me v w ws at free out =
-    let other : out.1 ≢ me = λ e. let h : some out.2 ≡ some v = sym out.3 ∙ (ap (get_elem? s.views) e ∙ at) in let same = some-injective out.2 v h in let yes = out.4 in
-    absurd (let k : v.has ≡ true = ap (λ (y : View). y.has) (sym same) ∙ yes in cc) in
-    (out.0, out.1, out.2, set_else s.views me out.1 w other ∙ out.3, out.4)
+-- pages that are out stay out with their pass, where another view changes
+pub out_stays : (s : State (Option Handed) View) (me g : ℕ) (v w : View) (words : List ℕ) → get_elem? s.views me ≡ some v → v.held ≢ Some g → IsOut s g → IsOut (record { words = words; homes = s.homes; views = set s.views me w }) g
+out_stays s me g v w words at other out =
+    let apart : out.0 ≢ me = λ e. let h : some out.1 ≡ some v = sym out.2 ∙ (ap (get_elem? s.views) e ∙ at) in other (ap (λ (y : View). y.held) (sym (some-injective out.1 v h)) ∙ out.3) in
+    (out.0, out.1, set_else s.views me out.0 w apart ∙ out.2, out.3)
 
-pub whole_of : {o : Opening} (s : State Desk View) (r : Kept o s) (j : ℕ) (x : View) → get_elem? s.views j ≡ some x → j ≡ 0 → x.out ≡ 0 → x.pending ≡ false → x.seen ≡ r.log
+-- the word that was set, and another
+pub word_here : (ws : List ℕ) (g n : ℕ) → g < length ws → get_or (set ws g n) g 0 ≡ n
+word_here [] g n lt = absurd (omega arith)
+word_here (w ∷ ws) zero n lt = refl
+word_here (w ∷ ws) (suc g) n lt = word_here ws g n (omega arith)
+
+pub word_else : (ws : List ℕ) (g h n : ℕ) → h ≢ g → get_or (set ws g n) h 0 ≡ get_or ws h 0
+word_else [] g h n ne = refl
+word_else (w ∷ ws) zero zero n ne = absurd (ne refl)
+word_else (w ∷ ws) zero (suc h) n ne = refl
+word_else (w ∷ ws) (suc g) zero n ne = refl
+word_else (w ∷ ws) (suc g) (suc h) n ne = word_else ws g h n (λ e. ne (ap suc e))
+
+pub held_same : {g h : ℕ} {o : Option ℕ} → o ≡ Some g → o ≡ Some h → g ≡ h
+held_same {g} {h} e f = unwrapped g h (sym e ∙ f)
+  where
+    unwrapped : (g h : ℕ) → ◌≡◌ {A = Option ℕ} (Some g) (Some h) → g ≡ h
+    unwrapped g h e = cc
+
+pub whole_of : {o : BookView} (s : State (Option Handed) View) (r : Kept o s) (j : ℕ) (x : View) → get_elem? s.views j ≡ some x → j ≡ 0 → x.out ≡ 0 → x.pending ≡ false → x.seen ≡ r.log
 whole_of s r j x e z q p = (r.leads x (subst (λ (n : ℕ). get_elem? s.views n ≡ some x) z e)).whole q p

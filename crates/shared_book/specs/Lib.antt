@@ -1,10 +1,9 @@
-pub mod Desks
 pub mod Ends
 pub mod Law
 pub mod Opened
 pub mod Parcels
 pub mod Passes
-pub mod Places
 pub mod Rests
+pub mod Slots
 pub mod Turns
 pub mod Writes

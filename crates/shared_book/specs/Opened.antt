@@ -1,17 +1,11 @@
 -- The views of passes: what a book opens with, and how passes are cut in two and joined.
-use Rattle.std.specs.Prelude.{ℕ, ◌+◌, ◌-◌, true, false, List, [], ◌∷◌, ◌++◌}
+use Rattle.std.specs.Prelude.{ℕ, ◌+◌, ◌-◌, true, false, List, [], ◌∷◌, ◌++◌, None}
 use Rattle.group_book.specs.Books.{BookView}
-use Rattle.shared_book.specs.declared.law.Key.{Key}
 use Rattle.shared_book.specs.declared.turn.Turn.{Turn}
-use Rattle.shared_book.specs.declared.turn.Opening.{Opening}
 use Rattle.shared_book.specs.declared.turn.View.{View}
 
--- the book and the parcels that a table was told of
-abbrev pub opening_of : Key → Opening
-opening_of key = record { book = key.book.value; parcels = key.parcels.value.items }
-
 -- a pass that has done nothing
-abbrev pub newcomer : Opening → ℕ → List Turn → View
+abbrev pub newcomer : BookView → ℕ → List Turn → View
 newcomer o number seen = record {
   opening = o;
   live = true;
@@ -19,9 +13,7 @@ newcomer o number seen = record {
   made = 0;
   out = 0;
   joined = [];
-  waits = false;
-  ticket = 0;
-  has = false;
+  held = None;
   seen = seen;
   mine = [];
   pending = false;
@@ -37,7 +29,7 @@ no_book = record { presence = record { plan = record { groups = []; rounds = 0; 
 
 -- a pass that was joined
 abbrev pub spent : View
-spent = record (newcomer (record { book = no_book; parcels = [] }) 0 []) { live = false }
+spent = record (newcomer no_book 0 []) { live = false }
 
 -- the first pass, which counts one more that is split from it
 abbrev pub parent : View → View

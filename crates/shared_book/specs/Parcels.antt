@@ -1,5 +1,5 @@
 -- What a parcel asks of a book, and what becomes of it there.
-use Rattle.std.specs.Prelude.{ℕ, ◌==◌, Bool, ◌&&◌, bytes_eq, List, slice_index, Option, Some, None, Result, Ok, Err, if◌then◌else◌}
+use Rattle.std.specs.Prelude.{◌≡◌, ℕ, ◌==◌, Bool, ◌&&◌, bytes_eq, List, slice_index, Option, Some, None, Result, Ok, Err, if◌then◌else◌}
 use Rattle.group_plan.specs.Plans.{PlanView, is_place}
 use Rattle.group_plan.specs.declared.Kind.{Kind}
 use Rattle.meter_frames.specs.declared.Frame.{Frame}
@@ -20,6 +20,8 @@ use Rattle.shared_book.specs.declared.parcel.Parcel.TheVariants.{Bytes, Close as
 use Rattle.shared_book.specs.declared.parcel.Reply.{Reply}
 use Rattle.shared_book.specs.declared.parcel.Reply.TheVariants.{Took, Closed, Ended}
 use Rattle.shared_book.specs.declared.parcel.Request.{Request}
+use Rattle.shared_book.specs.declared.parcel.CommitError.{CommitError}
+use Rattle.shared_book.specs.declared.parcel.CommitError.TheVariants.{Take as NotTaken, Place as NoPlace}
 use Rattle.shared_book.specs.declared.parcel.Request.TheVariants.{Take as TakeRequest, Close as CloseRequest, End as EndRequest}
 
 -- ---- the frame in the bytes
@@ -50,6 +52,12 @@ abbrev pub request_of : Parcel → Result Request FrameError
 request_of (Bytes bytes) = taking (decoded bytes)
 request_of (CloseParcel g r) = Ok (CloseRequest g r)
 request_of (EndParcel g r) = Ok (EndRequest g r)
+
+-- the group of what is asked
+abbrev pub group_in : Request → ℕ
+group_in (TakeRequest f) = f.tag.group
+group_in (CloseRequest g r) = g
+group_in (EndRequest g r) = g
 
 -- ---- what becomes of it
 
@@ -88,6 +96,12 @@ judged_after plan lines parcel = judged_if_read plan lines (request_of parcel)
 -- what becomes of a parcel at a book
 abbrev pub judged : BookView → Parcel → Judged
 judged b parcel = judged_after b.presence.plan b.journal parcel
+
+-- why a request of no group of the plan is refused
+abbrev pub IsOutside : Request → CommitError → Type 0
+IsOutside (TakeRequest f) e = e ≡ NotTaken Unknown
+IsOutside (CloseRequest g r) e = e ≡ NoPlace
+IsOutside (EndRequest g r) e = e ≡ NoPlace
 
 -- ---- the reply
 

@@ -1,60 +1,43 @@
--- What a request writes into a book.
-use Rattle.std.specs.Prelude.{◌≡◌, ◌+◌, ◌≤◌, [], ◌∷◌, ◌++◌, Some, None, Result, Ok, Err}
+-- What a request writes into the pages of its group.
+use Rattle.std.specs.Prelude.{◌≡◌, ◌≤◌, ℕ, ◌+◌, List, [], ◌∷◌, ◌++◌, Some, None, Result, Ok, Err}
+use Rattle.group_plan.specs.Tables.{PresenceView}
 use Rattle.transcript_log.specs.declared.Event.{Event}
 use Rattle.transcript_log.specs.declared.Line.{Line}
+use Rattle.transcript_log.specs.Events.{event_of}
 use Rattle.transcript_log.specs.Journal.{core_line}
-use Rattle.group_book.specs.Books.{BookView, shape_of}
-use Rattle.shared_book.specs.declared.parcel.Parcel.{Parcel}
+use Rattle.transcript_log.specs.Lines.{LinesView}
+use Rattle.transcript_log.specs.Schedule.{shape_of_presence}
+use Rattle.group_book.specs.ByGroup.{group_of}
+use Rattle.group_book.specs.Groups.{GroupView}
+use Rattle.group_book.specs.Replay.{IsGroup}
 use Rattle.shared_book.specs.declared.parcel.Reply.{Reply}
 use Rattle.shared_book.specs.declared.parcel.Request.{Request}
 use Rattle.shared_book.specs.declared.parcel.CommitError.{CommitError}
-use Rattle.shared_book.specs.declared.parcel.CommitError.TheVariants.{Frame, NoSuch, Other, Done, Take, Place}
-use Rattle.shared_book.specs.declared.writes.Made.{Made}
-use Rattle.shared_book.specs.Parcels.{Judged, Accepted, BadFrame, RefusedFrame, Outside, judged_request, judged, reply_of}
+use Rattle.shared_book.specs.declared.parcel.CommitError.TheVariants.{Frame, Take, Place}
+use Rattle.shared_book.specs.Parcels.{Judged, Accepted, RefusedFrame, Outside, judged_request, reply_of}
 
--- what becomes of a request at a book
-abbrev pub judged_at : BookView → Request → Judged
-judged_at b request = judged_request b.presence.plan b.journal request
-
--- a request adds its line to a book
-pub record Writes (b : BookView) (request : Request) (line : Line) (reply : Reply) (c : BookView) : Type 0 where
-  pub event : Event
-  pub accepted : judged_at b request ≡ Accepted event
-  pub core : line ≡ core_line (shape_of b) b.journal event None
-  pub replied : reply_of line ≡ Some reply
-  pub presence : c.presence ≡ b.presence
-  pub journal : c.journal ≡ b.journal ++ line ∷ []
-  pub spare : b.spare ≤ c.spare + 1
-
--- write of a request into a book
-abbrev pub WriteEnds : BookView → Request → Result Made CommitError → BookView → Type 0
-WriteEnds b request (Ok made) c = Writes b request made.line made.reply c
-WriteEnds b request (Err (Frame e)) c = ⊥
-WriteEnds b request (Err NoSuch) c = ⊥
-WriteEnds b request (Err Other) c = ⊥
-WriteEnds b request (Err (Done reply)) c = ⊥
-WriteEnds b request (Err (Take e)) c = (judged_at b request ≡ RefusedFrame e) × (c ≡ b)
-WriteEnds b request (Err Place) c = (judged_at b request ≡ Outside) × (c ≡ b)
-
--- ---- a book that no thread shares
-
--- a parcel adds its line to a book
-pub record Adds (b : BookView) (parcel : Parcel) (reply : Reply) (c : BookView) : Type 0 where
+-- a request adds its line to the pages of group g, which were what this journal said
+pub record Writes (p : PresenceView) (j : List Line) (request : Request) (g : ℕ) (before : LinesView) (reply : Reply) (v : GroupView) (after : LinesView) : Type 0 where
   pub event : Event
   pub line : Line
-  pub accepted : judged b parcel ≡ Accepted event
-  pub core : line ≡ core_line (shape_of b) b.journal event None
+  pub accepted : judged_request p.plan j request ≡ Accepted event
+  pub core : line ≡ core_line (shape_of_presence p) j event None
   pub replied : reply_of line ≡ Some reply
-  pub presence : c.presence ≡ b.presence
-  pub journal : c.journal ≡ b.journal ++ line ∷ []
-  pub spare : b.spare ≤ c.spare + 1
+  pub own : group_of (event_of line) ≡ g
+  pub pages : IsGroup p (j ++ line ∷ []) g v
+  pub lines : after.items ≡ before.items ++ line ∷ []
+  pub spare : before.spare ≤ after.spare + 1
 
--- commit of a parcel to a book that the caller has alone
-abbrev pub AloneEnds : BookView → Parcel → Result Reply CommitError → BookView → Type 0
-AloneEnds b parcel (Ok reply) c = Adds b parcel reply c
-AloneEnds b parcel (Err (Frame e)) c = (judged b parcel ≡ BadFrame e) × (c ≡ b)
-AloneEnds b parcel (Err NoSuch) c = ⊥
-AloneEnds b parcel (Err Other) c = ⊥
-AloneEnds b parcel (Err (Done reply)) c = ⊥
-AloneEnds b parcel (Err (Take e)) c = (judged b parcel ≡ RefusedFrame e) × (c ≡ b)
-AloneEnds b parcel (Err Place) c = (judged b parcel ≡ Outside) × (c ≡ b)
+-- nothing was written, for this reason
+pub record Leaves (p : PresenceView) (j : List Line) (request : Request) (g : ℕ) (before : LinesView) (why : Judged) (v : GroupView) (after : LinesView) : Type 0 where
+  pub judged : judged_request p.plan j request ≡ why
+  pub pages : IsGroup p j g v
+  pub lines : after.items ≡ before.items
+  pub spare : before.spare ≤ after.spare + 1
+
+-- write of a request into the pages of its group
+abbrev pub WriteEnds : PresenceView → List Line → Request → ℕ → LinesView → Result Reply CommitError → GroupView → LinesView → Type 0
+WriteEnds p j request g before (Ok reply) v after = Writes p j request g before reply v after
+WriteEnds p j request g before (Err (Frame e)) v after = ⊥
+WriteEnds p j request g before (Err (Take e)) v after = Leaves p j request g before (RefusedFrame e) v after
+WriteEnds p j request g before (Err Place) v after = Leaves p j request g before Outside v after

@@ -1,29 +1,19 @@
-//! The calls on a shared book: open, commit, split, join and shut.
+//! The calls on a shared book: open, split, join and shut.
 
-ghost use Rattle.std.specs.Prelude.{◌≡◌, ◌≢◌, MatchBool, ◌+◌, ◌^◌, ◌<◌, ◌≤◌, ◌∷◌, [], None, length, map, take, drop, vec_len, vec_capacity, IfOk, IfErr, MatchResult, replicate};
-ghost use Rattle.group_book.specs.Books.{BookView};
-ghost use Rattle.shared_book.specs.declared.desk.Desk.{Desk};
-ghost use Rattle.shared_book.specs.Passes.{new_pass, SamePass, FindEnds, CommitEnds, BlockEnds, SplitEnds, JoinEnds};
-ghost use Rattle.shared_book.specs.Parcels.{request_of};
-ghost use Rattle.shared_book.specs.Turns.{AreRequestsAt};
-ghost use Rattle.shared_book.specs.Rests.{TurnEnds};
-ghost use Rattle.shared_book.specs.Ends.{opening, view, IsPassOf, ShutEnds};
+ghost use Rattle.std.specs.Prelude.{◌≡◌, ◌+◌, ◌^◌, ◌<◌, ◌≤◌, [], IfOk, IfErr, None, length, map, replicate, vec_len, vec_capacity};
+ghost use Rattle.group_book.specs.Replay.{AreReplayed};
+ghost use Rattle.shared_book.specs.Passes.{new_pass, SplitEnds, JoinEnds};
+ghost use Rattle.shared_book.specs.Ends.{opening, view, room_of, IsPassOf, ShutEnds};
 
-use crate::desk::Desk;
+use crate::handed::{Handed, put_in, take_all, take_out};
 use crate::law::{Fork, Key, Learn, Meet};
-use crate::parcel::{CommitError, Parcel, Reply, Request};
-use crate::parts::{BeginRefused, Pass, SharedBook, Shut};
-use crate::shared::one_turn;
-use crate::turn::Turn;
+use crate::parts::{BeginRefused, Pass, SharedBook};
 use atomic_table::{Refused, Table};
-use group_book::Book;
-use meter_frames::FrameError;
+use group_book::{Book, GroupPages, Parts};
+use group_plan::Presence;
 use std::alloc::{AllocError, Global};
 use std::snapshot::Snapshot;
-use std::sync::Wait;
-
-/// What a place comes to before its event is made.
-const NOT_YET: Result<Reply, CommitError> = Err(CommitError::NoSuch);
+use transcript_log::Lines;
 
 impl Pass {
     /// How many passes were split from it so far.
@@ -41,135 +31,19 @@ impl Pass {
     }
 }
 
-/// Whether this parcel is at the place; an error where there is none, or another.
-fn find(parcels: &[Parcel], at: u32, parcel: &Parcel) -> Result<(), CommitError>
-    ensures { FindEnds parcels.now at parcel.now result }
-{
-    let at = at as usize;
-    if at >= parcels.len() {
-        return Err(CommitError::NoSuch);
-    }
-    if is_same(&parcels[at], parcel) {
-        Ok(())
-    } else {
-        Err(CommitError::Other)
-    }
-}
-
-fn is_same(there: &Parcel, parcel: &Parcel) -> bool
-    ensures { MatchBool result (there.now ≡ parcel.now) (there.now ≢ parcel.now) }
-{
-    *there == *parcel
-}
-
-/// The parcels from a place on, at most so many.
-fn block(parcels: &[Parcel], from: u32, count: u32) -> &[Parcel]
-    ensures { result.now ≡ take count (drop from parcels.now) }
-{
-    let (_, rest) = parcels.split_at(parcels.len().min(from as usize));
-    let (block, _) = rest.split_at(rest.len().min(count as usize));
-    block
-}
-
-/// What each parcel asks.
-fn requests_of(
-    alloc: Global,
-    parcels: &[Parcel],
-) -> Result<Vec<Result<Request, FrameError>>, AllocError>
-    ensures { IfOk result (λ v. v.items ≡ map request_of parcels.now) }
-{
-    let mut requests = Vec::with_capacity(alloc, parcels.len())?;
-    for parcel in parcels {
-        requests.push_reserved(parcel.request());
-    }
-    Ok(requests)
-}
-
 impl SharedBook {
-    /// Commits the parcel at a place: waits for its turn, and makes one event while the book is held.
-    pub fn commit<R: Wait>(
-        &self,
-        rt: &R,
-        pass: &mut Pass,
-        at: u32,
-        parcel: &Parcel,
-    ) -> Result<Reply, CommitError>
-        requires { IsPassOf self.now pass.old }
-        ensures pass { IsPassOf self.now pass.new }
-        ensures same { SamePass (view pass.old) (view pass.new) }
-        ensures ends { CommitEnds (opening self.now) (view pass.old) at parcel.now result (view pass.new) }
+    /// Who has a reading.
+    pub fn presence(&self) -> &Presence
+        ensures { result.now ≡ (opening self.now).presence }
     {
-        let request = match parcel.request() {
-            Ok(request) => request,
-            Err(e) => return Err(CommitError::Frame(e)),
-        };
-        if let Err(e) = find(&self.parcels, at, parcel) {
-            return Err(e);
-        }
-        let mut results = [NOT_YET];
-        self.turn(rt, pass, at, &[Ok(request)], &mut results);
-        results[0]
-    }
-
-    /// Commits the parcels from a place on, at most so many, one after another in one turn. What each came to, in order. At `Err`
-    /// there was no memory, and nothing was committed.
-    pub fn commit_block<R: Wait>(
-        &self,
-        rt: &R,
-        alloc: Global,
-        pass: &mut Pass,
-        from: u32,
-        count: u32,
-    ) -> Result<Vec<Result<Reply, CommitError>>, AllocError>
-        requires { IsPassOf self.now pass.old }
-        ensures pass { IsPassOf self.now pass.new }
-        ensures same { SamePass (view pass.old) (view pass.new) }
-        ensures ends { BlockEnds (opening self.now) (view pass.old) from count result (view pass.new) }
-    {
-        let requests = requests_of(alloc, block(&self.parcels, from, count))?;
-        let mut results = vec![in alloc; NOT_YET; requests.len()]?;
-        self.turn(rt, pass, from, requests.as_slice(), results.as_mut_slice());
-        Ok(results)
-    }
-
-    /// One turn of a pass, with the requests of the places from one on.
-    fn turn<R: Wait>(
-        &self,
-        rt: &R,
-        pass: &mut Pass,
-        from: u32,
-        requests: &[Result<Request, FrameError>],
-        results: &mut [Result<Reply, CommitError>],
-    )
-        requires pass { IsPassOf self.now pass.old }
-        requires requests { AreRequestsAt (opening self.now) from requests.now }
-        requires long { length results.old ≡ length requests.now }
-        ensures pass { IsPassOf self.now pass.new }
-        ensures long { length results.new ≡ length results.old }
-        ensures ends { TurnEnds (opening self.now) (view pass.old) from requests.now results.new (view pass.new) }
-    {
-        one_turn(
-            rt,
-            &self.table.shared,
-            &mut pass.seat,
-            pass.number,
-            from,
-            requests,
-            results,
-        );
-    }
-
-    /// The parcels that it was opened with.
-    pub fn parcels(&self) -> &[Parcel]
-        ensures { result.now ≡ (opening self.now).parcels }
-    {
-        self.parcels.as_slice()
+        &self.presence
     }
 
     /// A further pass, which has seen what the first has.
     pub fn split(&self, pass: &mut Pass) -> Pass
         requires pass { IsPassOf self.now pass.old }
         requires first { (view pass.old).number ≡ 0 }
+        requires free { (view pass.old).held ≡ None }
         requires few { (view pass.old).made + 1 < 2 ^ 32 }
         ensures passes { IsPassOf self.now pass.new × IsPassOf self.now result }
         ensures ends { SplitEnds (view pass.old) (view pass.new) (view result) }
@@ -189,6 +63,7 @@ impl SharedBook {
     pub fn join(&self, pass: &mut Pass, other: Pass)
         requires passes { IsPassOf self.now pass.old × IsPassOf self.now other }
         requires first { (view pass.old).number ≡ 0 }
+        requires free { ((view pass.old).held ≡ None) × ((view other).held ≡ None) }
         ensures pass { IsPassOf self.now pass.new }
         ensures ends { JoinEnds (view pass.old) (view other) (view pass.new) }
     {
@@ -198,20 +73,29 @@ impl SharedBook {
             made: _,
             out: _,
         } = other;
-        let counter = &self.table.shared;
-        counter.join_seat::<Meet>(&mut pass.seat, seat);
-        counter.load::<Learn>(&mut pass.seat, 0);
+        let shelf = &self.table.shared;
+        shelf.join_seat::<Meet>(&mut pass.seat, seat);
+        shelf.load::<Learn>(&mut pass.seat, 0);
         pass.out -= 1;
     }
 
-    /// Ends the sharing. The pass is the first, and no other is out.
-    pub fn shut(self, pass: Pass) -> Shut
+    /// Ends the sharing. The pass is the first, and no other is out. What comes back stands for the pass's history; the lines of its
+    /// turns are with those that made them.
+    pub fn shut(self, pass: Pass) -> Parts
         requires pass { IsPassOf self pass }
         requires first { (view pass).number ≡ 0 }
+        requires free { (view pass).held ≡ None }
         requires none_out { (view pass).out ≡ 0 }
-        ensures { ShutEnds (opening self) (view pass) result }
+        ensures ends { ShutEnds (opening self) (view pass) result }
+        ensures room { room_of self ≤ result.journal.spare }
     {
-        let SharedBook { table, parcels: _ } = self;
+        let SharedBook {
+            table,
+            presence,
+            journal,
+            lines: _,
+            mut room,
+        } = self;
         let Pass {
             seat,
             number: _,
@@ -219,110 +103,145 @@ impl SharedBook {
             out: _,
         } = pass;
         let mut closed = table.close_with(seat);
-        let desk = closed.take(0);
+        take_all(&mut closed, &mut room);
         closed.free();
-        let Desk {
-            book,
-            turns: _,
-            replies,
-            passes,
-        } = desk;
-        Shut {
-            book,
-            replies,
-            passes,
+        Parts {
+            presence,
+            groups: room,
+            journal,
         }
     }
 }
 
-/// No value at each place.
-fn nothing<T: Copy>(alloc: Global, places: usize) -> Result<Vec<Option<T>>, AllocError>
-    ensures { IfOk result (λ v. v.items ≡ replicate places None) }
+/// A word for each group, whose pages are at home.
+fn words_of(alloc: Global, groups: usize) -> Result<Vec<u64>, AllocError>
+    ensures { IfOk result (λ v. v.items ≡ replicate groups 0) }
 {
-    vec![in alloc; None; places]
+    vec![in alloc; 0; groups]
 }
 
-/// A desk on which nothing was done.
-fn new_desk(
-    book: Book,
-    turns: Vec<Turn>,
-    replies: Vec<Option<Reply>>,
-    passes: Vec<Option<u32>>,
-    places: usize,
-) -> Desk
-    requires room { (places ≤ book.spare) × (places ≤ vec_capacity turns) }
-    requires turns { (turns.items ≡ []) × (vec_len turns ≡ 0) }
-    requires undone { (replies.items ≡ replicate places None) × (passes.items ≡ replicate places None) }
-    ensures { (result.book ≡ book) × (result.turns.items ≡ []) × (vec_len result.replies ≡ places) }
+/// The memory that a shared book has beside its book's.
+#[derive(Drop)]
+struct Room {
+    words: Vec<u64>,
+    slots: Vec<Option<Handed>>,
+    groups: Vec<GroupPages>,
+}
+
+/// Room for so many groups.
+fn room_for(alloc: Global, groups: usize) -> Result<Room, AllocError>
+    ensures words { IfOk result (λ r. r.words.items ≡ replicate groups 0) }
+    ensures slots { IfOk result (λ r. (r.slots.items ≡ []) × (vec_len r.slots ≡ 0) × (groups ≤ vec_capacity r.slots)) }
+    ensures groups { IfOk result (λ r. (r.groups.items ≡ []) × (vec_len r.groups ≡ 0) × (groups ≤ vec_capacity r.groups)) }
 {
-    Desk {
-        book,
-        turns,
-        replies,
-        passes,
+    Ok(Room {
+        words: words_of(alloc, groups)?,
+        slots: Vec::with_capacity(alloc, groups)?,
+        groups: Vec::with_capacity(alloc, groups)?,
+    })
+}
+
+/// The parts of a book, with room for so many lines; as they were where there is no memory for it.
+fn with_lines(parts: Parts, lines: u64) -> Result<Parts, Parts>
+    ensures ok { IfOk result (λ r. (r.presence ≡ parts.presence) × (r.groups ≡ parts.groups) × (r.journal.items ≡ parts.journal.items) × (lines ≤ r.journal.spare)) }
+    ensures err { IfErr result (λ r. (r.presence ≡ parts.presence) × (r.groups ≡ parts.groups) × (r.journal.items ≡ parts.journal.items)) }
+{
+    let Parts {
+        presence,
+        groups,
+        mut journal,
+    } = parts;
+    let came = journal.reserve(lines);
+    let parts = Parts {
+        presence,
+        groups,
+        journal,
+    };
+    match came {
+        Ok(()) => Ok(parts),
+        Err(_) => Err(parts),
     }
 }
 
-/// The one slot of a table, with a desk on which nothing was done. At `Err` there was no memory.
-fn first_slot(alloc: Global, book: Book, places: usize) -> Result<Vec<Desk>, Book>
-    requires { places ≤ book.spare }
-    ensures { MatchResult result (λ v. (d : Desk) × (v.items ≡ d ∷ []) × (d.book ≡ book) × (d.turns.items ≡ []) × (vec_len d.replies ≡ places)) (λ b. b ≡ book) }
+/// The shared book of the parts of a book, where there is memory for its table.
+fn begin_with(
+    alloc: Global,
+    key: Key,
+    parts: Parts,
+    room: Room,
+    lines: u64,
+) -> Result<(SharedBook, Pass), BeginRefused>
+    requires key { (key.book.value.presence ≡ parts.presence) × (key.book.value.journal ≡ parts.journal.items) }
+    requires groups { AreReplayed parts.presence parts.journal.items parts.groups.items }
+    requires lines { lines ≤ parts.journal.spare }
+    requires words { room.words.items ≡ replicate (length parts.presence.plan.groups) 0 }
+    requires slots { (room.slots.items ≡ []) × (vec_len room.slots ≡ 0) × (length parts.presence.plan.groups ≤ vec_capacity room.slots) }
+    requires room { (room.groups.items ≡ []) × (vec_len room.groups ≡ 0) × (length parts.presence.plan.groups ≤ vec_capacity room.groups) }
+    ensures ok { IfOk result (λ r. (opening r.0 ≡ key.book.value) × IsPassOf r.0 r.1 × (view r.1 ≡ new_pass 0 [])) }
+    ensures lines { IfOk result (λ r. room_of r.0 ≡ lines) }
+    ensures err { IfErr result (λ e. (e.book.presence ≡ parts.presence) × (e.book.journal ≡ parts.journal.items)) }
 {
-    let Ok(turns) = Vec::with_capacity(alloc, places) else {
-        return Err(book);
-    };
-    let Ok(replies) = nothing(alloc, places) else {
-        return Err(book);
-    };
-    let Ok(passes) = nothing(alloc, places) else {
-        return Err(book);
-    };
-    let Ok(mut slots) = Vec::with_capacity(alloc, 1) else {
-        return Err(book);
-    };
-    let desk = new_desk(book, turns, replies, passes, places);
-    slots.push_reserved(desk);
-    Ok(slots)
+    let Parts {
+        presence,
+        groups,
+        journal,
+    } = parts;
+    let Room {
+        words,
+        mut slots,
+        groups: mut room,
+    } = room;
+    put_in(groups, &mut slots, &journal);
+    match Table::new(alloc, &words, slots, &key) {
+        Ok((table, seat)) => Ok((
+            SharedBook {
+                table,
+                presence,
+                journal,
+                lines,
+                room,
+            },
+            Pass {
+                seat,
+                number: 0,
+                made: 0,
+                out: 0,
+            },
+        )),
+        Err(Refused { slots }) => {
+            take_out(slots, &mut room);
+            let book = Book::of_parts(
+                alloc,
+                Parts {
+                    presence,
+                    groups: room,
+                    journal,
+                },
+            );
+            Err(BeginRefused { book })
+        }
+    }
 }
 
 impl SharedBook {
-    /// Opens a book to threads, for these parcels: the shared book, and its first pass. The book has room for a line of each.
-    #[tactic(auto, unfolding(crate::specs::Turns::LegalFrom))]
-    pub fn begin(
-        alloc: Global,
-        book: Book,
-        parcels: Vec<Parcel>,
-    ) -> Result<(SharedBook, Pass), BeginRefused>
-        requires room { vec_len parcels ≤ book.spare }
-        requires few { vec_len parcels < 2 ^ 32 }
-        ensures ok { IfOk result (λ r. (opening r.0 ≡ record { book = book; parcels = parcels.items }) × IsPassOf r.0 r.1 × (view r.1 ≡ new_pass 0 [])) }
-        ensures err { IfErr result (λ e. (e.book ≡ book) × (e.parcels ≡ parcels)) }
+    /// Opens a book to threads: the shared book, and its first pass. When it is shut, its journal has room for so many lines. At `Err`
+    /// there was no memory, and the book comes back with its lines.
+    pub fn begin(alloc: Global, book: Book, lines: u64) -> Result<(SharedBook, Pass), BeginRefused>
+        ensures ok { IfOk result (λ r. (opening r.0 ≡ book) × IsPassOf r.0 r.1 × (view r.1 ≡ new_pass 0 [])) }
+        ensures lines { IfOk result (λ r. room_of r.0 ≡ lines) }
+        ensures err { IfErr result (λ e. (e.book.presence ≡ book.presence) × (e.book.journal ≡ book.journal)) }
     {
         let key = Key {
             book: Snapshot::of(&book),
-            parcels: Snapshot::of(&parcels),
         };
-        let slots = match first_slot(alloc, book, parcels.len()) {
-            Ok(slots) => slots,
-            Err(book) => return Err(BeginRefused { book, parcels }),
+        let Ok(room) = room_for(alloc, book.plan().groups().len()) else {
+            return Err(BeginRefused { book });
         };
-        match Table::new(alloc, &[0, 0], slots, &key) {
-            Ok((table, seat)) => Ok((
-                SharedBook { table, parcels },
-                Pass {
-                    seat,
-                    number: 0,
-                    made: 0,
-                    out: 0,
-                },
-            )),
-            Err(Refused { mut slots }) => {
-                let Some(desk) = slots.pop() else {
-                    unreachable!()
-                };
-                let Desk { book, .. } = desk;
-                Err(BeginRefused { book, parcels })
-            }
+        match with_lines(book.into_parts(), lines) {
+            Ok(parts) => begin_with(alloc, key, parts, room, lines),
+            Err(parts) => Err(BeginRefused {
+                book: Book::of_parts(alloc, parts),
+            }),
         }
     }
 }

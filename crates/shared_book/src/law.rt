@@ -1,57 +1,46 @@
-//! The rule of the tickets and of the desk, and each step that it allows.
+//! The rule of the words and of the pages, and each step that it allows.
 
-use crate::desk::Desk;
-use crate::parcel::Parcel;
+use crate::handed::Handed;
 use crate::turn::View;
 use atomic_table::{Join, Play, Split, TableRule};
 use group_book::Book;
 use std::snapshot::Snapshot;
 
-/// What a table is told when it is made: the book and the parcels that it opens with.
+/// What a table is told when it is made: the book that it opens with.
 #[derive(Drop)]
 pub struct Key {
     pub book: Snapshot<Book>,
-    pub parcels: Snapshot<Vec<Parcel>>,
 }
 
-/// The rule of the tickets and of the slot.
+/// The rule of the words and of the slots, one of each for a group.
 pub struct Law;
 
-impl TableRule<Desk, View, Key> for Law {
+impl TableRule<Option<Handed>, View, Key> for Law {
     ghost use Rattle.std.specs.Prelude.{[]};
     ghost use Rattle.shared_book.specs.Law.{Kept};
-    ghost use Rattle.shared_book.specs.Opened.{opening_of, newcomer};
+    ghost use Rattle.shared_book.specs.Opened.{newcomer};
 
-    ghost holds = { λ key s. Kept (opening_of key) s };
+    ghost holds = { λ key s. Kept key.book.value s };
 
-    ghost first = { λ key. newcomer (opening_of key) 0 [] };
+    ghost first = { λ key. newcomer key.book.value 0 [] };
 }
 
-/// Draws a ticket, where it is the one asked for.
-pub struct Draw;
+/// Takes the pages of a group out, where they are at home.
+pub struct TakeOut;
 
-impl Play<Desk, View> for Draw {
-    ghost use Rattle.shared_book.specs.Law.{Draws};
+impl Play<Option<Handed>, View> for TakeOut {
+    ghost use Rattle.shared_book.specs.Law.{Tries};
 
-    ghost then = { Draws };
+    ghost then = { Tries };
 }
 
-/// Looks whether it is the pass's turn.
-pub struct Look;
+/// Hands the pages of a group back, with their lines.
+pub struct HandBack;
 
-impl Play<Desk, View> for Look {
-    ghost use Rattle.shared_book.specs.Law.{Looks};
+impl Play<Option<Handed>, View> for HandBack {
+    ghost use Rattle.shared_book.specs.Law.{GivesBack};
 
-    ghost then = { Looks };
-}
-
-/// Passes the turn on.
-pub struct PassOn;
-
-impl Play<Desk, View> for PassOn {
-    ghost use Rattle.shared_book.specs.Law.{PassesOn};
-
-    ghost then = { PassesOn };
+    ghost then = { GivesBack };
 }
 
 /// Cuts a pass in two.
@@ -79,7 +68,7 @@ impl Join<View> for Meet {
 /// Learns what was told.
 pub struct Learn;
 
-impl Play<Desk, View> for Learn {
+impl Play<Option<Handed>, View> for Learn {
     ghost use Rattle.shared_book.specs.Law.{Learns};
 
     ghost then = { Learns };

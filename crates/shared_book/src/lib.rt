@@ -1,10 +1,10 @@
-//! A book that threads share: one history of commits, each made while the book is held.
+//! A book that threads share by groups: one history of commits, each made while the pages of its group are out with a pass.
 #![tactic(auto)]
 
 mod calls;
-mod desk;
+mod commits;
+mod handed;
 mod law;
-mod makes;
 mod parcel;
 mod parts;
 mod shared;
@@ -12,7 +12,7 @@ mod threads;
 mod turn;
 mod writes;
 
-pub use parcel::{CommitError, Parcel, Reply};
-pub use parts::{BeginRefused, Pass, SharedBook, Shut};
+pub use parcel::{CommitError, Parcel, Reply, Request};
+pub use parts::{BeginRefused, Pass, SharedBook};
 pub use threads::crosses_threads;
-pub use turn::{Opening, Turn};
+pub use turn::Turn;

@@ -1,7 +1,7 @@
 //! Parcels, what they ask of the book, and what it answers.
 
 ghost use Rattle.std.specs.Prelude.{◌≡◌};
-ghost use Rattle.shared_book.specs.Parcels.{request_of, decoded};
+ghost use Rattle.shared_book.specs.Parcels.{request_of, group_in, decoded};
 
 use group_book::TakeError;
 use meter_frames::{Frame, FrameError, decode};
@@ -40,21 +40,27 @@ pub enum Request {
 pub enum CommitError {
     /// The bytes are no frame.
     Frame(FrameError),
-    /// The place is not below the number of parcels.
-    NoSuch,
-    /// The place has another parcel.
-    Other,
-    /// The place was committed before, with this reply.
-    Done(Reply),
     /// The book refuses the frame.
     Take(TakeError),
     /// The round to be closed or ended is outside the plan.
     Place,
 }
 
+impl Request {
+    /// The group whose pages it asks for.
+    pub fn group(&self) -> u16
+        ensures { result ≡ group_in self.now }
+    {
+        match self {
+            Request::Take(frame) => frame.tag.group,
+            Request::Close { group, .. } | Request::End { group, .. } => *group,
+        }
+    }
+}
+
 impl Parcel {
     /// What the parcel asks; an error where its bytes are no frame.
-    pub(crate) fn request(&self) -> Result<Request, FrameError>
+    pub fn request(&self) -> Result<Request, FrameError>
         ensures { result ≡ request_of self.now }
     {
         match self {

@@ -1,28 +1,20 @@
-//! What a turn leaves, and what the rule knows of a pass.
+//! What a commit leaves, and what the rule knows of a pass.
 
-use crate::parcel::Parcel;
 use group_book::Book;
 use std::collections::LinkedList;
 use transcript_log::Line;
 
-/// One commit: the number of the pass that made it, the parcel's place, and the line that was added.
+/// One commit: the number of the pass that made it, and the line that was added.
 #[derive(Clone, Copy)]
 pub struct Turn {
     pub number: u32,
-    pub place: u32,
     pub line: Line,
-}
-
-/// The book and the parcels that a shared book was opened with. No value of it is made.
-pub struct Opening {
-    pub book: Book,
-    pub parcels: LinkedList<Parcel>,
 }
 
 /// What the rule knows of a pass. No value of it is made.
 pub struct View {
-    /// What the shared book was opened with.
-    pub opening: Opening,
+    /// The book that the shared book was opened with.
+    pub opening: Book,
     /// It was not joined.
     pub live: bool,
     /// Its number; that of the first pass is 0.
@@ -33,12 +25,8 @@ pub struct View {
     pub out: u64,
     /// The numbers of the passes that were joined to it.
     pub joined: LinkedList<u64>,
-    /// It has drawn a ticket, which is not served yet or is being served.
-    pub waits: bool,
-    /// The ticket that it drew last.
-    pub ticket: u64,
-    /// It has the slot.
-    pub has: bool,
+    /// The group whose pages it has, where it has some.
+    pub held: Option<u64>,
     /// The turns that it has seen, the earliest first.
     pub seen: LinkedList<Turn>,
     /// Its own turns among these.

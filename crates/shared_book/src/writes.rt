@@ -1,121 +1,85 @@
-//! The line that one request adds to the book.
+//! The line that one request adds to the pages of its group.
 
-ghost use Rattle.std.specs.Prelude.{◌≡◌, ◌≤◌};
-ghost use Rattle.transcript_log.specs.declared.Line.TheVariants.{Close as CloseLine, End as EndLine};
-ghost use Rattle.shared_book.specs.declared.parcel.Reply.TheVariants.{Closed, Ended};
+ghost use Rattle.std.specs.Prelude.{◌≡◌, ◌≤◌, List};
+ghost use Rattle.group_plan.specs.Tables.{PresenceView};
+ghost use Rattle.transcript_log.specs.declared.Line.{Line as LineView};
+ghost use Rattle.group_book.specs.Replay.{Replays, CanCall};
 ghost use Rattle.shared_book.specs.declared.parcel.Request.TheVariants.{Take as TakeRequest, Close as CloseRequest, End as EndRequest};
-ghost use Rattle.shared_book.specs.Writes.{WriteEnds, AloneEnds};
+ghost use Rattle.shared_book.specs.Parcels.{group_in};
+ghost use Rattle.shared_book.specs.Writes.{WriteEnds};
 
-use crate::parcel::{CommitError, Parcel, Reply, Request};
-use group_book::Book;
+use crate::parcel::{CommitError, Reply, Request};
+use group_book::GroupPages;
 use meter_frames::Frame;
-use round_machine::{Closing, Ending};
-use transcript_log::Line;
+use transcript_log::Lines;
 
-/// What an event left: its line, and what it replies.
-pub struct Made {
-    pub line: Line,
-    pub reply: Reply,
-}
-
-/// Makes one event on the book.
-pub(crate) fn write(book: &mut Book, request: &Request) -> Result<Made, CommitError>
-    requires { 1 ≤ book.old.spare }
-    ensures { WriteEnds book.old request.now result book.new }
+/// Makes one event on the pages of its group.
+pub(crate) fn write(
+    pages: &mut GroupPages,
+    rounds: u32,
+    request: &Request,
+    lines: &mut Lines,
+) -> Result<Reply, CommitError>
+    requires can { CanCall pages.old }
+    requires own { pages.old.group ≡ group_in request.now }
+    requires rounds { rounds ≡ pages.old.rounds }
+    requires spare { 1 ≤ lines.old.spare }
+    ensures { (p : PresenceView) (j : List LineView) → Replays p j pages.old → WriteEnds p j request.now pages.old.group lines.old result pages.new lines.new }
 {
     match request {
-        Request::Take(frame) => take(book, frame),
-        Request::Close { group, round } => close(book, *group, *round),
-        Request::End { group, round } => end(book, *group, *round),
+        Request::Take(frame) => take(pages, frame, lines),
+        Request::Close { group: _, round } => close(pages, rounds, *round, lines),
+        Request::End { group: _, round } => end(pages, rounds, *round, lines),
     }
 }
 
-/// The line of a frame that the book takes.
-#[tactic(auto, using(crate::proofs::Judging::took, crate::proofs::Judging::not_taken))]
-fn take(book: &mut Book, frame: &Frame) -> Result<Made, CommitError>
-    requires { 1 ≤ book.old.spare }
-    ensures { WriteEnds book.old (TakeRequest frame.now) result book.new }
+/// The line of a frame that the pages take.
+fn take(pages: &mut GroupPages, frame: &Frame, lines: &mut Lines) -> Result<Reply, CommitError>
+    requires can { CanCall pages.old }
+    requires own { frame.now.tag.group ≡ pages.old.group }
+    requires spare { 1 ≤ lines.old.spare }
+    ensures { (p : PresenceView) (j : List LineView) → Replays p j pages.old → WriteEnds p j (TakeRequest frame.now) pages.old.group lines.old result pages.new lines.new }
 {
-    match book.take(frame) {
-        Ok(verdict) => Ok(Made {
-            line: Line::Take {
-                tag: frame.tag,
-                verdict,
-            },
-            reply: Reply::Took(verdict),
-        }),
+    match pages.take(frame, lines) {
+        Ok(verdict) => Ok(Reply::Took(verdict)),
         Err(e) => Err(CommitError::Take(e)),
     }
 }
 
 /// The line of a Close of this round.
-#[tactic(auto, using(crate::proofs::Judging::closed_one, crate::proofs::Judging::no_close))]
-fn close(book: &mut Book, group: u16, round: u32) -> Result<Made, CommitError>
-    requires { 1 ≤ book.old.spare }
-    ensures { WriteEnds book.old (CloseRequest group round) result book.new }
+#[tactic(auto, using(crate::proofs::Writing::no_close))]
+fn close(
+    pages: &mut GroupPages,
+    rounds: u32,
+    round: u32,
+    lines: &mut Lines,
+) -> Result<Reply, CommitError>
+    requires can { CanCall pages.old }
+    requires rounds { rounds ≡ pages.old.rounds }
+    requires spare { 1 ≤ lines.old.spare }
+    ensures { (p : PresenceView) (j : List LineView) → Replays p j pages.old → WriteEnds p j (CloseRequest pages.old.group round) pages.old.group lines.old result pages.new lines.new }
 {
-    if !book.has_round(group, round) {
+    if round >= rounds {
         return Err(CommitError::Place);
     }
-    let closing = book.close(group, round);
-    Ok(closed(group, round, &closing))
+    Ok(Reply::Closed(pages.close(round, lines)))
 }
 
 /// The line of an End of this round.
-#[tactic(auto, using(crate::proofs::Judging::ended_one, crate::proofs::Judging::no_end))]
-fn end(book: &mut Book, group: u16, round: u32) -> Result<Made, CommitError>
-    requires { 1 ≤ book.old.spare }
-    ensures { WriteEnds book.old (EndRequest group round) result book.new }
+#[tactic(auto, using(crate::proofs::Writing::no_end))]
+fn end(
+    pages: &mut GroupPages,
+    rounds: u32,
+    round: u32,
+    lines: &mut Lines,
+) -> Result<Reply, CommitError>
+    requires can { CanCall pages.old }
+    requires rounds { rounds ≡ pages.old.rounds }
+    requires spare { 1 ≤ lines.old.spare }
+    ensures { (p : PresenceView) (j : List LineView) → Replays p j pages.old → WriteEnds p j (EndRequest pages.old.group round) pages.old.group lines.old result pages.new lines.new }
 {
-    if !book.has_round(group, round) {
+    if round >= rounds {
         return Err(CommitError::Place);
     }
-    let ending = book.end(group, round);
-    Ok(ended(group, round, &ending))
-}
-
-fn closed(group: u16, round: u32, closing: &Closing) -> Made
-    ensures line { result.line ≡ CloseLine group round closing.now }
-    ensures reply { result.reply ≡ Closed closing.now }
-{
-    Made {
-        line: Line::Close {
-            group,
-            round,
-            closing: *closing,
-        },
-        reply: Reply::Closed(*closing),
-    }
-}
-
-fn ended(group: u16, round: u32, ending: &Ending) -> Made
-    ensures line { result.line ≡ EndLine group round ending.now }
-    ensures reply { result.reply ≡ Ended ending.now }
-{
-    Made {
-        line: Line::End {
-            group,
-            round,
-            ending: *ending,
-        },
-        reply: Reply::Ended(*ending),
-    }
-}
-
-impl Parcel {
-    /// Commits the parcel to a book that the caller has alone. An error adds no line.
-    pub fn commit_alone(&self, book: &mut Book) -> Result<Reply, CommitError>
-        requires { 1 ≤ book.old.spare }
-        ensures { AloneEnds book.old self.now result book.new }
-    {
-        let request = match self.request() {
-            Ok(request) => request,
-            Err(e) => return Err(CommitError::Frame(e)),
-        };
-        let Made { line: _, reply } = match write(book, &request) {
-            Ok(made) => made,
-            Err(e) => return Err(e),
-        };
-        Ok(reply)
-    }
+    Ok(Reply::Ended(pages.end(round, lines)))
 }

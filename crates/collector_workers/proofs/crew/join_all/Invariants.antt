@@ -1,22 +1,14 @@
-use Rattle.std.proofs.Common.{◌≡◌, ◌+◌, ◌++◌, reverse, length, vec_len, All}
+use Rattle.std.proofs.Common.{◌≡◌, ◌+◌, ◌<◌, ℕ, length, slice_index_or}
 use Rattle.shared_book.specs.Ends.{IsPassOf, view}
-use Rattle.shared_book.specs.Turns.{StartsWith}
-use Rattle.collector_workers.specs.Gathering.{AreReplies, IsWorkerOf, numbers_of}
+use Rattle.collector_workers.specs.declared.crew.Worker.{Worker}
+use Rattle.collector_workers.specs.Gathering.{JoinsAll}
 use Rattle.collector_workers.proofs.crew.join_all.Given as goal
 
 abbrev pub invariant-loop-worker : goal.invariant-loop-worker
 invariant-loop-worker l = record {
-  of : IsPassOf l.shared l.first;
-  seen : StartsWith (view l.first).seen (view l.fn.first).seen;
-  mine : (view l.first).mine ≡ (view l.fn.first).mine;
-  number : (view l.first).number ≡ (view l.fn.first).number;
-  made : (view l.first).made ≡ (view l.fn.first).made;
-  out : (view l.first).out + vec_len l.fn.workers ≡ (view l.fn.first).out + vec_len l.workers;
-  joined : (view l.first).joined ++ reverse (numbers_of l.workers.items) ≡ (view l.fn.first).joined ++ reverse (numbers_of l.fn.workers.items);
-  all : All (IsWorkerOf l.shared) l.workers.items;
-  told : AreReplies (view l.first).seen l.replies;
-  long : length l.replies ≡ length l.fn.replies;
+  can_next : (goal.iterator-loop-worker).can_next l.worker-iterator;
+  finite : (goal.iterator-loop-worker).is_finite l.worker-iterator;
+  pass : IsPassOf l.shared l.first;
+  joins : JoinsAll (view l.fn.first) l.yielded (view l.first);
+  numbers : (k : ℕ) (d : Worker) → k < length l.yielded → (view (slice_index_or l.yielded k d).pass).number + length l.fn.crew.items ≡ (view l.fn.first).made + 1 + k;
 }
-
-abbrev pub decreases-loop-worker : goal.decreases-loop-worker
-decreases-loop-worker l = goal.left-loop-worker l

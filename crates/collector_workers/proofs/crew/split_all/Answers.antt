@@ -1,31 +1,34 @@
-use Rattle.std.proofs.Common.{◌≡◌, ◌+◌, ◌++◌, ◌∷◌, [], ap, ◌∙◌, sym, subst, All, List, arith, rules}
-use Rattle.std.proofs.lemmas.List.Elements.{All-push}
-use Rattle.shared_book.specs.declared.parts.Pass.{Pass}
-use Rattle.shared_book.specs.Ends.{IsPassOf, view}
-use Rattle.shared_book.specs.Passes.{PassView}
-use Rattle.collector_workers.specs.declared.crew.Committed.{Committed}
-use Rattle.collector_workers.specs.Gathering.{IsReplyAt, IsWorkerOf}
-use Rattle.collector_workers.proofs.Numbers.{numbers_push}
+use Rattle.std.proofs.Common.{◌≡◌, ◌+◌, ◌++◌, ◌∷◌, [], List, length, ap, sym, subst, ◌∙◌, refl, arith}
+use Rattle.std.proofs.lemmas.List.{length_push}
+use Rattle.shared_book.specs.Ends.{view}
+use Rattle.shared_book.specs.Passes.{PassView, new_pass}
+use Rattle.collector_workers.specs.declared.crew.Worker.{Worker}
+use Rattle.collector_workers.specs.declared.desk.Desk.{Desk}
+use Rattle.collector_workers.specs.Gathering.{IsNewWorker, IsNewCrew}
+use Rattle.collector_workers.proofs.Joins.{crew_more, splits_more}
 use Rattle.collector_workers.proofs.crew.split_all.Goals as goal
 
-pub loop-worker-preserved : goal.loop-worker-preserved
-loop-worker-preserved c =
-    let i = c.loop-worker.invariant in
-    let worker = c.new_worker-worker.result in
-    let same : worker.pass ≡ c.split-pass.result = c.new_worker-worker.ensures.0 in
-    let made : (view c.loop-worker.first).made ≡ (view c.args.first.now).made + c.loop-worker._worker = ap (λ (v : PassView). v.made) i.splits in
-    let number : (view c.split-pass.result).number ≡ (view c.loop-worker.first).made + 1 = ap (λ (v : PassView). v.number) c.split-pass.ensures.ends.second in
-    let own : (view worker.pass).number ≡ (view c.loop-worker.first).made + 1 = ap (λ (p : Pass). (view p).number) same ∙ number in
-    let is : IsWorkerOf c.args.shared.now worker = (
-      subst (λ (p : Pass). IsPassOf c.args.shared.now p) (sym same) c.split-pass.ensures.passes.1,
-      subst (λ (cs : List Committed). All (IsReplyAt (view worker.pass).seen) cs) (sym c.new_worker-worker.ensures.1) (λ k d lt. absurd (omega (arith, lt))),
-    ) in
-    let pushed : c.push_reserved.new.self.items ≡ c.loop-worker.workers.items ++ worker ∷ [] = search rules in
-    record {
-      of = search rules;
-      splits = search rules;
-      all = rw pushed (All-push (IsWorkerOf c.args.shared.now) c.loop-worker.workers.items worker i.all is);
-      numbers = rw pushed (numbers_push ((view c.args.first.now).made + 1) c.loop-worker._worker c.loop-worker.workers.items worker i.numbers (omega (arith, made, own)));
-      long = search rules;
-      room = search rules;
+pub loop-desk-preserved : goal.loop-desk-preserved
+loop-desk-preserved c =
+    let i = c.loop-desk.invariant in
+    let shared = c.args.shared.now in
+    let v = view c.args.first.now in
+    let w = view c.loop-desk.first in
+    let ends = c.split-pass.ensures.ends in
+    let done : List Desk = c.loop-desk.yielded in
+    let crew : List Worker = c.loop-desk.crew.items in
+    let desk : Desk = c.in-Some.desk in
+    let worker : Worker = record { pass = c.split-pass.result; desk = desk } in
+    let p = c.push_reserved.ensures in
+    let made : w.made ≡ v.made + length done = ap (λ (x : PassView). x.made) i.splits in
+    let seen : w.seen ≡ v.seen = ap (λ (x : PassView). x.seen) i.splits in
+    let number : w.made + 1 ≡ v.made + 1 + length crew = (let e = i.new.0 in omega arith) in
+    let is : IsNewWorker shared v (v.made + 1 + length crew) desk worker = (c.split-pass.ensures.passes.1, ends.second ∙ (λ k. new_pass (number k) (seen k)), refl) in record {
+      can_next = tt;
+      finite = tt;
+      pass = c.split-pass.ensures.passes.0;
+      splits = splits_more v w (view c.split-pass.new.pass) done desk i.splits ends.first;
+      new = subst (λ (ws : List Worker). IsNewCrew shared v (done ++ desk ∷ []) ws) (sym p.items) (crew_more shared v done crew desk worker i.new is);
+      long = p.len ∙ ap (λ k. k + 1) i.long ∙ sym (length_push done desk);
+      room = p.capacity ∙ i.room;
     }

@@ -1,15 +1,15 @@
-use Rattle.std.proofs.Common.{◌≡◌, ◌+◌, vec_len, vec_capacity, All}
-use Rattle.std.specs.List.{range_with_len}
+use Rattle.std.proofs.Common.{◌≡◌, length, vec_len, vec_capacity}
 use Rattle.shared_book.specs.Ends.{IsPassOf, view}
-use Rattle.collector_workers.specs.Gathering.{IsWorkerOf, numbers_of, SplitsAll}
+use Rattle.collector_workers.specs.Gathering.{SplitsAll, IsNewCrew}
 use Rattle.collector_workers.proofs.crew.split_all.Given as goal
 
-abbrev pub invariant-loop-worker : goal.invariant-loop-worker
-invariant-loop-worker l = record {
-  of : IsPassOf l.shared l.first;
-  splits : SplitsAll (view l.fn.first) l._worker (view l.first);
-  all : All (IsWorkerOf l.shared) l.workers.items;
-  numbers : numbers_of l.workers.items ≡ range_with_len ((view l.fn.first).made + 1) l._worker;
-  long : vec_len l.workers ≡ l._worker;
-  room : vec_capacity l.workers ≡ vec_capacity l.fn.workers;
+abbrev pub invariant-loop-desk : goal.invariant-loop-desk
+invariant-loop-desk l = record {
+  can_next : (goal.iterator-loop-desk).can_next l.desk-iterator;
+  finite : (goal.iterator-loop-desk).is_finite l.desk-iterator;
+  pass : IsPassOf l.shared l.first;
+  splits : SplitsAll (view l.fn.first) (length l.yielded) (view l.first);
+  new : IsNewCrew l.shared (view l.fn.first) l.yielded l.crew.items;
+  long : vec_len l.crew ≡ length l.yielded;
+  room : vec_capacity l.crew ≡ vec_capacity l.fn.crew;
 }

@@ -1,7 +1,13 @@
-use Rattle.std.proofs.Common.{◌≡◌}
-use Rattle.shared_book.specs.Ends.{view}
-use Rattle.collector_workers.specs.Gathering.{IsWorkerOf}
+use Rattle.std.proofs.Common.{◌≡◌, ◌≤◌, ◌+◌, take, length, vec_capacity, vec_len}
+use Rattle.shared_book.specs.Ends.{opening, IsPassOf}
+use Rattle.collector_workers.specs.Gathering.{Does}
 use Rattle.collector_workers.proofs.crew.work.Given as goal
 
-abbrev pub invariant-places : goal.invariant-places
-invariant-places g l = IsWorkerOf l.shared l.worker × ((view l.worker.pass).number ≡ (view l.fn.worker.pass).number)
+abbrev pub invariant-loop-place : goal.invariant-loop-place
+invariant-loop-place g l = record {
+  pass : IsPassOf l.shared l.worker.pass;
+  does : Does (opening l.shared) l.fn.worker (take l.place l.fn.worker.desk.parcels.items) l.worker;
+  long : vec_len l.worker.desk.outcomes ≡ l.place;
+  room : length l.fn.worker.desk.parcels.items ≤ vec_capacity l.worker.desk.outcomes;
+  lines : length l.fn.worker.desk.parcels.items ≤ l.place + l.worker.desk.lines.spare;
+}

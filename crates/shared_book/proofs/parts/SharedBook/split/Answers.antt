@@ -6,4 +6,5 @@ pub split_seat-seat-requires : goal.split_seat-seat-requires
 split_seat-seat-requires c =
     let r = c.args.pass.now.rests in
     let w = c.args.self.now.words_are in
-    (c.requires.pass.table, omega arith, splits _ _ _ r.1 c.requires.first r.2 r.3 r.4 c.requires.few)
+    let some = c.args.self.now.some_group in
+    (c.requires.pass.table, omega arith, splits _ _ _ r.1 c.requires.first c.requires.free r.2)

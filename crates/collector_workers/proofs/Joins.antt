@@ -1,0 +1,125 @@
+-- Passes that are split off and joined, one after another.
+use Rattle.std.proofs.Common.{◌≡◌, ◌≢◌, ◌<◌, ◌+◌, ℕ, zero, suc, List, [], ◌∷◌, ◌++◌, length, map, get_or, refl, sym, ap, ◌∙◌, subst, append_assoc, append-nil, arith}
+use Rattle.std.specs.List.{All, Contains}
+use Rattle.std.proofs.lemmas.List.{length_push, get_or_push, get_or_append_left, map-append}
+use Rattle.std.proofs.lemmas.List.Elements.{All-nil, All-push, Contains-append_left, Contains-append_right}
+use mathlib.Core.Logic.{dite}
+use native.Mathlib.Decide.{ℕ_discrete}
+use Rattle.shared_book.specs.declared.parcel.Parcel.{Parcel}
+use Rattle.shared_book.specs.declared.parts.SharedBook.{SharedBook}
+use Rattle.shared_book.specs.Ends.{view}
+use Rattle.shared_book.specs.Turns.{turns_by}
+use Rattle.shared_book.specs.Passes.{PassView, JoinEnds}
+use Rattle.shared_book.proofs.Turning.{starts_on}
+use Rattle.collector_workers.specs.declared.crew.Worker.{Worker}
+use Rattle.collector_workers.specs.declared.desk.Desk.{Desk}
+use Rattle.collector_workers.specs.Gathering.{IsDeskFor, AreDesks, SplitsAll, IsNewWorker, IsNewCrew, IsJoined, numbers_of, JoinsAll}
+use Rattle.collector_workers.proofs.Told.{starts_same}
+
+abbrev number_of : Worker → ℕ
+number_of worker = (view worker.pass).number
+
+-- ---- desks
+
+-- one desk more
+pub desks_more : (batch : List Parcel) (n : ℕ) (desks : List Desk) (desk : Desk) → AreDesks batch n desks → IsDeskFor batch n (length desks) desk → AreDesks batch n (desks ++ desk ∷ [])
+desks_more batch n desks desk old new k d lt =
+    let one = length_push desks desk in
+    dite (ℕ_discrete k (length desks))
+    (λ (e : k ≡ length desks). subst (λ (x : ℕ × Desk). IsDeskFor batch n x.0 x.1) (λ i. (sym e i, sym (get_or_push desks desk d k (sym e)) i)) new)
+    (λ (ne : k ≢ length desks). subst (IsDeskFor batch n k) (sym (get_or_append_left desks (desk ∷ []) d k (omega arith))) (old k d (omega arith)))
+
+-- ---- split
+
+-- one worker more
+pub crew_more : (book : SharedBook) (v : PassView) (desks : List Desk) (crew : List Worker) (desk : Desk) (worker : Worker) → IsNewCrew book v desks crew → IsNewWorker book v (v.made + 1 + length crew) desk worker
+    → IsNewCrew book v (desks ++ desk ∷ []) (crew ++ worker ∷ [])
+crew_more book v desks crew desk worker old new =
+    let long = old.0 in
+    let one = length_push crew worker in
+    let two = length_push desks desk in (
+      omega arith,
+      λ k d lt. dite (ℕ_discrete k (length crew))
+          (λ (e : k ≡ length crew).
+          let at_desk : get_or (desks ++ desk ∷ []) k d.desk ≡ desk = get_or_push desks desk d.desk k (omega arith) in
+          let at_crew : get_or (crew ++ worker ∷ []) k d ≡ worker = get_or_push crew worker d k (sym e) in
+          subst (λ (x : ℕ × Desk × Worker). IsNewWorker book v (v.made + 1 + x.0) x.1 x.2) (λ i. (sym e i, sym at_desk i, sym at_crew i)) new)
+          (λ (n : k ≢ length crew).
+          let before : k < length crew = omega arith in
+          let at_desk : get_or (desks ++ desk ∷ []) k d.desk ≡ get_or desks k d.desk = get_or_append_left desks (desk ∷ []) d.desk k (omega arith) in
+          let at_crew : get_or (crew ++ worker ∷ []) k d ≡ get_or crew k d = get_or_append_left crew (worker ∷ []) d k before in
+          subst (λ (x : Desk × Worker). IsNewWorker book v (v.made + 1 + k) x.0 x.1) (λ i. (sym at_desk i, sym at_crew i)) (old.1 k d before)),
+    )
+
+-- ---- join
+
+pub joins_none : (v : PassView) → JoinsAll v [] v
+joins_none v = record {
+  seen = starts_same v.seen;
+  mine = refl;
+  number = refl;
+  made = refl;
+  held = refl;
+  out = omega arith;
+  joined = sym (append-nil v.joined);
+  own = λ lt. absurd (omega arith);
+  all = All-nil (IsJoined v.seen);
+  others = λ n h apart. refl;
+}
+
+number_in : (crew : List Worker) (k : ℕ) (d : Worker) → k < length crew → Contains (numbers_of crew) (number_of (get_or crew k d))
+number_in [] k d lt = absurd (omega arith)
+number_in (w ∷ ws) zero d lt = (0, omega arith, refl)
+number_in (w ∷ ws) (suc k) d lt = let h = number_in ws k d (omega arith) in let in_rest = h.1 in (suc h.0, omega arith, h.2)
+
+-- one pass more
+pub joins_more : (v w w' : PassView) (crew : List Worker) (x : Worker) → JoinsAll v crew w → JoinEnds w (view x.pass) w' → ((k : ℕ) (d : Worker) → k < length crew → number_of (get_or crew k d) ≢ number_of x)
+    → JoinsAll v (crew ++ x ∷ []) w'
+joins_more v w w' crew x old j apart =
+    let more : List Worker = crew ++ x ∷ [] in
+    let long = length_push crew x in
+    let left : (k : ℕ) (d : Worker) → k < length crew → get_or more k d ≡ get_or crew k d = λ k d lt. get_or_append_left crew (x ∷ []) d k lt in
+    let stays : All (IsJoined w'.seen) crew = λ k d lt.
+    let was = old.all k d lt in
+    let c : Contains w.joined (number_of (get_or crew k d)) = subst (λ (ns : List ℕ). Contains ns (number_of (get_or crew k d))) (sym old.joined) (Contains-append_right v.joined (numbers_of crew) (number_of (get_or crew k d)) (number_in crew k d lt)) in
+    (starts_on w'.seen w.seen (view (get_or crew k d).pass).seen j.seen was.0, j.others (number_of (get_or crew k d)) c (apart k d lt) ∙ was.1) in record {
+      seen = starts_on w'.seen w.seen v.seen j.seen old.seen;
+      mine = j.mine ∙ old.mine;
+      number = j.number ∙ old.number;
+      made = j.made ∙ old.made;
+      held = j.held ∙ old.held;
+      out = (let a = j.out in let b = old.out in omega arith);
+      joined = j.joined ∙ ap (λ (ns : List ℕ). ns ++ number_of x ∷ []) old.joined ∙ append_assoc v.joined (numbers_of crew) (number_of x ∷ []) ∙ ap (λ (ns : List ℕ). v.joined ++ ns) (sym (map-append number_of crew (x ∷ [])));
+      own = λ _. ap (λ (n : ℕ). turns_by n w'.seen) (sym old.number) ∙ j.own;
+      all = All-push (IsJoined w'.seen) crew x stays (j.theirs, j.other);
+      others = λ n h other.
+          let c : Contains w.joined n = subst (λ (ns : List ℕ). Contains ns n) (sym old.joined) (Contains-append_left v.joined (numbers_of crew) n h) in
+          let last : n ≢ number_of x = λ e. other (length crew) x (omega arith) (e ∙ ap number_of (sym (get_or_push crew x x (length crew) refl))) in
+          j.others n c last ∙ old.others n h (λ k d lt e. other k d (omega arith) (e ∙ ap number_of (sym (left k d lt))));
+    }
+
+-- ---- counts
+
+pub splits_more : (v w w' : PassView) (desks : List Desk) (desk : Desk) → SplitsAll v (length desks) w → w' ≡ record w { made = w.made + 1; out = w.out + 1 } → SplitsAll v (length (desks ++ desk ∷ [])) w'
+splits_more v w w' desks desk old new =
+    let long = length_push desks desk in
+    let made : v.made + length desks + 1 ≡ v.made + length (desks ++ desk ∷ []) = omega arith in
+    let out : v.out + length desks + 1 ≡ v.out + length (desks ++ desk ∷ []) = omega arith in
+    new ∙ ap (λ (x : PassView). record x { made = x.made + 1; out = x.out + 1 }) old ∙ (λ i. record v { made = made i; out = out i })
+
+-- the passes of one worker more
+pub last_more : (v : PassView) (n : ℕ) (crew : List Worker) (x : Worker) → ((k : ℕ) (d : Worker) → k < length crew → number_of (get_or crew k d) + n ≡ v.made + 1 + k) → number_of x + n ≡ v.made + 1 + length crew
+    → (k : ℕ) (d : Worker) → k < length (crew ++ x ∷ []) → number_of (get_or (crew ++ x ∷ []) k d) + n ≡ v.made + 1 + k
+last_more v n crew x old new k d lt =
+    let long = length_push crew x in
+    dite (ℕ_discrete k (length crew))
+    (λ (e : k ≡ length crew). ap (λ (w : Worker). number_of w + n) (get_or_push crew x d k (sym e)) ∙ new ∙ ap (λ (m : ℕ). v.made + 1 + m) (sym e))
+    (λ (ne : k ≢ length crew). ap (λ (w : Worker). number_of w + n) (get_or_append_left crew (x ∷ []) d k (omega arith)) ∙ old k d (omega arith))
+
+pub apart_last : (v : PassView) (n : ℕ) (crew : List Worker) (x : Worker) → ((k : ℕ) (d : Worker) → k < length crew → number_of (get_or crew k d) + n ≡ v.made + 1 + k) → number_of x + n ≡ v.made + 1 + length crew
+    → (k : ℕ) (d : Worker) → k < length crew → number_of (get_or crew k d) ≢ number_of x
+apart_last v n crew x old new k d lt e = let a = old k d lt in let same = e in absurd (omega arith)
+
+pub map-same : {A : Type 0} (xs : List A) → map (λ x. x) xs ≡ xs
+map-same [] = refl
+map-same (x ∷ xs) = ap (λ l. x ∷ l) (map-same xs)
