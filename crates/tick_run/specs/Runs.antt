@@ -47,7 +47,7 @@ pub record IsOfRun {R M G : Type 0} (plan_of : M → PlanView) (words_of : M →
   pub known : IsOfOnePlan plan_of words_of context.known
   pub some : 0 < context.threads
 
--- a run before this tick, which is not beyond the last but one: all of its groups stand there
+-- a run before this tick, which is at most one beyond the last: all of its groups stand there
 pub record IsRun {R M G : Type 0} (plan_of : M → PlanView) (words_of : M → Masks) (context : Context R M G) (running : Running) (tick : ℕ) : Type 0 where
   pub of : IsOfRun plan_of words_of context
   pub within : tick ≤ last_tick context.known.readings.now.plan + 1

@@ -7,6 +7,8 @@ use collector_workers::Gate;
 use group_plan::Plan;
 use plan_meters::Known;
 use std::alloc::Global;
+use std::thread;
+use std::thread::Threads;
 
 /// Who makes a run: threads of the handle, so many workers, each through the gate, with memory of the allocator.
 #[derive(Drop)]
@@ -26,16 +28,25 @@ fn frames_a_tick(plan: &Plan) -> usize {
     frames
 }
 
-/// How many threads make the ticks of a plan: one, and another for so many frames a tick as the gate says; no more than the workers
-/// and the groups.
-pub(crate) fn threads_of<G: Gate>(plan: &Plan, workers: Workers, gate: &G) -> usize
+/// How many processors there are, or one where that can't be told.
+fn processors<R: Threads>(rt: &R) -> usize {
+    match thread::available_parallelism(rt) {
+        Ok(processors) => processors.get(),
+        Err(_) => 1,
+    }
+}
+
+/// How many threads make the ticks of a plan: one, and another for so many frames a tick as the gate says; no more than the workers,
+/// the groups, and what the gate allows on this machine.
+pub(crate) fn threads_of<R: Threads, G: Gate>(plan: &Plan, crew: &Crew<R, G>) -> usize
     ensures { 0 < result }
 {
-    let worth = frames_a_tick(plan) / gate.beside().max(1);
+    let worth = frames_a_tick(plan) / crew.gate.beside().max(1);
     let threads = worth
         .saturating_add(1)
-        .min(workers.count as usize)
-        .min(plan.groups().len());
+        .min(crew.workers.count as usize)
+        .min(plan.groups().len())
+        .min(crew.gate.most(processors(crew.rt)));
     threads.max(1)
 }
 

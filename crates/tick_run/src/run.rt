@@ -63,7 +63,7 @@ impl<'a, R: Threads + Sync, M: Masks + Sync, G: Gate> Run<'a, R, M, G> {
         Ok(Run {
             context: Context {
                 crew,
-                threads: threads_of(plan, crew.workers, crew.gate),
+                threads: threads_of(plan, crew),
                 known: Known {
                     readings,
                     masks,
