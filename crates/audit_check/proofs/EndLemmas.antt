@@ -1,5 +1,5 @@
 -- How the parts of an audit end, put together.
-use Rattle.std.proofs.Common.{◌≡◌, ℕ, zero, suc, ◌+◌, ◌*◌, ◌^◌, ◌<◌, ◌≤◌, List, [], ◌∷◌, ◌++◌, length, take, drop, reverse, get_or, refl, sym, ap, ◌∙◌, subst, arith, length-append}
+use Rattle.std.proofs.Common.{◌≡◌, ℕ, zero, suc, ◌+◌, ◌*◌, ◌^◌, ◌<◌, ◌≤◌, List, [], ◌∷◌, ◌++◌, length, take, reverse, get_or, refl, sym, ap, ◌∙◌, subst, arith, length-append, append-nil}
 use Rattle.std.specs.Prelude.{Some, None, Result, Ok, Err}
 use Rattle.std.specs.List.{flat_map, range_with_len}
 use mathlib.Core.Path.{fun_ext}
@@ -12,7 +12,6 @@ use Rattle.group_plan.specs.Tables.{PresenceView}
 use Rattle.transcript_log.specs.declared.Entry.{Entry}
 use Rattle.transcript_log.specs.declared.Line.{Line}
 use Rattle.transcript_log.specs.Events.{once, lines_of}
-use Rattle.transcript_log.specs.Schedule.{shape_of_presence}
 use Rattle.transcript_log.specs.Transcript.{lines_after}
 use Rattle.transcript_log.specs.Frames.{shape_of_lines, contents_of_lines, IsPossible, IsPossibleUpTo}
 use Rattle.transcript_log.specs.Journal.{past_of}
@@ -27,8 +26,8 @@ use Rattle.audit_check.specs.declared.answers.AuditError.{AuditError}
 use Rattle.audit_check.specs.declared.answers.AuditError.TheVariants as audit
 use Rattle.audit_check.specs.Audits.{lines_in, rows_by_frames, IsFirstImpossible, DifferFirst, AuditEnds}
 use Rattle.audit_check.specs.Ends.{Holds, LinesEnd, IsReplayed, RowsEnd}
-use Rattle.frame_presence.specs.Presence.{IsPresenceOf}
 use Rattle.audit_check.specs.Steps.{MayFollow}
+use Rattle.audit_check.specs.Following.{IsReplay}
 use Rattle.audit_check.proofs.HonestLemmas.{events_lines, explained_possible, possible_explained, rows_exact}
 use Rattle.audit_check.proofs.PossibleLemmas.{possible-push, possible-pop, possible_up_to}
 
@@ -38,50 +37,48 @@ pub none_possible : (groups : List Group) → IsPossible groups []
 unfolding once lines_after
 none_possible groups = record { lines = refl; totals = λ g r opened. absurd (false≢true opened) }
 
--- the lines before an entry's, its own, and those after it
-record Splits (entries : List Entry) (at : ℕ) (l : Line) : Type 0 where
-  next : take (at + 1) (lines_of entries) ≡ take at (lines_of entries) ++ l ∷ []
-  whole : lines_of entries ≡ (take at (lines_of entries) ++ l ∷ []) ++ drop (at + 1) (lines_of entries)
-
-splits : (entries : List Entry) (at : ℕ) (d : Entry) → at < length entries → Splits entries at (get_or entries at d).line
+-- the line of an entry comes after those of the entries before it
+splits : (entries : List Entry) (at : ℕ) (d : Entry) → at < length entries → take (at + 1) (lines_of entries) ≡ take at (lines_of entries) ++ (get_or entries at d).line ∷ []
 splits [] at d lt = absurd (omega (arith, lt))
-splits (x ∷ entries) zero d lt = record { next = refl; whole = refl }
+splits (x ∷ entries) zero d lt = refl
 splits (x ∷ entries) (suc at) d lt =
-    let rest = splits entries at d (omega (arith, lt)) in
     let next : suc (at + 1) ≡ suc at + 1 = omega arith in
-    record {
-      next = ap (λ k. take k (lines_of (x ∷ entries))) (sym next) ∙ ap (λ ls. x.line ∷ ls) rest.next;
-      whole = ap (λ ls. x.line ∷ ls) rest.whole ∙ ap (λ k. (take (suc at) (lines_of (x ∷ entries)) ++ (get_or entries at d).line ∷ []) ++ drop k (lines_of (x ∷ entries))) next;
-    }
+    ap (λ k. take k (lines_of (x ∷ entries))) (sym next) ∙ ap (λ ls. x.line ∷ ls) (splits entries at d (omega (arith, lt)))
 
-module _ (plan : PlanView) (entries : List Entry) (at : ℕ) (e : Entry) (b : BookView) (p : PresenceView) (presence : IsPresenceOf plan (lines_of entries) p) (same : b.presence ≡ p)
-    (journal : b.journal ≡ take at (lines_of entries)) (lt : at < length entries) (here : e ≡ get_or entries at e) where
-  abbrev ls : List Line
-  ls = lines_of entries
+-- possible lines, with one that may follow
+goes_on : (groups : List Group) (j : List Line) (l : Line) → IsPossible groups j → MayFollow (shape_of_lines groups (j ++ l ∷ [])) j l → IsPossible groups (j ++ l ∷ [])
+goes_on groups j l possible may = possible-push groups j l [] possible (subst (λ x. MayFollow (shape_of_lines groups x) j l) (sym (append-nil (j ++ l ∷ []))) may)
 
-  abbrev l : Line
-  l = e.line
+-- and with one that may not
+stops : (groups : List Group) (j : List Line) (l : Line) → (¬ MayFollow (shape_of_lines groups (j ++ l ∷ [])) j l) → ¬ IsPossible groups (j ++ l ∷ [])
+stops groups j l may_not possible = may_not (subst (λ x. MayFollow (shape_of_lines groups x) j l) (append-nil (j ++ l ∷ [])) (possible-pop groups j l [] possible))
 
-  split : Splits entries at l
-  split = subst (λ (x : Entry). Splits entries at x.line) (sym here) (splits entries at e lt)
+module _ (plan : PlanView) (q : PlanView) (front j : List Line) (l : Line) (same : q ≡ plan) (journal : j ≡ front) where
+  follows_here : MayFollow (shape_of_lines q.groups (j ++ l ∷ [])) j l → MayFollow (shape_of_lines plan.groups (front ++ l ∷ [])) front l
+  follows_here may =
+      subst (λ x. MayFollow (shape_of_lines plan.groups (x ++ l ∷ [])) x l) journal (subst (λ (x : PlanView). MayFollow (shape_of_lines x.groups (j ++ l ∷ [])) j l) same may)
 
-  shape : shape_of b ≡ shape_of_lines plan.groups ((take at ls ++ l ∷ []) ++ drop (at + 1) ls)
-  shape = ap shape_of_presence same ∙ presence.shape_is ∙ ap (shape_of_lines plan.groups) split.whole
+  follows_there : MayFollow (shape_of_lines plan.groups (front ++ l ∷ [])) front l → MayFollow (shape_of_lines q.groups (j ++ l ∷ [])) j l
+  follows_there may =
+      subst (λ (x : PlanView). MayFollow (shape_of_lines x.groups (j ++ l ∷ [])) j l) (sym same) (subst (λ x. MayFollow (shape_of_lines plan.groups (x ++ l ∷ [])) x l) (sym journal) may)
 
-  pub goes_on : IsPossible plan.groups (take at ls) → MayFollow (shape_of b) b.journal l → IsPossible plan.groups (take (at + 1) ls)
-  goes_on possible may =
-      subst (IsPossible plan.groups) (sym split.next)
-      (possible-push plan.groups (take at ls) l (drop (at + 1) ls) possible
-      (subst (λ s. MayFollow s (take at ls) l) shape (subst (λ j. MayFollow (shape_of b) j l) journal may)))
+  pub more_possible : IsPossible plan.groups front → MayFollow (shape_of_lines q.groups (j ++ l ∷ [])) j l → IsPossible plan.groups (front ++ l ∷ [])
+  more_possible possible may = goes_on plan.groups front l possible (follows_here may)
 
-  pub stops : (¬ MayFollow (shape_of b) b.journal l) → ¬ IsPossibleUpTo plan.groups (at + 1) ls
-  stops may_not possible =
-      may_not (subst (λ j. MayFollow (shape_of b) j l) (sym journal) (subst (λ s. MayFollow s (take at ls) l) (sym shape)
-      (possible-pop plan.groups (take at ls) l (drop (at + 1) ls) (subst (IsPossible plan.groups) split.next possible))))
+  pub not_possible : (¬ MayFollow (shape_of_lines q.groups (j ++ l ∷ [])) j l) → ¬ IsPossible plan.groups (front ++ l ∷ [])
+  not_possible may_not = stops plan.groups front l (λ may. may_not (follows_there may))
 
-pub journal_more : (entries : List Entry) (at : ℕ) (e : Entry) (old new : List Line) → at < length entries → e ≡ get_or entries at e → old ≡ take at (lines_of entries) → new ≡ old ++ e.line ∷ [] → new ≡ take (at + 1) (lines_of entries)
-journal_more entries at e old new lt here before gains =
-    gains ∙ ap (λ j. j ++ e.line ∷ []) before ∙ ap (λ (x : Entry). take at (lines_of entries) ++ x.line ∷ []) here ∙ sym (splits entries at e lt).next
+-- the next of some entries
+pub next_line : (entries : List Entry) (at : ℕ) (e : Entry) → at < length entries → e ≡ get_or entries at e → take (at + 1) (lines_of entries) ≡ take at (lines_of entries) ++ e.line ∷ []
+next_line entries at e lt here = splits entries at e lt ∙ ap (λ (x : Entry). take at (lines_of entries) ++ x.line ∷ []) (sym here)
+
+-- what is kept once all lines are replayed
+pub holds : (plan : PlanView) (ls : List Line) (b : BookView) (seen : PresenceView) (sets : List (List ℕ)) → b.presence.plan ≡ plan → b.journal ≡ ls → IsReplay b.presence b.journal seen sets → Holds plan ls b
+holds plan ls b seen sets same journal is = record {
+  plan_is = same;
+  shape_is = is.shape ∙ ap (λ (q : PlanView). shape_of_lines q.groups b.journal) same ∙ ap (shape_of_lines plan.groups) journal;
+  journal_is = journal;
+}
 
 pub lines_long : (entries : List Entry) → length (lines_of entries) ≡ length entries
 lines_long entries = length-map entries (λ (e : Entry). e.line)

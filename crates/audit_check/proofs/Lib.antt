@@ -12,3 +12,7 @@ pub mod PostCounts
 pub mod TextLengths
 pub mod RunLengths
 pub mod OpenedLemmas
+pub mod MeetLemmas
+pub mod FollowLemmas
+pub mod ReadLemmas
+pub mod PassLemmas

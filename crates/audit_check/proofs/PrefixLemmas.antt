@@ -29,7 +29,7 @@ unfolding once
 none_once p = refl
 
 -- an event of the past is that of a line
-once-any : (p : Event → Bool) (j : List Line) → once (λ e _. p e) (past_of j) ≡ list_any (λ l. p (event_of l)) j
+pub once-any : (p : Event → Bool) (j : List Line) → once (λ e _. p e) (past_of j) ≡ list_any (λ l. p (event_of l)) j
 once-any p j = line_by_line (λ x. once (λ e _. p e) (past_of x) ≡ list_any (λ l. p (event_of l)) x) (none_once p)
     (λ x l same. ap (once (λ e _. p e)) (past_of-push x l) ∙ once-cons (λ e _. p e) (event_of l) (past_of x) ∙ ap (λ q. p (event_of l) || q) same ∙ sym (any-push (λ y. p (event_of y)) x l)) j
 

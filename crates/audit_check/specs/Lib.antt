@@ -4,6 +4,8 @@ pub mod Steps
 pub mod Deciding
 pub mod Rows
 pub mod Replays
+pub mod Following
+pub mod Passes
 pub mod Answers
 pub mod Ends
 pub mod Lengths

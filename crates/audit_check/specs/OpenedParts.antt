@@ -1,5 +1,5 @@
--- The opened rounds of a book, one after another.
-use Rattle.std.specs.Prelude.{◌≡◌, ℕ, ◌+◌, ◌≤◌, ◌⊎◌, Bool, true, false, ◌&&◌, not, length, if◌then◌else◌, Option, Some, None}
+-- The opened rounds, one after another, by the book of the lines so far.
+use Rattle.std.specs.Prelude.{◌≡◌, ℕ, ◌+◌, ◌≤◌, ◌⊎◌, Bool, true, false, ◌&&◌, not, List, length, if◌then◌else◌, Option, Some, None}
 use Rattle.std.specs.List.{count_by, range_with_len}
 use Rattle.group_plan.specs.Plans.{PlanView}
 use Rattle.transcript_log.specs.Schedule.{is_opened, is_published, survivors}
@@ -15,6 +15,11 @@ opened_by b g r = is_opened (shape_of b) g r (past b)
 
 abbrev pub size_by : BookView → ℕ → ℕ → ℕ
 size_by b g r = length (survivors (shape_of b) g r (past b))
+
+-- the survivors of a round, where it is opened
+abbrev pub IsOpenedBy : BookView → ℕ → ℕ → Option (List ℕ) → Type 0
+IsOpenedBy b g r (Some set) = (opened_by b g r ≡ true) × (set ≡ survivors (shape_of b) g r (past b))
+IsOpenedBy b g r None = opened_by b g r ≡ false
 
 -- its total is published
 abbrev pub published_by : BookView → ℕ → ℕ → Bool

@@ -1,24 +1,26 @@
--- Lines that are replayed on a book, one after another, and who has sent an answer in each round.
+-- Lines that are replayed, one after another, by the book of the lines so far, and who has sent an answer in each round.
 use Rattle.std.specs.Prelude.{◌≡◌, ℕ, ◌+◌, ◌<◌, ◌≤◌, Bool, true, false, List, [], ◌∷◌, ◌++◌, length, filter, slice_index_or, is_some, None, Some}
 use Rattle.group_plan.specs.declared.Kind.TheVariants.{Answer}
-use Rattle.group_plan.specs.Plans.{PlanView, members}
-use Rattle.group_plan.specs.Tables.{PresenceView}
+use Rattle.group_plan.specs.Plans.{PlanView, members, is_place}
 use Rattle.transcript_log.specs.declared.Line.{Line}
 use Rattle.transcript_log.specs.declared.Line.TheVariants.{Send as SendLine, Take as TakeLine, Close as CloseLine, End as EndLine}
 use Rattle.meter_frames.specs.declared.Frame.{Frame}
 use Rattle.meter_frames.specs.Frames.{FitsKind}
 use Rattle.group_plan.specs.declared.Tag.{Tag}
-use Rattle.group_book.specs.Books.{BookView, shape_of, knows, has_round, posted, posted_of, IsFree}
-use Rattle.group_book.specs.Places.{all_rounds, page_at}
+use Rattle.group_book.specs.Books.{BookView, shape_of, posted, posted_of, IsFree}
+use Rattle.group_book.specs.Places.{all_rounds, page_at, is_round}
 use Rattle.audit_check.specs.Steps.{IsTold, MayFollow}
 
 -- the plan has the places of the line, and a frame has the line's tag, and what its kind allows
+abbrev pub FitsPlan : PlanView → Line → Type 0
+FitsPlan plan (SendLine tag None) = is_place plan tag.group tag.round tag.meter ≡ true
+FitsPlan plan (SendLine tag (Some f)) = (is_place plan tag.group tag.round tag.meter ≡ true) × (f.tag ≡ tag) × FitsKind f.tag.kind f.missing f.word
+FitsPlan plan (TakeLine tag verdict) = is_place plan tag.group tag.round tag.meter ≡ true
+FitsPlan plan (CloseLine g r closing) = is_round plan g r ≡ true
+FitsPlan plan (EndLine g r ending) = is_round plan g r ≡ true
+
 abbrev pub FitsBook : BookView → Line → Type 0
-FitsBook b (SendLine tag None) = knows b tag ≡ true
-FitsBook b (SendLine tag (Some f)) = (knows b tag ≡ true) × (f.tag ≡ tag) × FitsKind f.tag.kind f.missing f.word
-FitsBook b (TakeLine tag verdict) = knows b tag ≡ true
-FitsBook b (CloseLine g r closing) = has_round b g r ≡ true
-FitsBook b (EndLine g r ending) = has_round b g r ≡ true
+FitsBook b l = FitsPlan b.presence.plan l
 
 -- the frame is the one that is posted under the tag, or one of the tag where none is posted
 pub record IsPostedOrEmpty (b : BookView) (tag : Tag) (f : Frame) : Type 0 where
@@ -49,10 +51,3 @@ pub record AreAnswered (plan : PlanView) (journal : List Line) (sets : List (Lis
 abbrev pub Replays : BookView → Line → Bool → BookView → List (List ℕ) → Type 0
 Replays b l true c sets = Gains b l c × MayFollow (shape_of b) b.journal l × AreAnswered c.presence.plan c.journal sets
 Replays b l false c sets = ¬ MayFollow (shape_of b) b.journal l
-
--- a book with no line, of this presence, with room for so many, and no answer
-pub record Begins (presence : PresenceView) (lines : ℕ) (b : BookView) (sets : List (List ℕ)) : Type 0 where
-  pub presence_is : b.presence ≡ presence
-  pub journal_is : b.journal ≡ []
-  pub room : lines ≤ b.spare
-  pub answered : AreAnswered presence.plan [] sets

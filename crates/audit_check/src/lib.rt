@@ -4,13 +4,16 @@
 mod answers;
 mod auditing;
 mod comparing;
+mod meeting;
 mod opened;
+mod passing;
 mod replay;
 mod telling;
 mod totals;
 
 pub use answers::{AuditCounts, AuditError, Inspected};
-pub use auditing::{audit, inspect};
+pub use auditing::{Replayed, inspect};
 pub use opened::OpenedRounds;
+pub use passing::replay_text;
 
 pub mod laws;

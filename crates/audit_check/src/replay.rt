@@ -1,24 +1,32 @@
-//! Lines replayed on a book, one after another.
+//! Lines replayed, one after another, and none of them kept.
 
-ghost use Rattle.std.specs.Prelude.{◌≡◌, ◌<◌, ◌≤◌, [], IsTrue, IfOk, length, replicate, All};
-ghost use Rattle.group_book.specs.Books.{has_round, knows};
+ghost use Rattle.std.specs.Prelude.{◌≡◌, ◌<◌, [], ◌&&◌, IsTrue, IfOk, length, not, replicate};
+ghost use Rattle.group_plan.specs.Plans.{is_place, is_member};
+ghost use Rattle.group_plan.specs.Tables.{is_present};
+ghost use Rattle.group_book.specs.Books.{knows};
 ghost use Rattle.group_book.specs.Places.{is_round, all_rounds, page_at};
-ghost use Rattle.audit_check.specs.Replays.{FitsBook, AreAnswered, Replays, Begins};
+ghost use Rattle.frame_presence.specs.Presence.{IsPresenceOf};
+ghost use Rattle.audit_check.specs.Replays.{FitsBook, AreAnswered, Replays};
 ghost use Rattle.audit_check.specs.Answers.{IsAnswerOf, AnswerEnds};
+ghost use Rattle.audit_check.specs.Following.{IsReplay, Meets, LineEnds};
 
+use crate::meeting::{has_frame, reading_of};
 use crate::telling::say;
 use crate::totals::may_open;
-use group_book::Book;
+use audit_rounds::Rounds;
+use frame_presence::presence_of_frames;
 use group_plan::{Kind, Plan, Presence, Tag};
 use missing_round::MeterSet;
 use std::alloc::{AllocError, Global};
-use transcript_log::Line;
+use transcript_log::{Line, Transcript};
 
-/// A book, and of each round the meters that have sent an answer.
+/// What is kept of each round while lines are replayed, and none of the lines.
 #[derive(Drop)]
 pub(crate) struct Replay {
-    pub(crate) book: Book,
-    /// The rounds, one after another by groups.
+    pub(crate) rounds: Rounds,
+    /// The members of whose reading a Send came.
+    seen: Presence,
+    /// The meters that have sent an answer, the rounds one after another by groups.
     answered: Vec<MeterSet>,
 }
 
@@ -65,51 +73,109 @@ fn answer_of(line: &Line) -> Option<Tag>
     }
 }
 
+// Nobody has a reading.
+fn no_presence(alloc: Global, plan: &Plan) -> Result<Presence, AllocError>
+    ensures { IfOk result (IsPresenceOf plan.now []) }
+{
+    let none = Transcript::empty(alloc, plan)?;
+    presence_of_frames(alloc, &none)
+}
+
 impl Replay {
-    /// A replay of no line, with room for so many.
-    pub(crate) fn new(alloc: Global, presence: &Presence, lines: u64) -> Result<Replay, AllocError>
-        ensures { IfOk result (λ replay. Begins presence.now lines replay.book replay.answered.items) }
+    /// A replay of no line.
+    pub(crate) fn new(alloc: Global, plan: &Plan) -> Result<Replay, AllocError>
+        ensures plan { IfOk result (λ replay. replay.rounds.presence.plan ≡ plan.now) }
+        ensures journal { IfOk result (λ replay. replay.rounds.journal ≡ []) }
+        ensures replay { IfOk result (λ replay. IsReplay replay.rounds.presence replay.rounds.journal replay.seen replay.answered.items) }
     {
-        let plan = presence.plan();
-        let mut book = Book::new(alloc, plan, presence)?;
-        book.reserve(lines)?;
+        let seen = no_presence(alloc, plan)?;
+        let rounds = Rounds::new(alloc, &seen)?;
         let answered = no_answers(alloc, plan)?;
-        Ok(Replay { book, answered })
+        Ok(Replay {
+            rounds,
+            seen,
+            answered,
+        })
+    }
+
+    // Whether no Send of a reading came, and its meter is a member.
+    fn is_first(&self, tag: Tag) -> bool
+        requires place { IsTrue (is_place self.now.rounds.presence.plan tag.group tag.round tag.meter) }
+        requires plan { self.now.seen.plan ≡ self.now.rounds.presence.plan }
+        ensures { result ≡ (is_member self.now.rounds.presence.plan.groups tag.group tag.round tag.meter && not (is_present self.now.seen.table tag.group tag.round tag.meter)) }
+    {
+        let member = self
+            .rounds
+            .plan()
+            .is_member(tag.group, tag.round, tag.meter);
+        member && !self.seen.has(tag.group, tag.round, tag.meter)
+    }
+
+    // Notes who has a reading, where a line is the first Send of it.
+    fn meet(&mut self, line: &Line)
+        requires fits { FitsBook self.old.rounds line.now }
+        requires replay { IsReplay self.old.rounds.presence self.old.rounds.journal self.old.seen self.old.answered.items }
+        ensures meets { Meets self.old.rounds line.now self.new.rounds self.new.seen }
+        ensures answered { self.new.answered.items ≡ self.old.answered.items }
+    {
+        let Some(tag) = reading_of(line) else {
+            return;
+        };
+        if !self.is_first(tag) {
+            return;
+        }
+        self.seen.note(tag.group, tag.round, tag.meter);
+        if has_frame(line) {
+            self.rounds.note(tag.group, tag.round, tag.meter);
+        }
     }
 
     // Notes an answer that was sent; whether no round is opened by it, or one whose total its readings can be.
     fn answer(&mut self, tag: Tag) -> bool
-        requires known { IsTrue (knows self.old.book tag) }
-        requires long { length self.old.answered.items ≡ all_rounds self.old.book.presence.plan }
-        ensures book { self.new.book ≡ self.old.book }
-        ensures answered { AnswerEnds self.old.book tag self.old.answered.items result self.new.answered.items }
+        requires known { IsTrue (knows self.old.rounds tag) }
+        requires long { length self.old.answered.items ≡ all_rounds self.old.rounds.presence.plan }
+        ensures rounds { self.new.rounds ≡ self.old.rounds }
+        ensures seen { self.new.seen ≡ self.old.seen }
+        ensures answered { AnswerEnds self.old.rounds tag self.old.answered.items result self.new.answered.items }
     {
-        let at = page_at(self.book.plan(), tag.group, tag.round);
+        let at = page_at(self.rounds.plan(), tag.group, tag.round);
         let before = self.answered[at];
         if before.has(tag.meter) {
             return true;
         }
         let answered = before.with(tag.meter);
         self.answered[at] = answered;
-        may_open(&self.book, tag.group, tag.round, answered)
+        may_open(&self.rounds, tag.group, tag.round, answered)
     }
 
-    /// Replays a line; whether it may follow the lines before it.
-    pub(crate) fn line(&mut self, line: &Line) -> bool
-        requires spare { 0 < self.old.book.spare }
-        requires fits { FitsBook self.old.book line.now }
-        requires answered { AreAnswered self.old.book.presence.plan self.old.book.journal self.old.answered.items }
-        ensures { Replays self.old.book line.now result self.new.book self.new.answered.items }
+    // Says a line, whose reading is noted; whether it may follow the lines before it.
+    fn tell(&mut self, line: &Line) -> bool
+        requires spare { 0 < self.old.rounds.spare }
+        requires fits { FitsBook self.old.rounds line.now }
+        requires answered { AreAnswered self.old.rounds.presence.plan self.old.rounds.journal self.old.answered.items }
+        ensures replays { Replays self.old.rounds line.now result self.new.rounds self.new.answered.items }
+        ensures seen { self.new.seen ≡ self.old.seen }
     {
-        let _rounds = self.book.plan().rounds();
-        let _plan = self.book.presence().plan();
-        if !say(&mut self.book, line) {
+        let _rounds = self.rounds.plan().rounds();
+        let _plan = self.rounds.presence().plan();
+        if !say(&mut self.rounds, line) {
             return false;
         }
-        let _lines = self.book.journal();
+        let _room = self.rounds.spare();
         match answer_of(line) {
             Some(tag) => self.answer(tag),
             None => true,
         }
+    }
+
+    /// Replays a line; whether it may follow the lines before it. Nothing may be replayed after one that may not.
+    pub(crate) fn line(&mut self, line: &Line) -> Result<bool, AllocError>
+        requires fits { FitsBook self.old.rounds line.now }
+        requires replay { IsReplay self.old.rounds.presence self.old.rounds.journal self.old.seen self.old.answered.items }
+        ensures { IfOk result (λ may. LineEnds self.old.rounds.presence self.old.rounds.journal line.now may self.new.rounds self.new.seen self.new.answered.items) }
+    {
+        self.rounds.make_room()?;
+        self.meet(line);
+        Ok(self.tell(line))
     }
 }

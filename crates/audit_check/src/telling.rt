@@ -1,4 +1,4 @@
-//! Lines said again by a book.
+//! Lines said again by what is kept of each round.
 
 ghost use Rattle.std.specs.Prelude.{◌≡◌, ◌<◌, [], Some, None, IsTrue};
 ghost use Rattle.meter_frames.specs.Frames.{FitsKind};
@@ -7,7 +7,8 @@ ghost use Rattle.transcript_log.specs.declared.Line.TheVariants.{Send as SendLin
 ghost use Rattle.audit_check.specs.Replays.{Says, FitsBook, IsPostedOrEmpty};
 ghost use Rattle.audit_check.specs.Deciding.{Decides};
 
-use group_book::{Book, SendAnswer};
+use audit_rounds::Rounds;
+use group_book::SendAnswer;
 use group_plan::Tag;
 use meter_frames::Frame;
 use missing_round::MeterSet;
@@ -27,14 +28,14 @@ fn empty_frame(tag: Tag) -> Frame
 }
 
 // A Send with a frame.
-fn say_send(book: &mut Book, frame: Frame) -> bool
-    requires spare { 0 < book.old.spare }
-    requires known { IsTrue (knows book.old frame.tag) }
+fn say_send(rounds: &mut Rounds, frame: Frame) -> bool
+    requires spare { 0 < rounds.old.spare }
+    requires known { IsTrue (knows rounds.old frame.tag) }
     requires fits { FitsKind frame.tag.kind frame.missing frame.word }
-    ensures { Says book.old (SendLine frame.tag (Some frame)) result book.new }
+    ensures { Says rounds.old (SendLine frame.tag (Some frame)) result rounds.new }
 {
-    let _lines = book.journal();
-    match book.send(frame) {
+    let _room = rounds.spare();
+    match rounds.send(frame) {
         SendAnswer::Sent => true,
         SendAnswer::Unknown => false,
         SendAnswer::NotAllowed => false,
@@ -44,12 +45,12 @@ fn say_send(book: &mut Book, frame: Frame) -> bool
 }
 
 // A Send without a frame, which is void.
-fn say_void(book: &mut Book, tag: Tag) -> bool
-    requires spare { 0 < book.old.spare }
-    requires known { IsTrue (knows book.old tag) }
-    ensures { Says book.old (SendLine tag None) result book.new }
+fn say_void(rounds: &mut Rounds, tag: Tag) -> bool
+    requires spare { 0 < rounds.old.spare }
+    requires known { IsTrue (knows rounds.old tag) }
+    ensures { Says rounds.old (SendLine tag None) result rounds.new }
 {
-    match book.send(empty_frame(tag)) {
+    match rounds.send(empty_frame(tag)) {
         SendAnswer::NotAllowed => true,
         SendAnswer::Unknown => false,
         SendAnswer::WrongSet { .. } => false,
@@ -59,36 +60,36 @@ fn say_void(book: &mut Book, tag: Tag) -> bool
 }
 
 // The frame that is posted under a tag, or one of no words where there is none.
-fn posted_or_empty(book: &Book, tag: Tag) -> Frame
-    ensures { IsPostedOrEmpty book.now tag result }
+fn posted_or_empty(rounds: &Rounds, tag: Tag) -> Frame
+    ensures { IsPostedOrEmpty rounds.now tag result }
 {
-    let _lines = book.journal();
-    match book.posted(tag) {
+    let _room = rounds.spare();
+    match rounds.posted(tag) {
         Some(frame) => frame,
         None => empty_frame(tag),
     }
 }
 
 // A Take.
-fn say_take(book: &mut Book, tag: Tag, verdict: Verdict) -> bool
-    requires spare { 0 < book.old.spare }
-    requires known { IsTrue (knows book.old tag) }
-    ensures { Says book.old (TakeLine tag verdict) result book.new }
+fn say_take(rounds: &mut Rounds, tag: Tag, verdict: Verdict) -> bool
+    requires spare { 0 < rounds.old.spare }
+    requires known { IsTrue (knows rounds.old tag) }
+    ensures { Says rounds.old (TakeLine tag verdict) result rounds.new }
 {
-    let frame = posted_or_empty(book, tag);
-    match book.take(&frame) {
+    let frame = posted_or_empty(rounds, tag);
+    match rounds.take(&frame) {
         Ok(said) => said == verdict,
         Err(_) => false,
     }
 }
 
 // A Close.
-fn say_close(book: &mut Book, group: u16, round: u32, closing: Closing) -> bool
-    requires spare { 0 < book.old.spare }
-    requires known { IsTrue (has_round book.old group round) }
-    ensures { Says book.old (CloseLine group round closing) result book.new }
+fn say_close(rounds: &mut Rounds, group: u16, round: u32, closing: Closing) -> bool
+    requires spare { 0 < rounds.old.spare }
+    requires known { IsTrue (has_round rounds.old group round) }
+    ensures { Says rounds.old (CloseLine group round closing) result rounds.new }
 {
-    book.close(group, round) == closing
+    rounds.close(group, round) == closing
 }
 
 fn is_same(one: Ending, other: Ending) -> bool
@@ -98,36 +99,36 @@ fn is_same(one: Ending, other: Ending) -> bool
 }
 
 // An End.
-fn say_end(book: &mut Book, group: u16, round: u32, ending: Ending) -> bool
-    requires spare { 0 < book.old.spare }
-    requires known { IsTrue (has_round book.old group round) }
-    ensures { Says book.old (EndLine group round ending) result book.new }
+fn say_end(rounds: &mut Rounds, group: u16, round: u32, ending: Ending) -> bool
+    requires spare { 0 < rounds.old.spare }
+    requires known { IsTrue (has_round rounds.old group round) }
+    ensures { Says rounds.old (EndLine group round ending) result rounds.new }
 {
-    is_same(book.end(group, round), ending)
+    is_same(rounds.end(group, round), ending)
 }
 
-/// Adds the line that the book says for the event of a line; whether it is that line.
-pub(crate) fn say(book: &mut Book, line: &Line) -> bool
-    requires spare { 0 < book.old.spare }
-    requires fits { FitsBook book.old line.now }
-    ensures { Says book.old line.now result book.new }
+/// Says the line for the event of a line; whether it is that line.
+pub(crate) fn say(rounds: &mut Rounds, line: &Line) -> bool
+    requires spare { 0 < rounds.old.spare }
+    requires fits { FitsBook rounds.old line.now }
+    ensures { Says rounds.old line.now result rounds.new }
 {
     match *line {
         Line::Send {
             frame: Some(frame),
             ..
-        } => say_send(book, frame),
-        Line::Send { tag, frame: None } => say_void(book, tag),
-        Line::Take { tag, verdict } => say_take(book, tag, verdict),
+        } => say_send(rounds, frame),
+        Line::Send { tag, frame: None } => say_void(rounds, tag),
+        Line::Take { tag, verdict } => say_take(rounds, tag, verdict),
         Line::Close {
             group,
             round,
             closing,
-        } => say_close(book, group, round, closing),
+        } => say_close(rounds, group, round, closing),
         Line::End {
             group,
             round,
             ending,
-        } => say_end(book, group, round, ending),
+        } => say_end(rounds, group, round, ending),
     }
 }

@@ -1,6 +1,7 @@
 //! The rows, the report and the summary of a book.
 ghost use Rattle.std.specs.Prelude.{◌≡◌, ◌<◌, ◌++◌, length, IfOk, IsTrue, OnOk};
-ghost use Rattle.group_book.specs.Books.{has_round};
+ghost use Rattle.group_book.specs.Books.{BookView, outcome_of};
+ghost use Rattle.group_book.specs.Places.{is_round};
 ghost use Rattle.totals_report.specs.Reading.{rows_of_text};
 ghost use Rattle.totals_report.specs.Rows.{AreRows};
 ghost use Rattle.totals_report.specs.Books.{outcome_of_state, row_in, summary_in};
@@ -9,7 +10,8 @@ ghost use Rattle.totals_report.specs.Reports.{group_rows, report_row, report_row
 use crate::counts::{Counts, count_lines, count_outcomes};
 use crate::row::{Report, ReportRow, RowOutcome};
 use crate::writing::{rows_text, summary_line};
-use group_book::{Book, OutcomeState};
+use group_book::{Book, Outcome, OutcomeState};
+use group_plan::Plan;
 use std::alloc::{AllocError, Global};
 use transcript_log::members;
 
@@ -25,13 +27,11 @@ fn outcome_of_state(state: OutcomeState) -> RowOutcome
     }
 }
 
-/// The row of a round.
-fn row(book: &Book, group: u16, round: u32) -> ReportRow
-    requires { IsTrue (has_round book.now group round) }
-    ensures { result ≡ report_row book.now.presence.plan group round (row_in book.now group round) }
+/// The row of a round that has come to this.
+pub fn row_of(plan: &Plan, group: u16, round: u32, outcome: Outcome) -> ReportRow
+    requires { IsTrue (is_round plan.now group round) }
+    ensures { (b : BookView) → outcome ≡ outcome_of b group round → result ≡ report_row plan.now group round (row_in b group round) }
 {
-    let plan = book.plan();
-    let outcome = book.outcome(group, round);
     ReportRow {
         name: plan.groups()[group as usize].name,
         round,
@@ -47,7 +47,8 @@ fn push_group(rows: &mut Vec<ReportRow>, book: &Book, group: u16) -> Result<(), 
     ensures { OnOk result (rows.new.items ≡ rows.old.items ++ group_rows book.now.presence.plan (row_in book.now) group) }
 {
     for round in 0..book.plan().rounds() {
-        rows.push(row(book, group, round))?;
+        let outcome = book.outcome(group, round);
+        rows.push(row_of(book.plan(), group, round, outcome))?;
     }
     Ok(())
 }

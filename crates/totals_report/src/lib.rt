@@ -8,7 +8,7 @@ mod reading;
 mod row;
 mod writing;
 
-pub use book::{report, rows_of, summary};
+pub use book::{report, row_of, rows_of, summary};
 pub use reading::read_report;
 pub use row::{Report, ReportError, ReportRow, RowOutcome};
 pub use writing::{counts_line, row_text, rows_text};

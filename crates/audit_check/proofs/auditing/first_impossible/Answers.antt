@@ -1,42 +1,46 @@
-use Rattle.std.proofs.Common.{◌<◌, ◌∙◌, length, refl, sym, subst, arith}
-use Rattle.audit_check.specs.Replays.{AreAnswered}
-use Rattle.audit_check.proofs.EndLemmas.{none_possible, goes_on, stops, journal_more, lines_long}
+use Rattle.std.proofs.Common.{◌<◌, ◌∙◌, ◌++◌, ◌∷◌, [], length, sym, ap, subst, arith}
+use Rattle.transcript_log.specs.Frames.{IsPossible}
+use Rattle.audit_check.specs.Following.{LineEnds, Follows}
+use Rattle.audit_check.proofs.EndLemmas.{none_possible, more_possible, not_possible, next_line, lines_long}
 use Rattle.audit_check.proofs.auditing.first_impossible.Goals as goal
 
 pub loop-at-init : goal.loop-at-init
-loop-at-init c =
-    let room = c.requires.begins.room in
-    record {
-      presence = refl;
-      journal = c.requires.begins.journal_is;
-      possible = none_possible c.args.transcript.now.plan.groups;
-      answered = subst (λ j. AreAnswered c.args.replay.now.book.presence.plan j c.args.replay.now.answered.items) (sym c.requires.begins.journal_is) c.requires.begins.answered;
-      room = omega (arith, room);
-    }
+loop-at-init c = record {
+  plan = c.requires.plan;
+  journal = c.requires.journal;
+  replay = c.requires.replay;
+  possible = none_possible c.args.transcript.now.plan.groups;
+}
 
-pub returns-then-not-line : goal.returns-then-not-line
-returns-then-not-line c =
+pub returns-then-not-branch : goal.returns-then-not-branch
+returns-then-not-branch c =
     let t = c.args.transcript.now in
+    let r = c.loop-at.replay in
+    let here = c.loop-at.invariant in
     let long = lines_long t.entries in
     let len = c.len-at-end.ensures.len in
-    let lt : c.loop-at.at < length t.entries = omega (arith, len) in (
+    let lt : c.loop-at.at < length t.entries = omega (arith, len) in
+    let may_not = subst (λ may. LineEnds r.rounds.presence r.rounds.journal c.entry-entry.result.line may c.line.new.self.rounds c.line.new.self.seen c.line.new.self.answered.items) c.if-not-branch.true c.in_ok-line.ensures in (
       omega (arith, lt, long),
-      c.loop-at.invariant.possible,
-      stops t.plan t.entries c.loop-at.at c.entry-entry.result c.loop-at.replay.book c.args.replay.now.book.presence c.requires.presence c.loop-at.invariant.presence c.loop-at.invariant.journal lt c.entry-entry.ensures c.if-not-line.ensures,
+      here.possible,
+      λ possible. not_possible t.plan r.rounds.presence.plan _ r.rounds.journal c.entry-entry.result.line here.plan here.journal may_not
+          (subst (IsPossible t.plan.groups) (next_line t.entries c.loop-at.at c.entry-entry.result lt c.entry-entry.ensures) possible),
     )
 
 pub loop-at-preserved : goal.loop-at-preserved
 loop-at-preserved c =
     let t = c.args.transcript.now in
+    let r = c.loop-at.replay in
+    let here = c.loop-at.invariant in
+    let l = c.entry-entry.result.line in
     let len = c.len-at-end.ensures.len in
     let lt : c.loop-at.at < length t.entries = omega (arith, len) in
-    let went = c.if-not-line.ensures in
-    let before = c.loop-at.invariant.room in
-    let room = went.0.spare in
+    let next = next_line t.entries c.loop-at.at c.entry-entry.result lt c.entry-entry.ensures in
+    let follows : Follows r.rounds.presence r.rounds.journal l c.line.new.self.rounds c.line.new.self.seen c.line.new.self.answered.items
+    = subst (λ may. LineEnds r.rounds.presence r.rounds.journal l may c.line.new.self.rounds c.line.new.self.seen c.line.new.self.answered.items) c.if-not-branch.false c.in_ok-line.ensures in
     record {
-      presence = went.0.presence ∙ c.loop-at.invariant.presence;
-      journal = journal_more t.entries c.loop-at.at c.entry-entry.result c.loop-at.replay.book.journal c.line.new.self.book.journal lt c.entry-entry.ensures c.loop-at.invariant.journal went.0.journal;
-      possible = goes_on t.plan t.entries c.loop-at.at c.entry-entry.result c.loop-at.replay.book c.args.replay.now.book.presence c.requires.presence c.loop-at.invariant.presence c.loop-at.invariant.journal lt c.entry-entry.ensures c.loop-at.invariant.possible went.1;
-      answered = went.2;
-      room = omega (arith, before, room);
+      plan = follows.plan ∙ here.plan;
+      journal = follows.journal ∙ ap (λ j. j ++ l ∷ []) here.journal ∙ sym next;
+      replay = follows.replay;
+      possible = subst (IsPossible t.plan.groups) (sym next) (more_possible t.plan r.rounds.presence.plan _ r.rounds.journal l here.plan here.journal here.possible follows.may);
     }

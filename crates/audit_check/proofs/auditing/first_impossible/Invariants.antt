@@ -1,14 +1,13 @@
-use Rattle.std.proofs.Common.{◌≡◌, ◌≤◌, ◌+◌, length, take}
+use Rattle.std.proofs.Common.{◌≡◌, take}
 use Rattle.transcript_log.specs.Events.{lines_of}
 use Rattle.transcript_log.specs.Frames.{IsPossible}
-use Rattle.audit_check.specs.Replays.{AreAnswered}
+use Rattle.audit_check.specs.Following.{IsReplay}
 use Rattle.audit_check.proofs.auditing.first_impossible.Given as goal
 
 abbrev pub invariant-loop-at : goal.invariant-loop-at
 invariant-loop-at l = record {
-  presence : l.replay.book.presence ≡ l.fn.replay.book.presence;
-  journal : l.replay.book.journal ≡ take l.at (lines_of l.transcript.entries);
+  plan : l.replay.rounds.presence.plan ≡ l.transcript.plan;
+  journal : l.replay.rounds.journal ≡ take l.at (lines_of l.transcript.entries);
+  replay : IsReplay l.replay.rounds.presence l.replay.rounds.journal l.replay.seen l.replay.answered.items;
   possible : IsPossible l.transcript.plan.groups (take l.at (lines_of l.transcript.entries));
-  answered : AreAnswered l.replay.book.presence.plan l.replay.book.journal l.replay.answered.items;
-  room : length l.transcript.entries ≤ l.replay.book.spare + l.at;
 }

@@ -9,7 +9,7 @@ use Rattle.audit_check.proofs.opened.opened_rounds.Goals as goal
 
 pub loop-group-preserved : goal.loop-group-preserved
 loop-group-preserved c =
-    let b = c.args.book.now in
+    let b = c.args.rounds.now in
     let one : ℕ → ℕ = λ g. count_by (lacks_by b g) (range_with_len 0 b.presence.plan.rounds) in
     let is = c.count_group.ensures.few in
     let before = c.loop-group.invariant.few in
@@ -21,7 +21,7 @@ loop-group-preserved c =
 
 pub returns : goal.returns
 returns c =
-    let b = c.args.book.now in
+    let b = c.args.rounds.now in
     let one : ℕ → ℕ = λ g. count_by (lacks_by b g) (range_with_len 0 b.presence.plan.rounds) in
     let long = ap length c.groups-group-end.ensures.groups ∙ length-map c.plan.result.now.groups stated ∙ ap (λ (p : PlanView). length p.groups) c.plan.ensures in
     let all : c.loop-group.group ≡ length b.presence.plan.groups = omega (arith, long) in

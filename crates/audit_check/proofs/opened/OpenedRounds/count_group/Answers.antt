@@ -7,7 +7,7 @@ use Rattle.audit_check.proofs.opened.OpenedRounds.count_group.Goals as goal
 
 pub count-requires-clause-few : goal.count-requires-clause-few
 count-requires-clause-few c =
-    let b = c.args.book.now in
+    let b = c.args.rounds.now in
     let limits : IsWithinLimits b.presence.plan = subst IsWithinLimits c.plan.ensures c.rounds-round-end.ensures.limits in
     let rounds = c.rounds-round-end.ensures.rounds ∙ ap (λ (p : PlanView). p.rounds) c.plan.ensures in
     let most = limits.rounds in
@@ -21,7 +21,7 @@ count-requires-clause-few c =
 
 pub loop-round-preserved : goal.loop-round-preserved
 loop-round-preserved c =
-    let b = c.args.book.now in
+    let b = c.args.rounds.now in
     let rounds = c.rounds-round-end.ensures.rounds ∙ ap (λ (p : PlanView). p.rounds) c.plan.ensures in
     let test = c.loop-round-test.true in
     let inside : c.loop-round.round < b.presence.plan.rounds = omega (arith, rounds, test) in
@@ -32,7 +32,7 @@ loop-round-preserved c =
 
 pub returns : goal.returns
 returns c =
-    let b = c.args.book.now in
+    let b = c.args.rounds.now in
     let limits : IsWithinLimits b.presence.plan = subst IsWithinLimits c.plan.ensures c.rounds-round-end.ensures.limits in
     let rounds = c.rounds-round-end.ensures.rounds ∙ ap (λ (p : PlanView). p.rounds) c.plan.ensures in
     let all : c.loop-round.round ≡ b.presence.plan.rounds = omega (arith, rounds) in

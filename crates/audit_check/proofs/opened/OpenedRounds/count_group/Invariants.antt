@@ -5,6 +5,6 @@ use Rattle.audit_check.proofs.opened.OpenedRounds.count_group.Given as goal
 
 abbrev pub invariant-loop-round : goal.invariant-loop-round
 invariant-loop-round l = record {
-  without_total : l.self.without_total ≡ l.fn.self.without_total + count_by (lacks_by l.book l.group) (range_with_len 0 l.round);
-  fewest : HasFewest l.book l.group l.round l.self.fewest;
+  without_total : l.self.without_total ≡ l.fn.self.without_total + count_by (lacks_by l.rounds l.group) (range_with_len 0 l.round);
+  fewest : HasFewest l.rounds l.group l.round l.self.fewest;
 }

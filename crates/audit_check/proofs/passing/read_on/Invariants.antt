@@ -1,0 +1,10 @@
+use Rattle.std.proofs.Common.{◌≡◌, List}
+use Rattle.transcript_log.specs.declared.Entry.{Entry}
+use Rattle.transcript_text.specs.Reading.{before}
+use Rattle.audit_check.proofs.passing.read_on.Given as goal
+
+abbrev pub invariant-entries : goal.invariant-entries
+invariant-entries l = (front : List Entry) × (before front l.reader.left ≡ l.fn.reader.left) × (l.reader.plan ≡ l.fn.reader.plan)
+
+abbrev pub decreases-entries : goal.decreases-entries
+decreases-entries l = l.reader.bytes

@@ -1,0 +1,36 @@
+use Rattle.std.proofs.Common.{◌≡◌, ◌<◌, ℕ, List, ◌++◌, length, ap, ◌∙◌, subst}
+use Rattle.std.specs.List.{All}
+use Rattle.transcript_log.specs.declared.Line.{Line}
+use Rattle.transcript_log.specs.Events.{event_of}
+use Rattle.group_book.specs.ByGroup.{group_of}
+use Rattle.group_book.specs.Books.{has_round, CloseEnds}
+use Rattle.group_book.specs.Replay.{IsGroup, PagesEnd, book_at}
+use Rattle.group_book.proofs.PlaceLemmas.{in_round}
+use Rattle.group_book.proofs.BookLemmas.{group_at, groups_after}
+use Rattle.audit_rounds.specs.Told.{all_told}
+use Rattle.audit_rounds.proofs.ToldLemmas.{lines_now, came_to}
+use Rattle.audit_rounds.proofs.rounds.Rounds.close.Goals as goal
+
+abbrev said : goal.After-self-1 → List Line
+said c = all_told c.self.inside.told.items ++ c.self.inside.last.items
+
+inside : (c : goal.After-self-1) → c.args.group < length c.self.inside.presence.plan.groups
+inside c = (in_round c.self.inside.presence.plan c.args.group c.args.round (ap (λ b. has_round b c.args.group c.args.round) c.self.view_is ∙ c.requires.known)).0
+
+found : (c : goal.After-self-1) → IsGroup c.self.inside.presence (said c) c.args.group c.index_mut.result.now
+found c = group_at _ _ _ _ _ c.self.invariant (inside c) c.index_mut.ensures.value
+
+ended : (c : goal.After-self-1)
+    → PagesEnd c.self.inside.presence (said c) (λ b d. CloseEnds b c.index_mut.result.now.group c.args.round c.close.result d) c.self.inside.last c.index_mut.result.now.group c.close.new.self c.close.new.lines
+ended c = c.close.ensures _ _ (found c).replays
+
+pub invariant_of-self : goal.invariant_of-self
+invariant_of-self c =
+    groups_after _ _ _ (ended c).added _ _ _ c.self.invariant (inside c) ((ended c).group ∙ (found c).group) (ended c).pages
+    (subst (λ n. All (λ l. group_of (event_of l) ≡ n) (ended c).added) (found c).group (ended c).own) (lines_now _ (all_told c.self.inside.told.items) _ _ _ _ _ (ended c))
+
+pub returns : goal.returns
+returns c =
+    subst (λ b. CloseEnds b c.args.group c.args.round c.close.result (book_at c.self.inside.presence (all_told c.self.inside.told.items ++ c.close.new.lines.items) c.close.new.lines.spare)) c.self.view_is
+    (subst (λ (n : ℕ). CloseEnds (book_at c.self.inside.presence (said c) c.self.inside.last.spare) n c.args.round c.close.result (book_at c.self.inside.presence (all_told c.self.inside.told.items ++ c.close.new.lines.items) c.close.new.lines.spare)) (found c).group
+    (came_to _ (all_told c.self.inside.told.items) _ _ _ _ _ (ended c)))
