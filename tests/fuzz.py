@@ -18,6 +18,7 @@ import collections
 import concurrent.futures
 import os
 import random
+import re
 import shutil
 import subprocess
 import sys
@@ -32,7 +33,7 @@ MOST_PROCESSOR_SECONDS = 10
 MAY_PUT = {0, 1, 4}
 
 # Each command with its words and the statuses that it may end with. <NAME is a file that it reads and >NAME one that it
-# puts. A command that the program doesn't have is left out.
+# puts; for `parts`, what the names of the files begin with. A command that the program doesn't have is left out.
 COMMANDS = [
     ("run <plan <readings >report >transcript", {0, 1, 2, 3, 4, 5, 6, 10}),
     ("run <plan <readings >report >transcript 3", {0, 1, 2, 3, 4, 5, 6, 10}),
@@ -44,6 +45,7 @@ COMMANDS = [
     ("audit <transcript <report", {0, 1, 2, 3, 4, 7, 9}),
     ("convert <old >transcript", {0, 1, 2, 3, 4, 7}),
     ("public <plan >public", {0, 1, 2, 3, 4, 5}),
+    ("parts <plan 0 >m", {0, 1, 2, 3, 4, 5}),
     ("inspect <public <transcript <report", {0, 1, 2, 3, 4, 5, 7, 9}),
     ("registers 2 <plan <tables >report >transcript >words", {0, 1, 2, 3, 4, 5, 6, 10}),
     ("bill <plan <readings 0 1 >bills", {0, 1, 2, 3, 4, 5, 6}),
@@ -205,14 +207,22 @@ def run_in(room, program, words):
     return subprocess.run(limited, cwd=room, stdin=subprocess.DEVNULL, capture_output=True, timeout=MOST_SECONDS)
 
 
-def fault_of(ended, statuses, before, after, named):
+def is_part(name, words):
+    """Whether `parts` with these words puts a file of this name."""
+    prefixes = [os.path.normpath(word) for word in words[1:]]
+    return words[:1] == ["parts"] and any(
+        name.startswith(prefix) and re.fullmatch(r"[0-9]+\.(csv|journal)", name[len(prefix) :]) for prefix in prefixes
+    )
+
+
+def fault_of(ended, words, statuses, before, after, named):
     """What is wrong with a run that ended so, or None."""
     status, complaint = ended.returncode, ended.stderr
     if status not in statuses:
         return f"ended with {status}"
     if any(after.get(name) != data for name, data in before.items() if name not in named):
         return "changed a file that it reads"
-    if any(name not in before and name not in named for name in after):
+    if any(name not in before and name not in named and not is_part(name, words) for name in after):
         return "left another file"
     if status not in MAY_PUT and after != before:
         return f"put a file with status {status}"
@@ -294,7 +304,7 @@ def try_case(options, known, sets, number):
     started = time.monotonic()
     try:
         ended = run_in(room, options.program, words)
-        fault = fault_of(ended, statuses, before, files_in(room), named)
+        fault = fault_of(ended, words, statuses, before, files_in(room), named)
         status = ended.returncode
     except subprocess.TimeoutExpired:
         status, fault = "late", f"had not ended after {MOST_SECONDS} s"

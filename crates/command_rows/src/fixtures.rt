@@ -82,9 +82,9 @@ end,20
 /// The command.
 pub const RUN: &str = "run plan.csv readings.csv report.csv t.txt";
 
-// A plan file of some rows after its first, where `Z` stands for a key of zeros.
-fn plan_text(alloc: Global, rows: &str) -> Result<String, Fail> {
-    let mut text = String::from_str(alloc, "plan,1\n")?;
+/// A text in which `Z` stands for a key of zeros.
+pub fn with_keys(alloc: Global, rows: &str) -> Result<String, Fail> {
+    let mut text = String::new(alloc);
     let mut is_first = true;
     for part in rows.split('Z') {
         if !is_first {
@@ -94,6 +94,12 @@ fn plan_text(alloc: Global, rows: &str) -> Result<String, Fail> {
         is_first = false;
     }
     Ok(text)
+}
+
+// A plan file of some rows after its first, where `Z` stands for a key of zeros.
+fn plan_text(alloc: Global, rows: &str) -> Result<String, Fail> {
+    let rows = with_keys(alloc, rows)?;
+    Ok(format!(in alloc; "plan,1\n{rows}")?)
 }
 
 /// A desk that holds a plan file of these rows and a readings file, and fails these calls.

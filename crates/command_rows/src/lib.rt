@@ -17,6 +17,8 @@ mod inspect_tests;
 #[cfg(test)]
 mod load_tests;
 #[cfg(test)]
+mod parts_tests;
+#[cfg(test)]
 mod refusal_tests;
 #[cfg(test)]
 mod register_tests;

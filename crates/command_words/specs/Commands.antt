@@ -13,7 +13,7 @@ use Rattle.command_words.specs.declared.words.InspectFiles.{InspectFiles}
 use Rattle.command_words.specs.declared.words.Command.{Command as Kept}
 use Rattle.command_words.specs.declared.words.Command.TheVariants as kept
 use Rattle.command_words.specs.Known.{IsKnown, known_in}
-use Rattle.command_words.specs.Words.{TwinNames, Size, Command, Run, Ring, Registers, RegisterNames, Resume, ResumeNames, Audit, Twin, RingTwin, Pooled, Make, Load, Convert, Public, Help, Version, names_of, Bill, Hide, BillNames, HideNames, Inspect, InspectNames}
+use Rattle.command_words.specs.Words.{TwinNames, Size, Command, Run, Ring, Registers, RegisterNames, Resume, ResumeNames, Audit, Twin, RingTwin, Pooled, Make, Load, Convert, Public, Parts, Help, Version, names_of, Bill, Hide, BillNames, HideNames, Inspect, InspectNames}
 
 -- the names of the files of `twin`
 abbrev pub twin_names_of : TwinFiles → TwinNames
@@ -64,6 +64,7 @@ asked (kept.Make words) = Make (size_in words.size) words.plan.now words.reading
 asked (kept.Load words) = Load (size_in words.size) words.workers (name_in words.transcript)
 asked (kept.Convert files) = Convert files.old.now files.transcript.now
 asked (kept.Public files) = Public files.plan.now files.public.now
+asked (kept.Parts words) = Parts words.plan.now words.group words.prefix.now
 asked (kept.Inspect files) = Inspect (inspect_names_of files)
 asked (kept.Bill words) = Bill (bill_names_of words.files) words.period
 asked (kept.Hide words) = Hide (hide_names_of words.files) words.period words.place

@@ -5,7 +5,8 @@ use Rattle.std.specs.List.{flat_map}
 use Rattle.hex.specs.Hex.{encode_lower}
 use Rattle.plan_files.specs.declared.fault.FileError.{FileError}
 use Rattle.command_words.specs.declared.outcome.Outcome.{Outcome}
-use Rattle.command_words.specs.declared.outcome.Outcome.TheVariants.{Done, NoMemory, BadWords, CannotRead, TooLong, CannotWrite, CannotPrint, BadPlan, BadReadings, BadTranscript, BadReport, Impossible, NotInTime, NotThisRun, OtherRow, OtherPlan, OtherLine, OtherPresence, OtherKnown, OtherTotal, OtherComponent, BadLane, NoPartner}
+use Rattle.command_words.specs.declared.outcome.Outcome.TheVariants.{Done, NoMemory, BadWords, CannotRead, TooLong, CannotWrite, CannotWritePart, CannotPrint, BadPlan, BadReadings, BadTranscript, BadReport, Impossible, NotInTime, NotThisRun, OtherRow, OtherPlan, OtherLine, OtherPresence, OtherKnown, OtherTotal, OtherComponent, BadLane, NoPartner}
+use Rattle.meter_files.specs.Names.{part_name}
 use Rattle.command_words.specs.Causes.{cause_text, rack_cause_name, read_error_name}
 use Rattle.transcript_text.specs.Faults.{fault_line}
 use Rattle.transcript_text.specs.declared.version.Version.TheVariants.{Two}
@@ -21,6 +22,7 @@ status_of BadWords = 2
 status_of (CannotRead name) = 3
 status_of (TooLong name) = 3
 status_of (CannotWrite name) = 4
+status_of (CannotWritePart prefix meter file) = 4
 status_of CannotPrint = 4
 status_of (BadPlan name fault) = 5
 status_of (BadReadings name fault) = 6
@@ -79,6 +81,7 @@ complaint_of BadWords = codes "meteragg: bad words\n"
 complaint_of (CannotRead name) = codes "meteragg: cannot read " ++ (shown_name name.now ++ codes "\n")
 complaint_of (TooLong name) = codes "meteragg: " ++ (shown_name name.now ++ codes " is longer than 268435456 bytes\n")
 complaint_of (CannotWrite name) = codes "meteragg: cannot write " ++ (shown_name name.now ++ codes "\n")
+complaint_of (CannotWritePart prefix meter file) = codes "meteragg: cannot write " ++ (shown_name (part_name prefix.now meter file) ++ codes "\n")
 complaint_of CannotPrint = codes "meteragg: cannot print\n"
 complaint_of (BadPlan name fault) = file_complaint name.now fault
 complaint_of (BadReadings name fault) = file_complaint name.now fault
@@ -121,6 +124,7 @@ abbrev pub HasName : Outcome → Type 0
 HasName (CannotRead name) = ⊤
 HasName (TooLong name) = ⊤
 HasName (CannotWrite name) = ⊤
+HasName (CannotWritePart prefix meter file) = ⊤
 HasName (BadPlan name fault) = ⊤
 HasName (BadReadings name fault) = ⊤
 HasName (BadTranscript name fault) = ⊤
@@ -144,6 +148,7 @@ IsFault BadWords = ⊥
 IsFault (CannotRead name) = ⊤
 IsFault (TooLong name) = ⊥
 IsFault (CannotWrite name) = ⊤
+IsFault (CannotWritePart prefix meter file) = ⊤
 IsFault CannotPrint = ⊤
 IsFault (BadPlan name fault) = ⊥
 IsFault (BadReadings name fault) = ⊥

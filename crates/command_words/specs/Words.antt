@@ -80,6 +80,7 @@ pub data Command : Type 0 where
   Load : (size : Size) (workers : ℕ) (transcript : Option (List ℕ)) → Command
   Convert : (old transcript : List ℕ) → Command
   Public : (plan public : List ℕ) → Command
+  Parts : (plan : List ℕ) (group : ℕ) (prefix : List ℕ) → Command
   Inspect : (names : InspectNames) → Command
   Bill : (names : BillNames) (period : Period) → Command
   Hide : (names : HideNames) (period : Period) (place : Place) → Command
@@ -282,6 +283,19 @@ abbrev pub public_of : List (List ℕ) → Option Command
 public_of (plan ∷ public ∷ []) = public_with plan public
 public_of _ = None
 
+-- a group below 256
+abbrev pub group_of : List ℕ → Option ℕ
+group_of word = within 0 256 (number_of word)
+
+-- `parts` with this plan, where it is a name, and this group; the prefix begins the names of new files, and may be empty
+unfoldable pub parts_with : (plan prefix : List ℕ) (group : ℕ) → Option Command
+parts_with plan prefix group = if is_name plan then Some (Parts plan group prefix) else None
+
+-- `parts PLAN G PREFIX`
+abbrev pub parts_of : List (List ℕ) → Option Command
+parts_of (plan ∷ group ∷ prefix ∷ []) = with_number (group_of group) (parts_with plan prefix)
+parts_of _ = None
+
 -- `inspect` with these files, where they are names
 unfoldable pub inspect_with : (public transcript report : List ℕ) → Option Command
 inspect_with public transcript report =
@@ -373,6 +387,7 @@ command_by verb words =
     else if bytes_eq verb (codes "load") then load_of words
     else if bytes_eq verb (codes "convert") then convert_of words
     else if bytes_eq verb (codes "public") then public_of words
+    else if bytes_eq verb (codes "parts") then parts_of words
     else if bytes_eq verb (codes "inspect") then inspect_of words
     else if bytes_eq verb (codes "bill") then bill_of words
     else if bytes_eq verb (codes "hide") then hide_of words

@@ -11,6 +11,7 @@ ghost use Rattle.transcript_text.specs.Writing.{IsWritable};
 use crate::outcome::Outcome;
 use group_plan::{PlanError, SpanError};
 use link_lanes::RackCause;
+use meter_files::part_name;
 use pair_keys::{KeyError, KeyId};
 use plan_files::{FileCause, FileError};
 use std::alloc::{AllocError, Global};
@@ -255,6 +256,14 @@ fn name_complaint(alloc: Global, outcome: &Outcome<'_>) -> Result<Vec<u8>, Alloc
             )
         }
         Outcome::CannotWrite(name) => named(alloc, "meteragg: cannot write ", name, "\n"),
+        Outcome::CannotWritePart {
+            prefix,
+            meter,
+            file,
+        } => {
+            let name = part_name(alloc, prefix, *meter, *file)?;
+            named(alloc, "meteragg: cannot write ", &name, "\n")
+        }
         Outcome::BadPlan(name, fault) | Outcome::BadReadings(name, fault) => {
             file_complaint(alloc, name, *fault)
         }

@@ -3,6 +3,7 @@
 
 mod complaints;
 mod known;
+mod meter_parts;
 mod outcome;
 mod parsing;
 mod usage;
@@ -15,6 +16,7 @@ pub use parsing::parse;
 pub use usage::{USAGE, VERSION};
 pub use words::{
     AuditFiles, BillFiles, BillWords, Command, ConvertFiles, HideFiles, HideWords, InspectFiles,
-    LoadWords, MakeWords, Period, Place, PooledWords, PublicFiles, RegisterFiles, RegisterWords,
-    ResumeFiles, ResumeWords, RingTwinWords, RingWords, RunFiles, RunWords, Size, TwinFiles,
+    LoadWords, MakeWords, PartsWords, Period, Place, PooledWords, PublicFiles, RegisterFiles,
+    RegisterWords, ResumeFiles, ResumeWords, RingTwinWords, RingWords, RunFiles, RunWords, Size,
+    TwinFiles,
 };

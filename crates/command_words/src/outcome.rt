@@ -1,6 +1,7 @@
 //! How a command ends.
 
 use link_lanes::RackError;
+use meter_files::PartFile;
 use plan_files::FileError;
 use totals_report::ReportRow;
 use transcript_log::Entry;
@@ -21,6 +22,12 @@ pub enum Outcome<'a> {
     TooLong(&'a str),
     /// The file can't be written.
     CannotWrite(&'a str),
+    /// This file of a meter can't be written; the prefix begins its name.
+    CannotWritePart {
+        prefix: &'a str,
+        meter: u8,
+        file: PartFile,
+    },
     /// The output can't be written.
     CannotPrint,
     /// The plan file has this fault.

@@ -1,11 +1,12 @@
 //! A command and what it is asked for, found in the words of the command line.
 
 ghost use Rattle.std.specs.Prelude.{◌≡◌, ◌≤◌, None, Some, IfSome, MatchOption, map, string_bytes};
-ghost use Rattle.command_words.specs.Words.{has_name, names_of, are_names, workers_of, run_with, run_of, width_of, ring_with, ring_of, ring_twin_with, ring_twin_of, resume_with, resume_of, registers_of_word, registers_with, registers_of, size_of, audit_of, twin_with, twin_of, pooled_with, pooled_of, make_of, load_with, load_of, convert_of, public_of, inspect_with, inspect_of, alone, asks_help, asks_version, command_by, command_of, period_of, place_of, bill_with, bill_of, hide_with, hide_of};
+ghost use Rattle.command_words.specs.Words.{has_name, names_of, are_names, workers_of, run_with, run_of, width_of, ring_with, ring_of, ring_twin_with, ring_twin_of, resume_with, resume_of, registers_of_word, registers_with, registers_of, size_of, audit_of, twin_with, twin_of, pooled_with, pooled_of, make_of, load_with, load_of, convert_of, public_of, parts_of, inspect_with, inspect_of, alone, asks_help, asks_version, command_by, command_of, period_of, place_of, bill_with, bill_of, hide_with, hide_of};
 ghost use Rattle.command_words.specs.Commands.{size_in, name_in, asked, IsSize, IsWithin, twin_names_of, resume_names_of, register_names_of, hide_names_of};
 ghost use Rattle.command_words.specs.Known.{IsKnown, known_in};
 
 use crate::known::names_meters;
+use crate::meter_parts::parts_words;
 use crate::words::{
     AuditFiles, BillFiles, BillWords, Command, ConvertFiles, HideFiles, HideWords, InspectFiles,
     LoadWords, MakeWords, Period, Place, PooledWords, PublicFiles, RegisterFiles, RegisterWords,
@@ -752,6 +753,8 @@ fn command_by<'a>(verb: &str, words: &'a [String]) -> Option<Command<'a>>
         convert_words(words)
     } else if verb == "public" {
         public_words(words)
+    } else if verb == "parts" {
+        parts_words(words)
     } else if verb == "inspect" {
         inspect_words(words)
     } else if verb == "bill" {

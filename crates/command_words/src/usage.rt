@@ -36,6 +36,10 @@ Commands
       write a transcript of version 1 as a transcript of version 2
   public PLAN PUBLIC
       write the plan without its keys and lanes
+  parts PLAN G PREFIX
+      write for each meter I of group G what it has of the plan, PREFIXI.csv, and
+      the head of its journal, PREFIXI.journal, which are to be new; only their
+      owner may read them
   inspect PUBLIC TRANSCRIPT REPORT
       check that the transcript is one that a run of the public plan can leave, and
       the report against it; count the opened rounds that have no total
@@ -53,7 +57,8 @@ Words
   WIDTH    1 to 128
   K        2 to 8 registers
   WORKERS  1 to 16 threads that make the ticks of the groups, one for about 1000
-           meters and no more than groups; 4 where it may be left out and is
+           meters, no more than groups, and two fewer than there are processors;
+           4 where it may be left out and is
   KNOWN    - for nobody, or meters joined by +, as 0.1+0.4+2.0: each a group and a
            meter with a point between them, below 256, ascending, each once
   SEED     0 to 18446744073709551615
@@ -64,6 +69,7 @@ Words
   FROM     0 to 4095, below UNTIL: a period begins with round FROM
   UNTIL    1 to 4096: it ends before round UNTIL
   G, R, I  a group, a round and a meter: below 256, 4096 and 256
+  PREFIX   what the names of the files of meters begin with; it may be empty
   All other words are file names. No two names of one command are equal.
 
 Statuses

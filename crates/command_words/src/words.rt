@@ -141,6 +141,15 @@ pub struct PublicFiles<'a> {
     pub public: &'a str,
 }
 
+/// `parts PLAN G PREFIX`. The prefix begins the names of new files, and may be empty.
+#[derive(Clone, Copy)]
+pub struct PartsWords<'a> {
+    pub plan: &'a str,
+    /// Below 256.
+    pub group: u16,
+    pub prefix: &'a str,
+}
+
 /// The names of the files of `inspect`.
 #[derive(Clone, Copy)]
 pub struct InspectFiles<'a> {
@@ -227,6 +236,8 @@ pub enum Command<'a> {
     Convert(ConvertFiles<'a>),
     /// Writes a plan without its keys and lanes.
     Public(PublicFiles<'a>),
+    /// Writes what each meter of a group has of a plan, and begins its journal.
+    Parts(PartsWords<'a>),
     /// Checks a transcript against the public plan, and a report against the transcript.
     Inspect(InspectFiles<'a>),
     /// Writes the bills of a period.

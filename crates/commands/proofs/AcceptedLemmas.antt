@@ -25,8 +25,8 @@ use Rattle.transcript_text.specs.ReadBack.{ReadsEach}
 use Rattle.transcript_text.specs.Heads.{read_of}
 use Rattle.transcript_text.proofs.ReadAgain.{reads_each}
 use Rattle.command_words.specs.declared.outcome.Outcome.{Outcome}
-use Rattle.command_words.specs.declared.outcome.Outcome.TheVariants.{Done, NoMemory, BadWords, CannotRead, TooLong, CannotWrite, CannotPrint, BadPlan, BadReadings, BadTranscript, BadReport, Impossible, NotInTime, NotThisRun, OtherRow, OtherPlan, OtherLine, OtherPresence, OtherKnown, OtherTotal, OtherComponent, BadLane, NoPartner}
-use Rattle.command_words.specs.Words.{RunNames, Size, Command, Run, Ring, Audit, Twin, RingTwin, Pooled, Make, Load, Convert, Public, Help, Version, BillNames, HideNames, Bill, Hide, InspectNames, Inspect, Registers, RegisterNames, Resume}
+use Rattle.command_words.specs.declared.outcome.Outcome.TheVariants.{Done, NoMemory, BadWords, CannotRead, TooLong, CannotWrite, CannotWritePart, CannotPrint, BadPlan, BadReadings, BadTranscript, BadReport, Impossible, NotInTime, NotThisRun, OtherRow, OtherPlan, OtherLine, OtherPresence, OtherKnown, OtherTotal, OtherComponent, BadLane, NoPartner}
+use Rattle.command_words.specs.Words.{RunNames, Size, Command, Run, Ring, Audit, Twin, RingTwin, Pooled, Make, Load, Convert, Public, Parts, Help, Version, BillNames, HideNames, Bill, Hide, InspectNames, Inspect, Registers, RegisterNames, Resume}
 use Rattle.commands.specs.Calls.{most_bytes, IsRead, after_fetches, putting}
 use Rattle.transcript_text.specs.Spelling.{transcript_text}
 use Rattle.commands.specs.Ends.{fetched_by, put_by, converted_line, RefusesReadings, RunRefuses, RunEndsBy, audited_line, AuditCommandEnds, made_plan_text, made_readings_text, made_line, MakeEnds, put_where, LoadRefuses, LoadEnds, ConvertRefuses, ConvertEnds, public_line, PublicRefuses, PublicEnds, Ends}
@@ -46,6 +46,7 @@ use Rattle.run_course.specs.Beginnings.{IsSomeRun}
 use Rattle.commands.specs.Inspecting.{InspectBytes, AreInspectBytes, PublicTextRefuses, TextsRefuse, IsNotInTime, JudgeRefuses, InspectRefuses, inspected_by, line_of, InspectCommandEnds}
 use Rattle.commands.specs.declared.sharing.Sharing.{Sharing}
 use Rattle.commands.specs.declared.sharing.Sharing.TheVariants.{WithEach, WithNeighbours}
+use Rattle.commands.proofs.PartsLemmas.{parts_calm}
 use Rattle.commands.proofs.CalmLemmas.{read_is, ok_or_err, ok_same, IsCalm, puts_calm, unwritable_calm, unread_calm, one_is_short, two_are_short, three_are_short}
 use Rattle.commands.proofs.AcceptedResume.{resume_calm}
 use Rattle.commands.proofs.AcceptedTwins.{twin_calm, ring_twin_calm, pooled_calm}
@@ -77,6 +78,7 @@ nothing_refused cupboard names v p r BadWords good p_read r_read ends = absurd e
 nothing_refused cupboard names v p r (CannotRead name) good p_read r_read ends = absurd ends
 nothing_refused cupboard names v p r (TooLong name) good p_read r_read ends = absurd ends
 nothing_refused cupboard names v p r (CannotWrite name) good p_read r_read ends = absurd ends
+nothing_refused cupboard names v p r (CannotWritePart prefix meter file) good p_read r_read ends = absurd ends
 nothing_refused cupboard names v p r CannotPrint good p_read r_read ends = absurd ends
 nothing_refused cupboard names v p r (BadPlan name fault) good p_read r_read ends = absurd (ok_or_err _ _ _ (plan_is cupboard names v good p p_read) ends.1)
 nothing_refused cupboard names v p r (BadReadings name fault) good p_read r_read ends = absurd (readings_are_right cupboard names v good p r fault p_read r_read ends.1)
@@ -130,6 +132,7 @@ registers_not_refused cupboard count names v p r BadWords good p_read r_read end
 registers_not_refused cupboard count names v p r (CannotRead name) good p_read r_read ends = absurd ends
 registers_not_refused cupboard count names v p r (TooLong name) good p_read r_read ends = absurd ends
 registers_not_refused cupboard count names v p r (CannotWrite name) good p_read r_read ends = absurd ends
+registers_not_refused cupboard count names v p r (CannotWritePart prefix meter file) good p_read r_read ends = absurd ends
 registers_not_refused cupboard count names v p r CannotPrint good p_read r_read ends = absurd ends
 registers_not_refused cupboard count names v p r (BadPlan name fault) good p_read r_read ends = absurd (ok_or_err _ _ _ (registers_plan_is cupboard count names v good p p_read) ends.1)
 registers_not_refused cupboard count names v p r (BadReadings name fault) good p_read r_read ends = absurd (tables_are_right cupboard count names v good p r fault p_read r_read ends.1)
@@ -193,6 +196,7 @@ audit_not_refused transcript report v tb rb BadWords good t_read r_read ends = a
 audit_not_refused transcript report v tb rb (CannotRead name) good t_read r_read ends = absurd ends
 audit_not_refused transcript report v tb rb (TooLong name) good t_read r_read ends = absurd ends
 audit_not_refused transcript report v tb rb (CannotWrite name) good t_read r_read ends = absurd ends
+audit_not_refused transcript report v tb rb (CannotWritePart prefix meter file) good t_read r_read ends = absurd ends
 audit_not_refused transcript report v tb rb CannotPrint good t_read r_read ends = absurd ends
 audit_not_refused transcript report v tb rb (BadPlan name fault) good t_read r_read ends = absurd ends
 audit_not_refused transcript report v tb rb (BadReadings name fault) good t_read r_read ends = absurd ends
@@ -235,6 +239,7 @@ load_not_refused cupboard size BadWords good ends = absurd ends
 load_not_refused cupboard size (CannotRead name) good ends = absurd ends
 load_not_refused cupboard size (TooLong name) good ends = absurd ends
 load_not_refused cupboard size (CannotWrite name) good ends = absurd ends
+load_not_refused cupboard size (CannotWritePart prefix meter file) good ends = absurd ends
 load_not_refused cupboard size CannotPrint good ends = absurd ends
 load_not_refused cupboard size (BadPlan name fault) good ends = absurd ends
 load_not_refused cupboard size (BadReadings name fault) good ends = absurd ends
@@ -276,6 +281,7 @@ text_not_refused old v bytes BadWords good is ends = absurd ends
 text_not_refused old v bytes (CannotRead name) good is ends = absurd ends
 text_not_refused old v bytes (TooLong name) good is ends = absurd ends
 text_not_refused old v bytes (CannotWrite name) good is ends = absurd ends
+text_not_refused old v bytes (CannotWritePart prefix meter file) good is ends = absurd ends
 text_not_refused old v bytes CannotPrint good is ends = absurd ends
 text_not_refused old v bytes (BadPlan name fault) good is ends = absurd ends
 text_not_refused old v bytes (BadReadings name fault) good is ends = absurd ends
@@ -309,6 +315,7 @@ public_not_refused plan v bytes BadWords good is ends = absurd ends
 public_not_refused plan v bytes (CannotRead name) good is ends = absurd ends
 public_not_refused plan v bytes (TooLong name) good is ends = absurd ends
 public_not_refused plan v bytes (CannotWrite name) good is ends = absurd ends
+public_not_refused plan v bytes (CannotWritePart prefix meter file) good is ends = absurd ends
 public_not_refused plan v bytes CannotPrint good is ends = absurd ends
 public_not_refused plan v bytes (BadPlan name fault) good is ends = absurd (ok_or_err _ _ _ (ap plan_of (sym (read_is v plan good.bytes bytes good.file is)) ∙ good.value) ends.1)
 public_not_refused plan v bytes (BadReadings name fault) good is ends = absurd ends
@@ -475,6 +482,7 @@ command_calm cupboard (Make size plan readings) v w outcome good ends = make_cal
 command_calm cupboard (Load size workers transcript) v w outcome good ends = load_calm cupboard size transcript v w outcome good ends
 command_calm cupboard (Convert old transcript) v w outcome good ends = convert_calm old transcript v w outcome good ends
 command_calm cupboard (Public plan public) v w outcome good ends = public_calm plan public v w outcome good ends
+command_calm cupboard (Parts plan g prefix) v w outcome good ends = parts_calm plan g prefix v w outcome good ends
 command_calm cupboard (Inspect names) v w outcome good ends = inspect_calm names v w outcome good ends
 command_calm cupboard (Bill names period) v w outcome good ends = bill_calm names period v w outcome good ends
 command_calm cupboard (Hide names period place) v w outcome good ends = hide_calm names period place v w outcome good ends

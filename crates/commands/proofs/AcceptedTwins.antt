@@ -20,7 +20,7 @@ use Rattle.twin_worlds.proofs.HonestLemmas.{honest-have-twins, honest-have-poole
 use Rattle.commands.specs.Twins.{TwinBytes, AreReadBy, TwinValues, AreTwinValues, Compared, RefusesFirst, RefusesSecond, TwinRefuses}
 use Rattle.commands.specs.Pooled.{PooledCompared, RefusesPlanFor, PooledRefuses}
 use Rattle.command_words.specs.declared.outcome.Outcome.{Outcome}
-use Rattle.command_words.specs.declared.outcome.Outcome.TheVariants.{Done, NoMemory, BadWords, CannotRead, TooLong, CannotWrite, CannotPrint, BadPlan, BadReadings, BadTranscript, BadReport, Impossible, NotInTime, NotThisRun, OtherRow, OtherPlan, OtherLine, OtherPresence, OtherKnown, OtherTotal, OtherComponent, BadLane, NoPartner}
+use Rattle.command_words.specs.declared.outcome.Outcome.TheVariants.{Done, NoMemory, BadWords, CannotRead, TooLong, CannotWrite, CannotWritePart, CannotPrint, BadPlan, BadReadings, BadTranscript, BadReport, Impossible, NotInTime, NotThisRun, OtherRow, OtherPlan, OtherLine, OtherPresence, OtherKnown, OtherTotal, OtherComponent, BadLane, NoPartner}
 use Rattle.command_words.specs.declared.known.KnownMeter.{KnownMeter}
 use Rattle.command_words.specs.Known.{is_known, are_in_plan}
 use Rattle.command_words.specs.Words.{TwinNames}
@@ -134,6 +134,7 @@ twin_not_refused names v good BadWords ends = absurd ends
 twin_not_refused names v good (CannotRead name) ends = absurd ends
 twin_not_refused names v good (TooLong name) ends = absurd ends
 twin_not_refused names v good (CannotWrite name) ends = absurd ends
+twin_not_refused names v good (CannotWritePart prefix meter file) ends = absurd ends
 twin_not_refused names v good CannotPrint ends = absurd ends
 twin_not_refused names v good (BadPlan name fault) ends = absurd (plan_not_refused good.bytes good.values good.of_bytes fault ends.1)
 twin_not_refused names v good (BadReadings name fault) (inl ends) = absurd (first_not_refused good.bytes good.values good.of_bytes fault ends.1)
@@ -277,6 +278,7 @@ pooled_not_refused known names v good BadWords ends = absurd ends
 pooled_not_refused known names v good (CannotRead name) ends = absurd ends
 pooled_not_refused known names v good (TooLong name) ends = absurd ends
 pooled_not_refused known names v good (CannotWrite name) ends = absurd ends
+pooled_not_refused known names v good (CannotWritePart prefix meter file) ends = absurd ends
 pooled_not_refused known names v good CannotPrint ends = absurd ends
 pooled_not_refused known names v good (BadPlan name fault) ends = absurd (not_outside known names v good fault ends.1)
 pooled_not_refused known names v good (BadReadings name fault) (inl (named, (file, plan, within, bad))) = absurd (first_not_refused good.bytes good.values good.of_bytes fault (file, plan, bad))

@@ -1,6 +1,5 @@
 -- A transcript's file that is written ahead.
-use Rattle.std.proofs.Common.{◌≡◌, ◌<◌, ◌≤◌, ◌-◌, ◌^◌, ℕ, min, zero, suc, Bool, true, List, [], ◌∷◌, ◌++◌, length, take, drop, refl, sym, ap, ◌∙◌, subst, length-append, arith, ◌+◌}
-use Rattle.std.specs.Prelude.{Option, Some, None, IfSome}
+use Rattle.std.proofs.Common.{◌≡◌, ◌<◌, ◌≤◌, ◌-◌, ◌^◌, ℕ, min, zero, suc, List, [], ◌∷◌, ◌++◌, length, take, drop, refl, sym, ap, ◌∙◌, subst, append_assoc, length-append, arith, ◌+◌}
 use Rattle.std.proofs.lemmas.List.{length-take-le, take-append-le, take_all, take-append-drop}
 use Rattle.group_plan.specs.Plans.{PlanView}
 use Rattle.transcript_log.specs.declared.Entry.{Entry}
@@ -9,7 +8,7 @@ use Rattle.transcript_text.specs.Writing.{lines_text, begun_text}
 use Rattle.transcript_text.specs.Spelling.{transcript_text}
 use Rattle.transcript_text.proofs.BegunText.{begun_more}
 use Rattle.tick_run.specs.Runs.{RunView, MakesTicks, told_by}
-use Rattle.commands.specs.Ahead.{text_ahead, IsAhead, IsNext, SameFile}
+use Rattle.commands.specs.Ahead.{text_ahead, IsAhead, IsNext, MakesSome}
 
 -- the text ahead, once a part is written behind it
 ahead-first : (plan : PlanView) (es part : List Entry) → length es ≡ 0 → 0 < length part → text_ahead plan es ++ begun_text plan part ≡ text_ahead plan (es ++ part)
@@ -37,6 +36,13 @@ pub ahead-fresh : {B : Type 0} (has : B → List ℕ → Type 0) (file : B) (t :
 ahead-fresh has file t is =
     let long = length-take-le 0 t.entries (omega arith) in
     record { within = omega arith; text = subst (has file) (sym (ahead-none t.plan (take 0 t.entries) (omega (arith, long)))) is }
+
+-- it has the text of the first entries, of which there are some
+pub ahead-behind : {B : Type 0} (has : B → List ℕ → Type 0) (file : B) (entries : ℕ) (t : TranscriptView) (text : List ℕ) → has file text → 0 < entries → entries ≤ length t.entries
+    → text ≡ begun_text t.plan (take entries t.entries) → IsAhead has file entries t
+ahead-behind has file entries t text is some within text_is =
+    let long = length-take-le entries t.entries within in
+    record { within = within; text = subst (has file) (text_is ∙ sym (ahead-some t.plan (take entries t.entries) (omega (arith, long, some)))) is }
 
 -- what comes next is written behind the text ahead: the first part with the head, the others without it
 next-text : (plan : PlanView) (es : List Entry) (count : ℕ) (rest : List ℕ) → count < length es
@@ -101,30 +107,17 @@ pub ahead-finished : {B : Type 0} (has : B → List ℕ → Type 0) (file after 
 ahead-finished has file after entries t rest ahead whole left grows =
     subst (has after) (left-behind t entries rest ahead.within whole left) (grows (text_ahead t.plan (take entries t.entries)) ahead.text)
 
--- ---- where there is a file
+-- ---- ticks
 
-module _ {A : Type 0} (name : A → List ℕ) (failed : A → Bool) where
-  pub same-file : (o : Option A) → SameFile o o name failed
-  same-file None = tt
-  same-file (Some a) = (refl, λ is. is)
+-- what is made first and what is made then are made together
+pub makes-then : {M : Type 0} (n m : ℕ) (run now next : RunView M) → MakesTicks n run now → MakesTicks m now next → MakesTicks (n + m) run next
+makes-then n m run now next before last = record {
+  more = before.more ++ last.more;
+  is = last.is ∙ ap (λ (v : RunView _). record v { tick = v.tick + m; entries = v.entries ++ last.more }) before.is
+      ∙ ap (λ (es : List Entry). record run { tick = run.tick + n + m; entries = es }) (append_assoc run.entries before.more last.more)
+      ∙ (let later : run.tick + n + m ≡ run.tick + (n + m) = omega arith in ap (λ (k : ℕ). record run { tick = k; entries = run.entries ++ (before.more ++ last.more) }) later);
+}
 
-  pub same-then : (o p q : Option A) → SameFile o p name failed → SameFile p q name failed → SameFile o q name failed
-  same-then None None None first next = tt
-  same-then (Some a) (Some b) (Some c) first next = (next.0 ∙ first.0, λ is. next.1 (first.1 is))
-  same-then None (Some b) q first next = absurd first
-  same-then (Some a) None q first next = absurd first
-  same-then None None (Some c) first next = absurd next
-  same-then (Some a) (Some b) None first next = absurd next
-
-  pub same-some : (a b : A) (o : Option A) → o ≡ Some b → SameFile (Some a) o name failed → (name b ≡ name a) × (failed a ≡ true → failed b ≡ true)
-  same-some a b o is same = subst (λ (p : Option A). SameFile (Some a) p name failed) is same
-
-  pub never-none : (a : A) (o : Option A) → o ≡ None → SameFile (Some a) o name failed → ⊥
-  never-none a o is same = subst (λ (p : Option A). SameFile (Some a) p name failed) is same
-
-pub some-by : {A : Type 0} (P Q : A → Type 0) (o : Option A) → ((a : A) → P a → Q a) → IfSome o P → IfSome o Q
-some-by P Q None by all = tt
-some-by P Q (Some a) by all = by a all
-
-pub some-is : {A : Type 0} (P : A → Type 0) (a : A) (o : Option A) → o ≡ Some a → IfSome o P → P a
-some-is P a o is all = subst (λ (p : Option _). IfSome p P) is all
+-- some ticks are made
+pub some-ticks : {M : Type 0} (n : ℕ) (run now : RunView M) → 0 < n → MakesTicks n run now → MakesSome run now
+some-ticks n run now some makes = record { count = n; some = some; makes = makes }

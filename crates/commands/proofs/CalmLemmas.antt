@@ -3,7 +3,7 @@ use Rattle.std.proofs.Common.{◌≡◌, ◌⊎◌, ℕ, false, List, [], ◌∷
 use Rattle.std.specs.Prelude.{Some}
 use Rattle.desk_outside.specs.Desk.{View, Held, Holds, IsLonger}
 use Rattle.command_words.specs.declared.outcome.Outcome.{Outcome}
-use Rattle.command_words.specs.declared.outcome.Outcome.TheVariants.{Done, NoMemory, BadWords, CannotRead, TooLong, CannotWrite, CannotPrint, BadPlan, BadReadings, BadTranscript, BadReport, Impossible, NotInTime, NotThisRun, OtherRow, OtherPlan, OtherLine, OtherPresence, OtherKnown, OtherTotal, OtherComponent, BadLane, NoPartner}
+use Rattle.command_words.specs.declared.outcome.Outcome.TheVariants.{Done, NoMemory, BadWords, CannotRead, TooLong, CannotWrite, CannotWritePart, CannotPrint, BadPlan, BadReadings, BadTranscript, BadReport, Impossible, NotInTime, NotThisRun, OtherRow, OtherPlan, OtherLine, OtherPresence, OtherKnown, OtherTotal, OtherComponent, BadLane, NoPartner}
 use Rattle.commands.specs.Calls.{most_bytes, EndsAtFetch, IsRead, Unread, Putting, PutsEnd, names_of, Unwritable}
 use Rattle.command_words.specs.Outcomes.{status_of, IsFault}
 use Rattle.commands.specs.Accepted.{HoldsFile}
@@ -47,6 +47,7 @@ puts_calm files line v w BadWords ends = absurd ends
 puts_calm files line v w (CannotRead name) ends = absurd ends
 puts_calm files line v w (TooLong name) ends = absurd ends
 puts_calm files line v w (CannotWrite name) ends = inl tt
+puts_calm files line v w (CannotWritePart prefix meter file) ends = inl tt
 puts_calm files line v w CannotPrint ends = inl tt
 puts_calm files line v w (BadPlan name fault) ends = absurd ends
 puts_calm files line v w (BadReadings name fault) ends = absurd ends
@@ -78,6 +79,7 @@ unread_calm names v w BadWords short ends = absurd ends
 unread_calm names v w (CannotRead name) short ends = inl tt
 unread_calm names v w (TooLong name) short ends = absurd (short name.now ends.0 ends.1)
 unread_calm names v w (CannotWrite name) short ends = absurd ends
+unread_calm names v w (CannotWritePart prefix meter file) short ends = absurd ends
 unread_calm names v w CannotPrint short ends = absurd ends
 unread_calm names v w (BadPlan name fault) short ends = absurd ends
 unread_calm names v w (BadReadings name fault) short ends = absurd ends

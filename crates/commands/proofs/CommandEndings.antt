@@ -1,27 +1,22 @@
 -- How commands end, from how their parts do.
 use Rattle.std.proofs.Common.{◌≡◌, List, [], ◌∷◌, ◌++◌, ℕ, Bool, true, false, length, inl, inr, subst, sym, ap, ◌∙◌, refl, Result, Ok, Err}
-use Rattle.std.specs.Borrow.{Bor}
 use Rattle.std.specs.Prelude.{Option, Some}
 use Rattle.desk_outside.specs.Desk.{View, IsLonger, Fetched, after_step}
 use Rattle.link_lanes.specs.Fits.{hung_by}
 use Rattle.link_lanes.specs.Lanes.{Meaning}
-use Rattle.link_lanes.specs.declared.cupboard.RackError.{RackError}
 use Rattle.transcript_text.specs.declared.version.Version.TheVariants.{One, Two}
 use Rattle.transcript_text.specs.Heads.{read_of}
 use Rattle.transcript_log.specs.Transcripts.{TranscriptView}
 use Rattle.transcript_text.specs.ReadBack.{HasText}
 use Rattle.transcript_text.specs.Spelling.{text_of, transcript_text}
-use Rattle.commands.specs.declared.texts.Refusal.{Refusal}
-use Rattle.commands.specs.declared.texts.Refusal.TheVariants as refusal
-use Rattle.commands.specs.RunTexts.{TextsEnd}
 use Rattle.command_words.specs.declared.outcome.Outcome.{Outcome}
-use Rattle.command_words.specs.declared.outcome.Outcome.TheVariants.{Done, NoMemory, BadWords, CannotRead, TooLong, CannotWrite, CannotPrint, BadPlan, BadReadings, BadTranscript, BadReport, Impossible, NotInTime, NotThisRun, OtherRow, OtherPlan, OtherLine, OtherPresence, OtherKnown, OtherTotal, OtherComponent, BadLane, NoPartner}
+use Rattle.command_words.specs.declared.outcome.Outcome.TheVariants.{Done, NoMemory, BadWords, CannotRead, TooLong, CannotWrite, CannotWritePart, CannotPrint, BadPlan, BadReadings, BadTranscript, BadReport, Impossible, NotInTime, NotThisRun, OtherRow, OtherPlan, OtherLine, OtherPresence, OtherKnown, OtherTotal, OtherComponent, BadLane, NoPartner}
 use Rattle.twin_worlds.specs.declared.rows.MovedRow.{MovedRow}
 use Rattle.twin_worlds.specs.MasksText.{masks_text}
 use Rattle.commands.specs.Twins.{TwinBytes, AreReadBy}
 use Rattle.command_words.specs.Words.{RunNames, TwinNames, Size}
 use Rattle.commands.specs.Calls.{most_bytes, HasFetched, EndsAtFetch, Unread, IsRead, after_fetches, Putting, putting, HasPut, names_of, Unwritable, PutsEnd}
-use Rattle.commands.specs.Ends.{fetched_by, put_by, RunEndsBy, RefusesReadings, audited_line, AuditCommandEnds, compared_by, counted_line, MovedAreSaid, ComparedEndsAs, made_file_of, made_plan_text, made_readings_text, IsMade, put_where, LoadEnds, converted_line, ConvertEnds}
+use Rattle.commands.specs.Ends.{fetched_by, put_by, RunRefuses, RunEndsBy, RefusesReadings, audited_line, AuditCommandEnds, compared_by, counted_line, MovedAreSaid, ComparedEndsAs, made_file_of, made_plan_text, made_readings_text, IsMade, put_where, LoadRefuses, LoadEnds, converted_line, ConvertEnds}
 use Rattle.audit_check.specs.declared.answers.AuditCounts.{AuditCounts}
 use Rattle.plan_files.specs.declared.fault.FileError.{FileError}
 use Rattle.plan_files.specs.PlanFiles.{plan_of}
@@ -31,7 +26,8 @@ use Rattle.load_maker.specs.MadeFiles.{AreRead}
 use Rattle.commands.specs.Audits.{Audited, ReportRefuses, AuditRefuses}
 use Rattle.commands.specs.declared.sharing.Sharing.{Sharing}
 use Rattle.commands.specs.declared.sharing.Sharing.TheVariants.{WithEach}
-use Rattle.commands.specs.Runs.{HasValues, Texts, MakesBy, Makes, RefusesLane}
+use Rattle.commands.specs.Files.{FilesRefused}
+use Rattle.commands.specs.Runs.{AreValues, HasValues, Texts, Values, MakesBy, Makes}
 use Rattle.commands.proofs.RunLemmas.{is_only}
 
 -- ---- fetches
@@ -66,6 +62,7 @@ then_unread names more v u w (TooLong name) after ends = (
   subst (λ held. IsLonger (held name.now) most_bytes) (ap (λ v. v.held) after ∙ held_after names v) ends.1,
 )
 then_unread names more v u w (CannotWrite name) after ends = absurd ends
+then_unread names more v u w (CannotWritePart prefix meter file) after ends = absurd ends
 then_unread names more v u w CannotPrint after ends = absurd ends
 then_unread names more v u w (BadPlan name fault) after ends = absurd ends
 then_unread names more v u w (BadReadings name fault) after ends = absurd ends
@@ -106,6 +103,7 @@ unwritable_puts files line v w BadWords ends = absurd ends
 unwritable_puts files line v w (CannotRead name) ends = absurd ends
 unwritable_puts files line v w (TooLong name) ends = absurd ends
 unwritable_puts files line v w (CannotWrite name) ends = inr ends
+unwritable_puts files line v w (CannotWritePart prefix meter file) ends = absurd ends
 unwritable_puts files line v w CannotPrint ends = absurd ends
 unwritable_puts files line v w (BadPlan name fault) ends = absurd ends
 unwritable_puts files line v w (BadReadings name fault) ends = absurd ends
@@ -133,15 +131,34 @@ puts_named n m first second one two line v w outcome n_is m_is ends =
 
 -- ---- `run`, `convert`, `audit` and `load`
 
--- the texts of a run are put and said
-pub run_ends : (sharing : Sharing) (cupboard : List Meaning) (names : RunNames) (v u w : View) (texts : Texts) (outcome : Outcome) (plan readings p r transcript report summary : List ℕ)
-    → IsRead (v.held names.plan) plan → IsRead (v.held names.readings) readings → u ≡ after_fetches (fetched_by names) v → p ≡ plan → r ≡ readings
-    → MakesBy sharing cupboard p r texts → transcript ≡ texts.transcript → report ≡ texts.report → summary ≡ texts.summary
-    → PutsEnd (putting names.transcript transcript ∷ putting names.report report ∷ []) summary u w outcome → RunEndsBy sharing cupboard names v w outcome
-run_ends sharing cupboard names v u w texts outcome plan readings p r transcript report summary plan_read readings_read after plan_is readings_is made t_is r_is s_is ends =
-    let made_here : MakesBy sharing cupboard plan readings texts =
-    subst (λ bytes. MakesBy sharing cupboard plan bytes texts) readings_is (subst (λ bytes. MakesBy sharing cupboard bytes r texts) plan_is made)
+-- what the files of a run say is refused
+run_refuses : (cupboard : List Meaning) (names : RunNames) (p r : List ℕ) (outcome : Outcome) → FilesRefused cupboard names.plan names.readings p r outcome → RunRefuses cupboard names p r outcome
+run_refuses cupboard names p r (BadPlan name fault) is = is
+run_refuses cupboard names p r (BadLane fault) is = is
+run_refuses cupboard names p r (BadReadings name fault) is = is
+run_refuses cupboard names p r NoMemory is = tt
+run_refuses cupboard names p r _ is = absurd is
+
+pub run_refused : (sharing : Sharing) (cupboard : List Meaning) (names : RunNames) (v w : View) (outcome : Outcome) (p r : List ℕ) → IsRead (v.held names.plan) p → IsRead (v.held names.readings) r
+    → w ≡ after_fetches (fetched_by names) v → FilesRefused cupboard names.plan names.readings p r outcome → RunEndsBy sharing cupboard names v w outcome
+run_refused sharing cupboard names v w outcome p r p_read r_read after refused = inr (p, r, p_read, r_read, inl (run_refuses cupboard names p r outcome refused, after))
+
+-- the files of a run have values, but a name can't be written
+pub run_unwritable : (sharing : Sharing) (cupboard : List Meaning) (names : RunNames) (v u w : View) (outcome : Outcome) (p r : List ℕ) (values : Values) (n m : List ℕ) → IsRead (v.held names.plan) p
+    → IsRead (v.held names.readings) r → u ≡ after_fetches (fetched_by names) v → AreValues cupboard p r values → n ≡ names.transcript → m ≡ names.report
+    → Unwritable (n ∷ m ∷ []) u w outcome → RunEndsBy sharing cupboard names v w outcome
+run_unwritable sharing cupboard names v u w outcome p r values n m p_read r_read after are n_is m_is unwritable =
+    let by_names : Unwritable (names.transcript ∷ names.report ∷ []) u w outcome =
+    subst (λ x. Unwritable (names.transcript ∷ x ∷ []) u w outcome) m_is (subst (λ x. Unwritable (x ∷ m ∷ []) u w outcome) n_is unwritable)
     in
+    inr (p, r, p_read, r_read, inr (inl ((values, are), subst (λ u. Unwritable (names.transcript ∷ names.report ∷ []) u w outcome) after by_names)))
+
+-- the texts of a run are put and said
+pub run_ends : (sharing : Sharing) (cupboard : List Meaning) (names : RunNames) (v u w : View) (texts : Texts) (outcome : Outcome) (p r transcript report summary : List ℕ)
+    → IsRead (v.held names.plan) p → IsRead (v.held names.readings) r → u ≡ after_fetches (fetched_by names) v → MakesBy sharing cupboard p r texts
+    → transcript ≡ texts.transcript → report ≡ texts.report → summary ≡ texts.summary
+    → PutsEnd (putting names.transcript transcript ∷ putting names.report report ∷ []) summary u w outcome → RunEndsBy sharing cupboard names v w outcome
+run_ends sharing cupboard names v u w texts outcome p r transcript report summary p_read r_read after made t_is r_is s_is ends =
     let by_transcript : PutsEnd (putting names.transcript texts.transcript ∷ putting names.report report ∷ []) summary u w outcome =
     subst (λ t. PutsEnd (putting names.transcript t ∷ putting names.report report ∷ []) summary u w outcome) t_is ends
     in
@@ -152,50 +169,7 @@ run_ends sharing cupboard names v u w texts outcome plan readings p r transcript
     let here : PutsEnd (put_by names texts) texts.summary (after_fetches (fetched_by names) v) w outcome =
     subst (λ u. PutsEnd (put_by names texts) texts.summary u w outcome) after by_summary
     in
-    inr (plan, readings, plan_read, readings_read, inr (inr (texts, made_here, is_only sharing cupboard plan readings texts made_here, here)))
-
--- the files of a run have values, but a name can't be written
-pub run_unwritable : (sharing : Sharing) (cupboard : List Meaning) (names : RunNames) (v u w : View) (outcome : Outcome) (why : Refusal) (plan readings p r : List ℕ) (is_writable : Bool) (n m : List ℕ)
-    → IsRead (v.held names.plan) plan → IsRead (v.held names.readings) readings → u ≡ after_fetches (fetched_by names) v → p ≡ plan → r ≡ readings
-    → why ≡ refusal.Unwritable → TextsEnd sharing cupboard p r is_writable (Err why) → n ≡ names.transcript → m ≡ names.report
-    → Unwritable (n ∷ m ∷ []) u w outcome → RunEndsBy sharing cupboard names v w outcome
-run_unwritable sharing cupboard names v u w outcome why plan readings p r is_writable n m plan_read readings_read after plan_is readings_is why_is ends n_is m_is unwritable =
-    let values : HasValues cupboard p r = (subst (λ why. TextsEnd sharing cupboard p r is_writable (Err why)) why_is ends).1 in
-    let here : HasValues cupboard plan readings =
-    subst (λ bytes. HasValues cupboard plan bytes) readings_is (subst (λ bytes. HasValues cupboard bytes r) plan_is values)
-    in
-    let by_names : Unwritable (names.transcript ∷ names.report ∷ []) u w outcome =
-    subst (λ x. Unwritable (names.transcript ∷ x ∷ []) u w outcome) m_is (subst (λ x. Unwritable (x ∷ m ∷ []) u w outcome) n_is unwritable)
-    in
-    inr (plan, readings, plan_read, readings_read, inr (inl (here, subst (λ u. Unwritable (names.transcript ∷ names.report ∷ []) u w outcome) after by_names)))
-
--- the plan file of a run is refused
-pub run_refuses_plan : (sharing : Sharing) (cupboard : List Meaning) (names : RunNames) (v w : View) (name : Bor (List ℕ)) (fault got : FileError) (why : Refusal) (is_writable : Bool) (plan readings p r : List ℕ)
-    → IsRead (v.held names.plan) plan → IsRead (v.held names.readings) readings → w ≡ after_fetches (fetched_by names) v → p ≡ plan
-    → name.now ≡ names.plan → why ≡ refusal.Plan fault → TextsEnd sharing cupboard p r is_writable (Err why) → got ≡ fault → RunEndsBy sharing cupboard names v w (BadPlan name got)
-run_refuses_plan sharing cupboard names v w name fault got why is_writable plan readings p r plan_read readings_read after plan_is name_is why_is ends same =
-    let refuses : plan_of p ≡ Err fault = subst (λ why. TextsEnd sharing cupboard p r is_writable (Err why)) why_is ends in
-    inr (plan, readings, plan_read, readings_read, inl ((name_is, subst (λ f. plan_of plan ≡ Err f) (sym same) (ap plan_of (sym plan_is) ∙ refuses)), after))
-
--- a lane row of a run is refused
-pub run_refuses_lane : (sharing : Sharing) (cupboard : List Meaning) (names : RunNames) (v w : View) (fault got : RackError) (why : Refusal) (is_writable : Bool) (plan readings p r : List ℕ)
-    → IsRead (v.held names.plan) plan → IsRead (v.held names.readings) readings → w ≡ after_fetches (fetched_by names) v → p ≡ plan → r ≡ readings
-    → why ≡ refusal.Lane fault → TextsEnd sharing cupboard p r is_writable (Err why) → got ≡ fault → RunEndsBy sharing cupboard names v w (BadLane got)
-run_refuses_lane sharing cupboard names v w fault got why is_writable plan readings p r plan_read readings_read after plan_is readings_is why_is ends same =
-    let refuses : RefusesLane cupboard p fault = subst (λ why. TextsEnd sharing cupboard p r is_writable (Err why)) why_is ends in
-    let here : RefusesLane cupboard plan fault = subst (λ bytes. RefusesLane cupboard bytes fault) plan_is refuses in
-    inr (plan, readings, plan_read, readings_read, inl (subst (RefusesLane cupboard plan) (sym same) here, after))
-
--- the readings file of a run is refused
-pub run_refuses_readings : (sharing : Sharing) (cupboard : List Meaning) (names : RunNames) (v w : View) (name : Bor (List ℕ)) (fault got : FileError) (why : Refusal) (is_writable : Bool) (plan readings p r : List ℕ)
-    → IsRead (v.held names.plan) plan → IsRead (v.held names.readings) readings → w ≡ after_fetches (fetched_by names) v → p ≡ plan → r ≡ readings
-    → name.now ≡ names.readings → why ≡ refusal.Readings fault → TextsEnd sharing cupboard p r is_writable (Err why) → got ≡ fault → RunEndsBy sharing cupboard names v w (BadReadings name got)
-run_refuses_readings sharing cupboard names v w name fault got why is_writable plan readings p r plan_read readings_read after plan_is readings_is name_is why_is ends same =
-    let refuses : RefusesReadings cupboard p r fault = subst (λ why. TextsEnd sharing cupboard p r is_writable (Err why)) why_is ends in
-    let here : RefusesReadings cupboard plan readings fault =
-    subst (λ bytes. RefusesReadings cupboard plan bytes fault) readings_is (subst (λ bytes. RefusesReadings cupboard bytes r fault) plan_is refuses)
-    in
-    inr (plan, readings, plan_read, readings_read, inl ((name_is, subst (RefusesReadings cupboard plan readings) (sym same) here), after))
+    inr (p, r, p_read, r_read, inr (inr (texts, made, is_only sharing cupboard p r texts made, here)))
 
 -- the transcript of an old text is put
 pub convert_ends : (old transcript : List ℕ) (v u w : View) (t : TranscriptView) (outcome : Outcome) (bytes given text line : List ℕ) (lines : ℕ)
@@ -256,102 +230,66 @@ readings_not_refused cupboard size p r fault p_is r_is made (file, slots, plan_i
     let plan : file.plan ≡ made_plan size.groups size.meters size.rounds = ap (λ f. f.plan) (sym same) ∙ plan_of_made size in
     not_both (readings_of file.plan r) (made_readings size.seed size.groups size.meters size.rounds) fault (ap (λ plan. readings_of plan r) plan ∙ ap (readings_of (made_plan size.groups size.meters size.rounds)) r_is ∙ made.readings) bad
 
-pub made_readings_are_read : (sharing : Sharing) (cupboard : List Meaning) (size : Size) (is_writable : Bool) (p r : List ℕ) (why : Refusal) (fault : FileError) → p ≡ made_plan_text size → r ≡ made_readings_text size
-    → AreRead size.seed size.groups size.meters size.rounds → why ≡ refusal.Readings fault → TextsEnd sharing cupboard p r is_writable (Err why) → ⊥
-made_readings_are_read sharing cupboard size is_writable p r why fault p_is r_is made why_is ends =
-    readings_not_refused cupboard size p r fault p_is r_is made (subst (λ x. TextsEnd sharing cupboard p r is_writable (Err x)) why_is ends)
+-- so a load is refused for its lane row alone
+load_refuses : (cupboard : List Meaning) (size : Size) (plan readings p r : List ℕ) (outcome : Outcome) → IsMade size p r → FilesRefused cupboard plan readings p r outcome → LoadRefuses cupboard size outcome
+load_refuses cupboard size plan readings p r (BadPlan name fault) made (named, bad) = absurd (not_both (plan_of p) (made_file_of size) fault (ap plan_of made.plan ∙ made.read.plan) bad)
+load_refuses cupboard size plan readings p r (BadLane fault) made refuses =
+    let well : plan_of p ≡ Ok (made_file_of size) = ap plan_of made.plan ∙ made.read.plan in
+    let file : made_file_of size ≡ refuses.0 = (let is = refuses.1 in cc) in
+    ap (λ f. hung_by cupboard f.lanes) file ∙ refuses.2
+load_refuses cupboard size plan readings p r (BadReadings name fault) made (named, bad) = absurd (readings_not_refused cupboard size p r fault made.plan made.readings made.read bad)
+load_refuses cupboard size plan readings p r NoMemory made refused = tt
+load_refuses cupboard size plan readings p r _ made refused = absurd refused
+
+pub load_refused : (cupboard : List Meaning) (size : Size) (name : Option (List ℕ)) (v w : View) (outcome : Outcome) (plan readings p r : List ℕ) → IsMade size p r → w ≡ v
+    → FilesRefused cupboard plan readings p r outcome → LoadEnds cupboard size name v w outcome
+load_refused cupboard size name v w outcome plan readings p r made same refused = inl (load_refuses cupboard size plan readings p r outcome made refused, same)
+
+-- the values of the made bytes are those of the texts that they are made as
+made_values : (P : List ℕ → List ℕ → Type 0) (size : Size) (p r : List ℕ) → IsMade size p r → P p r → P (made_plan_text size) (made_readings_text size)
+made_values P size p r made holds = subst (λ bytes. P (made_plan_text size) bytes) made.readings (subst (λ bytes. P bytes r) made.plan holds)
 
 -- the texts of a load are put, where there is a name, and said
-pub load_ends : (sharing : Sharing) (cupboard : List Meaning) (size : Size) (name given : Option (List ℕ)) (v w : View) (texts : Texts) (outcome : Outcome) (p r transcript summary : List ℕ)
-    → name ≡ given → p ≡ made_plan_text size → r ≡ made_readings_text size → sharing ≡ WithEach → MakesBy sharing cupboard p r texts
-    → transcript ≡ texts.transcript → summary ≡ texts.summary
-    → PutsEnd (put_where given transcript) summary v w outcome → LoadEnds cupboard size name v w outcome
-load_ends sharing cupboard size name given v w texts outcome p r transcript summary name_is p_is r_is each made t_is s_is ends =
-    let made_so : Makes cupboard p r texts = subst (λ sharing. MakesBy sharing cupboard p r texts) each made in
-    let here : Makes cupboard (made_plan_text size) (made_readings_text size) texts =
-    subst (λ bytes. Makes cupboard (made_plan_text size) bytes texts) r_is (subst (λ bytes. Makes cupboard bytes r texts) p_is made_so)
+pub load_ends : (cupboard : List Meaning) (size : Size) (name given : Option (List ℕ)) (u v w : View) (texts : Texts) (outcome : Outcome) (p r transcript summary : List ℕ)
+    → name ≡ given → IsMade size p r → Makes cupboard p r texts → transcript ≡ texts.transcript → summary ≡ texts.summary → u ≡ v
+    → PutsEnd (put_where given transcript) summary u w outcome → LoadEnds cupboard size name v w outcome
+load_ends cupboard size name given u v w texts outcome p r transcript summary name_is made makes t_is s_is same ends =
+    let here : Makes cupboard (made_plan_text size) (made_readings_text size) texts = made_values (λ p r. Makes cupboard p r texts) size p r made makes in
+    let by_transcript : PutsEnd (put_where given texts.transcript) summary u w outcome = subst (λ t. PutsEnd (put_where given t) summary u w outcome) t_is ends in
+    let by_summary : PutsEnd (put_where given texts.transcript) texts.summary u w outcome =
+    subst (λ s. PutsEnd (put_where given texts.transcript) s u w outcome) s_is by_transcript
     in
-    let by_transcript : PutsEnd (put_where given texts.transcript) summary v w outcome = subst (λ t. PutsEnd (put_where given t) summary v w outcome) t_is ends in
-    let by_summary : PutsEnd (put_where given texts.transcript) texts.summary v w outcome =
-    subst (λ s. PutsEnd (put_where given texts.transcript) s v w outcome) s_is by_transcript
-    in
+    let by_name : PutsEnd (put_where name texts.transcript) texts.summary u w outcome = subst (λ n. PutsEnd (put_where n texts.transcript) texts.summary u w outcome) (sym name_is) by_summary in
     inr (inr (
       texts,
       here,
       is_only WithEach cupboard (made_plan_text size) (made_readings_text size) texts here,
-      subst (λ n. PutsEnd (put_where n texts.transcript) texts.summary v w outcome) (sym name_is) by_summary,
+      subst (λ v. PutsEnd (put_where name texts.transcript) texts.summary v w outcome) same by_name,
     ))
 
 -- the lane row of a load gets its lane, but the name can't be written
-pub load_unwritable : (sharing : Sharing) (cupboard : List Meaning) (size : Size) (is_writable : Bool) (n name : List ℕ) (v w : View) (outcome : Outcome) (p r : List ℕ) (why : Refusal)
-    → IsMade size p r → why ≡ refusal.Unwritable → TextsEnd sharing cupboard p r is_writable (Err why) → n ≡ name → Unwritable (n ∷ []) v w outcome
-    → LoadEnds cupboard size (Some name) v w outcome
-load_unwritable sharing cupboard size is_writable n name v w outcome p r why made why_is ends n_is unwritable =
-    let values : HasValues cupboard p r = (subst (λ why. TextsEnd sharing cupboard p r is_writable (Err why)) why_is ends).1 in
-    let here : HasValues cupboard (made_plan_text size) (made_readings_text size) =
-    subst (λ bytes. HasValues cupboard (made_plan_text size) bytes) made.readings (subst (λ bytes. HasValues cupboard bytes r) made.plan values)
-    in
-    inr (inl (here, subst (λ x. Unwritable (x ∷ []) v w outcome) n_is unwritable))
-
--- the lane row of the made plan is refused
-pub load_refuses_lane : (sharing : Sharing) (cupboard : List Meaning) (size : Size) (is_writable : Bool) (name : Option (List ℕ)) (v w : View) (p r : List ℕ) (why : Refusal) (fault : RackError)
-    → IsMade size p r → why ≡ refusal.Lane fault → TextsEnd sharing cupboard p r is_writable (Err why) → w ≡ v → LoadEnds cupboard size name v w (BadLane fault)
-load_refuses_lane sharing cupboard size is_writable name v w p r why fault made why_is ends same =
-    let refuses : RefusesLane cupboard p fault = subst (λ why. TextsEnd sharing cupboard p r is_writable (Err why)) why_is ends in
-    let well : plan_of p ≡ Ok (made_file_of size) = ap plan_of made.plan ∙ made.read.plan in
-    let file : made_file_of size ≡ refuses.0 = (let is = refuses.1 in cc) in
-    inl (ap (λ f. hung_by cupboard f.lanes) file ∙ refuses.2, same)
-
--- a call before, which changed nothing that is seen
-pub load_from : (cupboard : List Meaning) (size : Size) (name : Option (List ℕ)) (u v w : View) (outcome : Outcome) → u ≡ v → LoadEnds cupboard size name u w outcome → LoadEnds cupboard size name v w outcome
-load_from cupboard size name u v w outcome same = subst (λ v. LoadEnds cupboard size name v w outcome) same
-
--- the bytes are made for some size
-pub some_made : (size : Size) (p r : List ℕ) → p ≡ made_plan_text size → r ≡ made_readings_text size → AreRead size.seed size.groups size.meters size.rounds
-    → (made_for : Size) × IsMade made_for p r
-some_made size p r plan readings read = (size, record { plan = plan; readings = readings; read = read })
-
--- under the name that the words give
-pub load_named : (cupboard : List Meaning) (size : Size) (given name : Option (List ℕ)) (v w : View) (outcome : Outcome) → given ≡ name → LoadEnds cupboard size name v w outcome → LoadEnds cupboard size given v w outcome
-load_named cupboard size given name v w outcome same = subst (λ name. LoadEnds cupboard size name v w outcome) (sym same)
+pub load_unwritable : (cupboard : List Meaning) (size : Size) (given : Option (List ℕ)) (n name : List ℕ) (u v w : View) (outcome : Outcome) (p r : List ℕ) (values : Values)
+    → given ≡ Some name → IsMade size p r → AreValues cupboard p r values → n ≡ name → u ≡ v → Unwritable (n ∷ []) u w outcome → LoadEnds cupboard size given v w outcome
+load_unwritable cupboard size given n name u v w outcome p r values given_is made are n_is same unwritable =
+    let here : HasValues cupboard (made_plan_text size) (made_readings_text size) = made_values (HasValues cupboard) size p r made (values, are) in
+    let by_name : Unwritable (name ∷ []) u w outcome = subst (λ x. Unwritable (x ∷ []) u w outcome) n_is unwritable in
+    subst (λ given. LoadEnds cupboard size given v w outcome) (sym given_is) (inr (inl (here, subst (λ v. Unwritable (name ∷ []) v w outcome) same by_name)))
 
 -- ---- `twin`, `pooled` and `ringtwin`
 
 -- the bytes of four files that were read one after the other
-four_read : (names : TwinNames) (v u : View) (p r o t : List ℕ) → IsRead (v.held names.plan) p → IsRead (v.held names.readings) r
-    → u ≡ after_fetches (names.plan ∷ names.readings ∷ []) v → IsRead (u.held names.other) o → IsRead (u.held names.transcript) t
-    → AreReadBy names v (record { plan = p; readings = r; other = o; transcript = t })
-four_read names v u p r o t p_read r_read after o_read t_read = record {
-  plan = p_read;
-  readings = r_read;
-  other = read_after (names.plan ∷ names.readings ∷ []) names.other o v u after o_read;
-  transcript = read_after (names.plan ∷ names.readings ∷ []) names.transcript t v u after t_read;
-}
-
-four_after : (names : TwinNames) (v u w : View) → u ≡ after_fetches (names.plan ∷ names.readings ∷ []) v → w ≡ after_fetches (names.other ∷ names.transcript ∷ []) u
-    → w ≡ after_fetches (compared_by names) v
-four_after names v u w first second = second ∙ ap (after_fetches (names.other ∷ names.transcript ∷ [])) first
-
--- the four texts that are compared are the bytes that were read
-same_texts : (P : TwinBytes → Type 0) (p r o t gp gr go gt : List ℕ) → gp ≡ p → gr ≡ r → go ≡ o → gt ≡ t
-    → P (record { plan = gp; readings = gr; other = go; transcript = gt }) → P (record { plan = p; readings = r; other = o; transcript = t })
-same_texts P p r o t gp gr go gt p_is r_is o_is t_is holds =
-    subst (λ x. P (record { plan = p; readings = r; other = o; transcript = x })) t_is
-    (subst (λ x. P (record { plan = p; readings = r; other = x; transcript = gt })) o_is
-    (subst (λ x. P (record { plan = p; readings = x; other = go; transcript = gt })) r_is
-    (subst (λ x. P (record { plan = x; readings = gr; other = go; transcript = gt })) p_is holds)))
-
--- what the four files say is refused
-pub twin_refused : (verb : List ℕ) (refuses : TwinBytes → Outcome → Type 0) (compares : TwinBytes → List MovedRow → Type 0) (names : TwinNames) (v u w : View) (outcome : Outcome) (p r o t gp gr go gt : List ℕ) → IsRead (v.held names.plan) p
-    → IsRead (v.held names.readings) r → u ≡ after_fetches (names.plan ∷ names.readings ∷ []) v → IsRead (u.held names.other) o → IsRead (u.held names.transcript) t
-    → w ≡ after_fetches (names.other ∷ names.transcript ∷ []) u → gp ≡ p → gr ≡ r → go ≡ o → gt ≡ t
-    → refuses (record { plan = gp; readings = gr; other = go; transcript = gt }) outcome → ComparedEndsAs verb refuses compares names v w outcome
-twin_refused verb refuses compares names v u w outcome p r o t gp gr go gt p_read r_read first o_read t_read second p_is r_is o_is t_is refused =
-    inr (
-      record { plan = p; readings = r; other = o; transcript = t },
-      four_read names v u p r o t p_read r_read first o_read t_read,
-      inl (same_texts (λ bytes. refuses bytes outcome) p r o t gp gr go gt p_is r_is o_is t_is refused, four_after names v u w first second),
-    )
+pub four_read : (names : TwinNames) (v u w : View) (p r o t : List ℕ) → IsRead (v.held names.plan) p → IsRead (v.held names.readings) r
+    → u ≡ after_fetches (names.plan ∷ names.readings ∷ []) v → IsRead (u.held names.other) o → IsRead (u.held names.transcript) t → w ≡ after_fetches (names.other ∷ names.transcript ∷ []) u
+    → AreReadBy names v (record { plan = p; readings = r; other = o; transcript = t }) × (w ≡ after_fetches (compared_by names) v)
+four_read names v u w p r o t p_read r_read first o_read t_read second = (
+  record {
+    plan = p_read;
+    readings = r_read;
+    other = read_after (names.plan ∷ names.readings ∷ []) names.other o v u first o_read;
+    transcript = read_after (names.plan ∷ names.readings ∷ []) names.transcript t v u first t_read;
+  },
+  second ∙ ap (after_fetches (names.other ∷ names.transcript ∷ [])) first,
+)
 
 -- the file of the moved words is put
 pub moved_are_said : (verb name : List ℕ) (rows : List MovedRow) (count : ℕ) (v w : View) (outcome : Outcome) (text line : List ℕ) → text ≡ masks_text rows → line ≡ counted_line verb count
@@ -360,18 +298,7 @@ moved_are_said verb name rows count v w outcome text line text_is line_is count_
     subst (λ line. PutsEnd (putting name (masks_text rows) ∷ []) line v w outcome) (line_is ∙ ap (counted_line verb) count_is)
     (subst (λ text. PutsEnd (putting name text ∷ []) line v w outcome) text_is ends)
 
-pub twin_ends : (verb : List ℕ) (refuses : TwinBytes → Outcome → Type 0) (compares : TwinBytes → List MovedRow → Type 0) (names : TwinNames) (v u x w : View) (outcome : Outcome) (rows : List MovedRow) (p r o t gp gr go gt : List ℕ)
-    → IsRead (v.held names.plan) p → IsRead (v.held names.readings) r → u ≡ after_fetches (names.plan ∷ names.readings ∷ []) v
-    → IsRead (u.held names.other) o → IsRead (u.held names.transcript) t → x ≡ after_fetches (names.other ∷ names.transcript ∷ []) u
-    → gp ≡ p → gr ≡ r → go ≡ o → gt ≡ t → compares (record { plan = gp; readings = gr; other = go; transcript = gt }) rows
-    → MovedAreSaid verb names.masks rows x w outcome → ComparedEndsAs verb refuses compares names v w outcome
-twin_ends verb refuses compares names v u x w outcome rows p r o t gp gr go gt p_read r_read first o_read t_read second p_is r_is o_is t_is compared ends =
-    inr (
-      record { plan = p; readings = r; other = o; transcript = t },
-      four_read names v u p r o t p_read r_read first o_read t_read,
-      inr (
-        rows,
-        same_texts (λ bytes. compares bytes rows) p r o t gp gr go gt p_is r_is o_is t_is compared,
-        subst (λ x. MovedAreSaid verb names.masks rows x w outcome) (four_after names v u x first second) ends,
-      ),
-    )
+pub twin_ends : (verb : List ℕ) (refuses : TwinBytes → Outcome → Type 0) (compares : TwinBytes → List MovedRow → Type 0) (names : TwinNames) (v u w : View) (outcome : Outcome) (rows : List MovedRow) (bytes : TwinBytes)
+    → AreReadBy names v bytes → u ≡ after_fetches (compared_by names) v → compares bytes rows → MovedAreSaid verb names.masks rows u w outcome → ComparedEndsAs verb refuses compares names v w outcome
+twin_ends verb refuses compares names v u w outcome rows bytes read after compared ends =
+    inr (bytes, read, inr (rows, compared, subst (λ u. MovedAreSaid verb names.masks rows u w outcome) after ends))

@@ -2,7 +2,7 @@
 use Rattle.std.proofs.Common.{◌≡◌, ◌⊎◌, List, [], ◌∷◌, ℕ, Bool, inl, inr, subst, Ok, Err}
 use Rattle.desk_outside.specs.Desk.{View, Stored, Unstored, after_step}
 use Rattle.command_words.specs.declared.outcome.Outcome.{Outcome}
-use Rattle.command_words.specs.declared.outcome.Outcome.TheVariants.{Done, NoMemory, BadWords, CannotRead, TooLong, CannotWrite, CannotPrint, BadPlan, BadReadings, BadTranscript, BadReport, Impossible, NotInTime, NotThisRun, OtherRow, OtherPlan, OtherLine, OtherPresence, OtherKnown, OtherTotal, OtherComponent, BadLane, NoPartner}
+use Rattle.command_words.specs.declared.outcome.Outcome.TheVariants.{Done, NoMemory, BadWords, CannotRead, TooLong, CannotWrite, CannotWritePart, CannotPrint, BadPlan, BadReadings, BadTranscript, BadReport, Impossible, NotInTime, NotThisRun, OtherRow, OtherPlan, OtherLine, OtherPresence, OtherKnown, OtherTotal, OtherComponent, BadLane, NoPartner}
 use Rattle.commands.specs.Calls.{Putting, putting, HasPut, EndsAtPut, NonePut, Unwritable, PutsEnd, CommitsEnd, Committed}
 
 -- ---- commits
@@ -20,6 +20,7 @@ one_commits p line v w BadWords ends = absurd ends
 one_commits p line v w (CannotRead name) ends = absurd ends
 one_commits p line v w (TooLong name) ends = absurd ends
 one_commits p line v w (CannotWrite name) ends = one_end p v w name.now ends
+one_commits p line v w (CannotWritePart prefix meter file) ends = absurd ends
 one_commits p line v w CannotPrint ends = ends
 one_commits p line v w (BadPlan name fault) ends = absurd ends
 one_commits p line v w (BadReadings name fault) ends = absurd ends
@@ -47,6 +48,7 @@ more_commits p ps line v u w BadWords put ends = absurd ends
 more_commits p ps line v u w (CannotRead name) put ends = absurd ends
 more_commits p ps line v u w (TooLong name) put ends = absurd ends
 more_commits p ps line v u w (CannotWrite name) put ends = inr (subst (λ u. EndsAtPut ps u w name.now) put ends)
+more_commits p ps line v u w (CannotWritePart prefix meter file) put ends = absurd ends
 more_commits p ps line v u w CannotPrint put ends = subst (λ u. CommitsEnd ps line u w CannotPrint) put ends
 more_commits p ps line v u w (BadPlan name fault) put ends = absurd ends
 more_commits p ps line v u w (BadReadings name fault) put ends = absurd ends
@@ -77,6 +79,7 @@ first_fails p ps line v w BadWords ends = absurd ends
 first_fails p ps line v w (CannotRead name) ends = absurd ends
 first_fails p ps line v w (TooLong name) ends = absurd ends
 first_fails p ps line v w (CannotWrite name) ends = first_end p ps v w name.now ends
+first_fails p ps line v w (CannotWritePart prefix meter file) ends = absurd ends
 first_fails p ps line v w CannotPrint ends = absurd ends
 first_fails p ps line v w (BadPlan name fault) ends = absurd ends
 first_fails p ps line v w (BadReadings name fault) ends = absurd ends
@@ -102,6 +105,7 @@ commits_put files line v w BadWords ends = absurd ends
 commits_put files line v w (CannotRead name) ends = absurd ends
 commits_put files line v w (TooLong name) ends = absurd ends
 commits_put files line v w (CannotWrite name) ends = inl ends
+commits_put files line v w (CannotWritePart prefix meter file) ends = absurd ends
 commits_put files line v w CannotPrint ends = ends
 commits_put files line v w (BadPlan name fault) ends = absurd ends
 commits_put files line v w (BadReadings name fault) ends = absurd ends

@@ -4,8 +4,8 @@ use Rattle.std.specs.Prelude.{Option, None, Some}
 use Rattle.desk_outside.specs.Desk.{View}
 use Rattle.link_lanes.specs.Lanes.{Meaning}
 use Rattle.command_words.specs.declared.outcome.Outcome.{Outcome}
-use Rattle.command_words.specs.declared.outcome.Outcome.TheVariants.{Done, NoMemory, BadWords, CannotRead, TooLong, CannotWrite, CannotPrint, BadPlan, BadReadings, BadTranscript, BadReport, Impossible, NotInTime, NotThisRun, OtherRow, OtherPlan, OtherLine, OtherPresence, OtherKnown, OtherTotal, OtherComponent, BadLane, NoPartner}
-use Rattle.command_words.specs.Words.{Command, Run, Ring, RingTwin, Audit, Twin, Pooled, Make, Load, Convert, Public, Inspect, Help, Version, Bill, Hide, Registers, Resume}
+use Rattle.command_words.specs.declared.outcome.Outcome.TheVariants.{Done, NoMemory, BadWords, CannotRead, TooLong, CannotWrite, CannotWritePart, CannotPrint, BadPlan, BadReadings, BadTranscript, BadReport, Impossible, NotInTime, NotThisRun, OtherRow, OtherPlan, OtherLine, OtherPresence, OtherKnown, OtherTotal, OtherComponent, BadLane, NoPartner}
+use Rattle.command_words.specs.Words.{Command, Run, Ring, RingTwin, Audit, Twin, Pooled, Make, Load, Convert, Public, Parts, Inspect, Help, Version, Bill, Hide, Registers, Resume}
 use Rattle.command_words.specs.Outcomes.{HasComplaint}
 use Rattle.commands.specs.Ends.{Ends}
 
@@ -17,6 +17,7 @@ either BadWords other = tt
 either (CannotRead name) other = tt
 either (TooLong name) other = tt
 either (CannotWrite name) other = tt
+either (CannotWritePart prefix meter file) other = tt
 either CannotPrint other = tt
 either (BadPlan name fault) other = tt
 either (BadReadings name fault) other = tt
@@ -76,6 +77,9 @@ of_line cupboard (Convert old transcript) v w name line expected (inr (bytes, re
 of_line cupboard (Public plan public) v w name line expected (inl unread) = absurd unread
 of_line cupboard (Public plan public) v w name line expected (inr (bytes, read, inl refused)) = absurd refused.0
 of_line cupboard (Public plan public) v w name line expected (inr (bytes, read, inr (file, value, again, ends))) = absurd ends
+of_line cupboard (Parts plan g prefix) v w name line expected (inl unread) = absurd unread
+of_line cupboard (Parts plan g prefix) v w name line expected (inr (bytes, read, inl refused)) = absurd refused.0
+of_line cupboard (Parts plan g prefix) v w name line expected (inr (bytes, read, inr (file, value, inside, ends))) = absurd ends
 of_line cupboard (Inspect names) v w name line expected (inl unread) = absurd unread
 of_line cupboard (Inspect names) v w name line expected (inr (bytes, read, inl (inl public, after))) = absurd public
 of_line cupboard (Inspect names) v w name line expected (inr (bytes, read, inl (inr (inl (plan, is, refused)), after))) = absurd refused

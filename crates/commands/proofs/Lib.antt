@@ -11,6 +11,7 @@ pub mod InspectedRuns
 mod InspectLemmas
 mod MadePlanLemmas
 mod PublicLemmas
+mod PartsLemmas
 pub mod RegisterLemmas
 mod RingLemmas
 mod RingTwinLemmas

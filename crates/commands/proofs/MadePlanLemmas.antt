@@ -13,9 +13,9 @@ use Rattle.load_maker.specs.MadeFiles.{AreRead}
 use Rattle.load_maker.proofs.MadeLane.{made_lane_fits}
 use Rattle.load_maker.proofs.MadeReads.{made_files}
 use Rattle.command_words.specs.declared.outcome.Outcome.{Outcome}
-use Rattle.command_words.specs.declared.outcome.Outcome.TheVariants.{Done, NoMemory, BadWords, CannotRead, TooLong, CannotWrite, CannotPrint, BadPlan, BadReadings, BadTranscript, BadReport, Impossible, NotInTime, NotThisRun, OtherRow, OtherPlan, OtherLine, OtherPresence, OtherKnown, OtherTotal, OtherComponent, BadLane, NoPartner}
+use Rattle.command_words.specs.declared.outcome.Outcome.TheVariants.{Done, NoMemory, BadWords, CannotRead, TooLong, CannotWrite, CannotWritePart, CannotPrint, BadPlan, BadReadings, BadTranscript, BadReport, Impossible, NotInTime, NotThisRun, OtherRow, OtherPlan, OtherLine, OtherPresence, OtherKnown, OtherTotal, OtherComponent, BadLane, NoPartner}
 use Rattle.command_words.specs.Outcomes.{status_of}
-use Rattle.command_words.specs.Words.{RunNames, Size, Command, Run, Ring, RingTwin, Audit, Twin, Pooled, Make, Load, Convert, Public, Inspect, Bill, Hide, Help, Version, Registers, Resume}
+use Rattle.command_words.specs.Words.{RunNames, Size, Command, Run, Ring, RingTwin, Audit, Twin, Pooled, Make, Load, Convert, Public, Parts, Inspect, Bill, Hide, Help, Version, Registers, Resume}
 use Rattle.commands.specs.Accepted.{HoldsFile, RunAccepts, Accepts, AcceptedIsDone}
 use Rattle.commands.specs.Cupboard.{full_cupboard, IsMade, RunsMadePlan, MadePlansGetLanes, RunsMadeFiles, MadeFilesAreDone}
 use Rattle.commands.specs.Ends.{made_file_of, made_plan_text, made_readings_text, Ends}
@@ -72,6 +72,7 @@ made_accepted (Pooled known names) v is = absurd is
 made_accepted (Make size plan readings) v is = absurd is
 made_accepted (Convert old transcript) v is = absurd is
 made_accepted (Public plan public) v is = absurd is
+made_accepted (Parts plan g prefix) v is = absurd is
 made_accepted (Inspect names) v is = absurd is
 made_accepted (Bill names period) v is = absurd is
 made_accepted (Hide names period place) v is = absurd is
@@ -91,6 +92,7 @@ by_lane BadWords is = absurd (omega (arith, is))
 by_lane (CannotRead name) is = absurd (omega (arith, is))
 by_lane (TooLong name) is = absurd (omega (arith, is))
 by_lane (CannotWrite name) is = absurd (omega (arith, is))
+by_lane (CannotWritePart prefix meter file) is = absurd (omega (arith, is))
 by_lane CannotPrint is = absurd (omega (arith, is))
 by_lane (BadPlan name fault) is = absurd (omega (arith, is))
 by_lane (BadReadings name fault) is = absurd (omega (arith, is))
@@ -157,6 +159,7 @@ no_lane (Pooled known names) v w fault is ends = absurd is
 no_lane (Make size plan readings) v w fault is ends = absurd is
 no_lane (Convert old transcript) v w fault is ends = absurd is
 no_lane (Public plan public) v w fault is ends = absurd is
+no_lane (Parts plan g prefix) v w fault is ends = absurd is
 no_lane (Inspect names) v w fault is ends = absurd is
 no_lane (Bill names period) v w fault is ends = absurd is
 no_lane (Hide names period place) v w fault is ends = absurd is

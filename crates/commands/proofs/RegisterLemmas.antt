@@ -1,6 +1,5 @@
 -- From what the crates below say of a run of several registers to what the program says of it.
 use Rattle.std.proofs.Common.{◌≡◌, ◌∙◌, ℕ, ◌+◌, ◌-◌, ◌*◌, ◌<◌, ◌≤◌, ◌&&◌, Bool, true, false, not, if◌then◌else◌, zero, suc, List, [], ◌∷◌, ◌++◌, length, map, reverse, All, Option, Some, None, sum_by, refl, sym, ap, subst, inl, inr, arith, Ok, Err}
-use Rattle.std.specs.Borrow.{Bor}
 use Rattle.std.specs.List.{filter, flat_map, range_with_len}
 use Rattle.std.proofs.lemmas.List.Elements.{All-cons, All-nil}
 use Rattle.std.specs.Prelude.{slice_range}
@@ -20,8 +19,6 @@ use Rattle.missing_round.proofs.SetLemmas.{is_member-filter, same_filter}
 use Rattle.group_plan.specs.Tables.{PresenceView, ReadingsView, reading}
 use Rattle.group_book.specs.Books.{BookView}
 use Rattle.ideal_masks.specs.Isolation.{Isolated}
-use Rattle.link_lanes.specs.declared.cupboard.RackError.{RackError}
-use Rattle.link_lanes.specs.declared.row.LaneRow.{LaneRow}
 use Rattle.link_lanes.specs.Fits.{hung_by}
 use Rattle.link_lanes.specs.Lanes.{Meaning, Slot}
 use Rattle.mask_stream.specs.KeyStreams.{streams}
@@ -57,20 +54,17 @@ use Rattle.transcript_log.specs.Transcripts.{TranscriptView}
 use Rattle.transcript_text.specs.EntryLines.{entry_line}
 use Rattle.transcript_text.specs.Spelling.{ended, transcript_text}
 use Rattle.command_words.specs.declared.outcome.Outcome.{Outcome}
-use Rattle.command_words.specs.declared.outcome.Outcome.TheVariants.{BadPlan, BadReadings, BadLane}
 use Rattle.command_words.specs.Words.{RegisterNames}
 use Rattle.commands.specs.declared.register_texts.RegisterTexts.{RegisterTexts as Kept}
-use Rattle.commands.specs.declared.texts.Refusal.{Refusal}
-use Rattle.commands.specs.declared.texts.Refusal.TheVariants as refusal
 use Rattle.commands.specs.Calls.{IsRead, after_fetches, putting, PutsEnd, Unwritable}
-use Rattle.commands.specs.RegisterEnds.{AreWordsOf, RefusesTables, RegisterTextsEnd, RegistersEnds, register_texts_of, registers_fetched, registers_named, registers_put}
-use Rattle.commands.specs.RegisterRuns.{HasPlainSums, HasRegisterValues, HasRowTotals, IsWorld, RegisterValues, RegistersMake, first_values, side_rows_in}
+use Rattle.commands.specs.RegisterEnds.{AreWordsOf, RefusesTables, RegistersEnds, RegistersRefuse, register_texts_of, registers_fetched, registers_named, registers_put}
+use Rattle.commands.specs.RegisterRuns.{AreRegisterValues, HasPlainSums, HasRowTotals, IsWorld, RegisterValues, RegistersMake, first_values, side_rows_in}
 use Rattle.commands.specs.declared.source.WordsStage.{WordsStage}
 use Rattle.commands.specs.declared.source.WordsStage.TheVariants.{Head, Rows}
 use Rattle.commands.specs.RunTexts.{AreTextsOf}
 use Rattle.commands.specs.declared.sharing.Sharing.TheVariants.{WithEach}
 use Rattle.commands.specs.Sources.{words_after}
-use Rattle.commands.specs.Runs.{AreSound, AreTexts, IsRunOf, RefusesLane, Texts, readings_in, row_in, shape_in}
+use Rattle.commands.specs.Runs.{AreSound, AreTexts, IsRunOf, Texts, readings_in, row_in, shape_in}
 use Rattle.commands.proofs.RunLemmas.{but_memory, made, with_plan}
 
 -- ---- how many rows a report has
@@ -200,27 +194,26 @@ has_row_totals v entries run sums g r a total g_in r_in is =
 with_entries : PlanView → List Entry → TranscriptView
 with_entries plan entries = record { plan = plan; entries = entries }
 
-pub registers_make : (cupboard : List Meaning) (count : ℕ) (p r : List ℕ) (file : PlanFileView) (lanes : List LaneRow) (slots : List Slot) (registers : RegistersView) (readings : ReadingsView) (book : BookView) (t : TranscriptView) (first : Texts) (kept : Kept)
-    → plan_of p ≡ Ok file → lanes ≡ file.lanes → hung_by cupboard lanes ≡ Ok slots → RegistersEnd file.plan count r (Ok registers) → AreRegisters registers
-    → readings ≡ record { plan = registers.plan; table = table registers 0 }
-    → IsFinished readings file.keys slots book t → AreTextsOf WithEach book t first → AreWordsOf registers file.keys t first kept
+pub registers_make : (cupboard : List Meaning) (count : ℕ) (p r : List ℕ) (v : RegisterValues) (readings : ReadingsView) (book : BookView) (t : TranscriptView) (first : Texts) (kept : Kept)
+    → AreRegisterValues cupboard count p r v → AreRegisters v.registers → readings ≡ record { plan = v.registers.plan; table = table v.registers 0 }
+    → IsFinished readings v.file.keys v.slots book t → AreTextsOf WithEach book t first → AreWordsOf v.registers v.file.keys t first kept
     → RegistersMake cupboard count p r (register_texts_of kept)
 unfolding with_plan with_entries
-registers_make cupboard count p r file lanes slots registers readings book t first kept plan_is rows hang read are readings_are finished written words =
-    let v : RegisterValues = record { file = file; slots = slots; registers = registers } in
-    let same : registers.plan ≡ file.plan = read.0 in
-    let P : PlanView → Type 0 = λ plan. AreSound (with_plan file slots (record { plan = registers.plan; table = table registers 0 }) plan)
-    × IsRunOf (with_plan file slots (record { plan = registers.plan; table = table registers 0 }) plan) t.entries
-    × AreTexts (with_plan file slots (record { plan = registers.plan; table = table registers 0 }) plan) t.entries first in
-    let here : IsFinished (record { plan = registers.plan; table = table registers 0 }) file.keys slots book t = subst (λ (x : ReadingsView). IsFinished x file.keys slots book t) readings_are finished in
-    let both : P file.plan = subst P same (made WithEach file slots (record { plan = registers.plan; table = table registers 0 }) book t first here written) in
+registers_make cupboard count p r v readings book t first kept values_are are readings_are finished written words =
+    let file : PlanFileView = v.file in
+    let registers : RegistersView = v.registers in
+    let same : registers.plan ≡ file.plan = values_are.same_plan in
+    let x : ReadingsView = record { plan = registers.plan; table = table registers 0 } in
+    let P : PlanView → Type 0 = λ plan. AreSound (with_plan file v.slots x plan) × IsRunOf (with_plan file v.slots x plan) t.entries × AreTexts (with_plan file v.slots x plan) t.entries first in
+    let here : IsFinished x file.keys v.slots book t = subst (λ (x : ReadingsView). IsFinished x file.keys v.slots book t) readings_are finished in
+    let both : P file.plan = subst P same (made WithEach file v.slots x book t first here written) in
     let plan_here : t.plan ≡ file.plan = here.plan ∙ same in
     let whole : t ≡ with_entries file.plan t.entries = ap (λ (plan : PlanView). with_entries plan t.entries) plan_here in
     let rows_here : kept.words ≡ side_rows_in v t.entries = words.words ∙ ap (rows_of registers file.keys) whole in
     record {
       values = v;
       entries = t.entries;
-      of_bytes = record { plan = plan_is; lanes = ap (hung_by cupboard) (sym rows) ∙ hang; same_plan = same; tables = read.1 };
+      of_bytes = values_are;
       registers = are;
       sound = both.0;
       run = both.1;
@@ -243,29 +236,35 @@ registers_make cupboard count p r file lanes slots registers readings book t fir
 
 -- ---- refusals
 
-pub tables_refused : (cupboard : List Meaning) (count : ℕ) (p r : List ℕ) (is_writable : Bool) (file : PlanFileView) (lanes : List LaneRow) (slots : List Slot) (fault : FileError)
-    → plan_of p ≡ Ok file → lanes ≡ file.lanes → hung_by cupboard lanes ≡ Ok slots → RegistersEnd file.plan count r (Err fault) → (fault.cause ≡ cause.Memory → ⊥)
-    → RegisterTextsEnd cupboard count p r is_writable (Err (refusal.Readings fault))
-tables_refused cupboard count p r is_writable file lanes slots fault plan_is rows hang ends other =
-    (file, slots, plan_is, ap (hung_by cupboard) (sym rows) ∙ hang, but_memory fault.cause (tables_of file.plan count r ≡ Err fault) other ends)
-
-pub has_register_values : (cupboard : List Meaning) (count : ℕ) (p r : List ℕ) (file : PlanFileView) (lanes : List LaneRow) (slots : List Slot) (registers : RegistersView)
-    → plan_of p ≡ Ok file → lanes ≡ file.lanes → hung_by cupboard lanes ≡ Ok slots → RegistersEnd file.plan count r (Ok registers) → HasRegisterValues cupboard count p r
-has_register_values cupboard count p r file lanes slots registers plan_is rows hang read =
-    (record { file = file; slots = slots; registers = registers }, record { plan = plan_is; lanes = ap (hung_by cupboard) (sym rows) ∙ hang; same_plan = read.0; tables = read.1 })
+-- the readings file is refused, where the plan file has a value and its lanes hang
+pub tables_refused : (cupboard : List Meaning) (count : ℕ) (p r : List ℕ) (file : PlanFileView) (slots : List Slot) (fault : FileError) → plan_of p ≡ Ok file → hung_by cupboard file.lanes ≡ Ok slots
+    → RegistersEnd file.plan count r (Err fault) → (fault.cause ≡ cause.Memory → ⊥) → RefusesTables cupboard count p r fault
+tables_refused cupboard count p r file slots fault plan_is hang ends other = (file, slots, plan_is, hang, but_memory fault.cause (tables_of file.plan count r ≡ Err fault) other ends)
 
 -- ---- how the command ends
 
+-- what they say is refused
+pub registers_refused : (cupboard : List Meaning) (count : ℕ) (names : RegisterNames) (v w : View) (outcome : Outcome) (p r : List ℕ) → IsRead (v.held names.plan) p → IsRead (v.held names.readings) r
+    → w ≡ after_fetches (registers_fetched names) v → RegistersRefuse cupboard count names p r outcome → RegistersEnds cupboard count names v w outcome
+registers_refused cupboard count names v w outcome p r p_read r_read after refused = inr (p, r, p_read, r_read, inl (refused, after))
+
+-- the files have values, but a name can't be written
+pub registers_unwritable : (cupboard : List Meaning) (count : ℕ) (names : RegisterNames) (v u w : View) (outcome : Outcome) (p r : List ℕ) (values : RegisterValues) (n m k : List ℕ)
+    → IsRead (v.held names.plan) p → IsRead (v.held names.readings) r → u ≡ after_fetches (registers_fetched names) v → AreRegisterValues cupboard count p r values
+    → n ≡ names.transcript → m ≡ names.words → k ≡ names.report → Unwritable (n ∷ m ∷ k ∷ []) u w outcome → RegistersEnds cupboard count names v w outcome
+registers_unwritable cupboard count names v u w outcome p r values n m k p_read r_read after are n_is m_is k_is unwritable =
+    let one : Unwritable (names.transcript ∷ m ∷ k ∷ []) u w outcome = subst (λ x. Unwritable (x ∷ m ∷ k ∷ []) u w outcome) n_is unwritable in
+    let two : Unwritable (names.transcript ∷ names.words ∷ k ∷ []) u w outcome = subst (λ x. Unwritable (names.transcript ∷ x ∷ k ∷ []) u w outcome) m_is one in
+    let by_names : Unwritable (registers_named names) u w outcome = subst (λ x. Unwritable (names.transcript ∷ names.words ∷ x ∷ []) u w outcome) k_is two in
+    inr (p, r, p_read, r_read, inr (inl ((values, are), subst (λ u. Unwritable (registers_named names) u w outcome) after by_names)))
+
 -- the texts are put and said
-pub registers_end : (cupboard : List Meaning) (count : ℕ) (names : RegisterNames) (v u w : View) (kept : Kept) (outcome : Outcome) (plan readings p r transcript words report summary : List ℕ)
-    → IsRead (v.held names.plan) plan → IsRead (v.held names.readings) readings → u ≡ after_fetches (registers_fetched names) v → p ≡ plan → r ≡ readings
-    → RegistersMake cupboard count p r (register_texts_of kept) → transcript ≡ transcript_text kept.transcript → words ≡ side_text kept.words → report ≡ kept.report.items → summary ≡ kept.summary.items
+pub registers_end : (cupboard : List Meaning) (count : ℕ) (names : RegisterNames) (v u w : View) (kept : Kept) (outcome : Outcome) (p r transcript words report summary : List ℕ)
+    → IsRead (v.held names.plan) p → IsRead (v.held names.readings) r → u ≡ after_fetches (registers_fetched names) v → RegistersMake cupboard count p r (register_texts_of kept)
+    → transcript ≡ transcript_text kept.transcript → words ≡ side_text kept.words → report ≡ kept.report.items → summary ≡ kept.summary.items
     → PutsEnd (putting names.transcript transcript ∷ putting names.words words ∷ putting names.report report ∷ []) summary u w outcome → RegistersEnds cupboard count names v w outcome
-registers_end cupboard count names v u w kept outcome plan readings p r transcript words report summary plan_read readings_read after plan_is readings_is make t_is w_is r_is s_is ends =
+registers_end cupboard count names v u w kept outcome p r transcript words report summary p_read r_read after make t_is w_is r_is s_is ends =
     let texts = register_texts_of kept in
-    let make_here : RegistersMake cupboard count plan readings texts =
-    subst (λ bytes. RegistersMake cupboard count plan bytes texts) readings_is (subst (λ bytes. RegistersMake cupboard count bytes r texts) plan_is make)
-    in
     let one : PutsEnd (putting names.transcript texts.transcript ∷ putting names.words words ∷ putting names.report report ∷ []) summary u w outcome =
     subst (λ t. PutsEnd (putting names.transcript t ∷ putting names.words words ∷ putting names.report report ∷ []) summary u w outcome) t_is ends
     in
@@ -276,50 +275,7 @@ registers_end cupboard count names v u w kept outcome plan readings p r transcri
     subst (λ t. PutsEnd (putting names.transcript texts.transcript ∷ putting names.words texts.words ∷ putting names.report t ∷ []) summary u w outcome) r_is two
     in
     let said : PutsEnd (registers_put names texts) texts.summary u w outcome = subst (λ s. PutsEnd (registers_put names texts) s u w outcome) s_is three in
-    inr (plan, readings, plan_read, readings_read, inr (inr (texts, make_here, subst (λ u. PutsEnd (registers_put names texts) texts.summary u w outcome) after said)))
-
--- the files have values, but a name can't be written
-pub registers_unwritable : (cupboard : List Meaning) (count : ℕ) (names : RegisterNames) (v u w : View) (outcome : Outcome) (why : Refusal) (plan readings p r : List ℕ) (is_writable : Bool) (n m k : List ℕ)
-    → IsRead (v.held names.plan) plan → IsRead (v.held names.readings) readings → u ≡ after_fetches (registers_fetched names) v → p ≡ plan → r ≡ readings
-    → why ≡ refusal.Unwritable → RegisterTextsEnd cupboard count p r is_writable (Err why) → n ≡ names.transcript → m ≡ names.words → k ≡ names.report
-    → Unwritable (n ∷ m ∷ k ∷ []) u w outcome → RegistersEnds cupboard count names v w outcome
-registers_unwritable cupboard count names v u w outcome why plan readings p r is_writable n m k plan_read readings_read after plan_is readings_is why_is ends n_is m_is k_is unwritable =
-    let values : HasRegisterValues cupboard count p r = (subst (λ why. RegisterTextsEnd cupboard count p r is_writable (Err why)) why_is ends).1 in
-    let here : HasRegisterValues cupboard count plan readings =
-    subst (λ bytes. HasRegisterValues cupboard count plan bytes) readings_is (subst (λ bytes. HasRegisterValues cupboard count bytes r) plan_is values)
-    in
-    let one : Unwritable (names.transcript ∷ m ∷ k ∷ []) u w outcome = subst (λ x. Unwritable (x ∷ m ∷ k ∷ []) u w outcome) n_is unwritable in
-    let two : Unwritable (names.transcript ∷ names.words ∷ k ∷ []) u w outcome = subst (λ x. Unwritable (names.transcript ∷ x ∷ k ∷ []) u w outcome) m_is one in
-    let by_names : Unwritable (registers_named names) u w outcome = subst (λ x. Unwritable (names.transcript ∷ names.words ∷ x ∷ []) u w outcome) k_is two in
-    inr (plan, readings, plan_read, readings_read, inr (inl (here, subst (λ u. Unwritable (registers_named names) u w outcome) after by_names)))
-
--- the plan file is refused
-pub registers_refuse_plan : (cupboard : List Meaning) (count : ℕ) (names : RegisterNames) (v w : View) (name : Bor (List ℕ)) (fault got : FileError) (why : Refusal) (is_writable : Bool) (plan readings p r : List ℕ)
-    → IsRead (v.held names.plan) plan → IsRead (v.held names.readings) readings → w ≡ after_fetches (registers_fetched names) v → p ≡ plan
-    → name.now ≡ names.plan → why ≡ refusal.Plan fault → RegisterTextsEnd cupboard count p r is_writable (Err why) → got ≡ fault → RegistersEnds cupboard count names v w (BadPlan name got)
-registers_refuse_plan cupboard count names v w name fault got why is_writable plan readings p r plan_read readings_read after plan_is name_is why_is ends same =
-    let refuses : plan_of p ≡ Err fault = subst (λ why. RegisterTextsEnd cupboard count p r is_writable (Err why)) why_is ends in
-    inr (plan, readings, plan_read, readings_read, inl ((name_is, subst (λ f. plan_of plan ≡ Err f) (sym same) (ap plan_of (sym plan_is) ∙ refuses)), after))
-
--- a lane row is refused
-pub registers_refuse_lane : (cupboard : List Meaning) (count : ℕ) (names : RegisterNames) (v w : View) (fault got : RackError) (why : Refusal) (is_writable : Bool) (plan readings p r : List ℕ)
-    → IsRead (v.held names.plan) plan → IsRead (v.held names.readings) readings → w ≡ after_fetches (registers_fetched names) v → p ≡ plan
-    → why ≡ refusal.Lane fault → RegisterTextsEnd cupboard count p r is_writable (Err why) → got ≡ fault → RegistersEnds cupboard count names v w (BadLane got)
-registers_refuse_lane cupboard count names v w fault got why is_writable plan readings p r plan_read readings_read after plan_is why_is ends same =
-    let refuses : RefusesLane cupboard p fault = subst (λ why. RegisterTextsEnd cupboard count p r is_writable (Err why)) why_is ends in
-    let here : RefusesLane cupboard plan fault = subst (λ bytes. RefusesLane cupboard bytes fault) plan_is refuses in
-    inr (plan, readings, plan_read, readings_read, inl (subst (RefusesLane cupboard plan) (sym same) here, after))
-
--- the readings file is refused
-pub registers_refuse_readings : (cupboard : List Meaning) (count : ℕ) (names : RegisterNames) (v w : View) (name : Bor (List ℕ)) (fault got : FileError) (why : Refusal) (is_writable : Bool) (plan readings p r : List ℕ)
-    → IsRead (v.held names.plan) plan → IsRead (v.held names.readings) readings → w ≡ after_fetches (registers_fetched names) v → p ≡ plan → r ≡ readings
-    → name.now ≡ names.readings → why ≡ refusal.Readings fault → RegisterTextsEnd cupboard count p r is_writable (Err why) → got ≡ fault → RegistersEnds cupboard count names v w (BadReadings name got)
-registers_refuse_readings cupboard count names v w name fault got why is_writable plan readings p r plan_read readings_read after plan_is readings_is name_is why_is ends same =
-    let refuses : RefusesTables cupboard count p r fault = subst (λ why. RegisterTextsEnd cupboard count p r is_writable (Err why)) why_is ends in
-    let here : RefusesTables cupboard count plan readings fault =
-    subst (λ bytes. RefusesTables cupboard count plan bytes fault) readings_is (subst (λ bytes. RefusesTables cupboard count bytes r fault) plan_is refuses)
-    in
-    inr (plan, readings, plan_read, readings_read, inl ((name_is, subst (RefusesTables cupboard count plan readings) (sym same) here), after))
+    inr (p, r, p_read, r_read, inr (inr (texts, make, subst (λ u. PutsEnd (registers_put names texts) texts.summary u w outcome) after said)))
 
 -- ---- the text of side words
 

@@ -87,7 +87,7 @@ ring_disagreed w names bytes values m text t (Component g r i a b) outcome of re
     subst (RingTwinRefuses w names bytes) (sym is) (values, t, of.are, ring_record w bytes values m text t of record_is, record { known = λ same. cc; ends = ends; no_worlds = none })
 ring_disagreed w names bytes values m text t Memory outcome of record_is ends none is = subst (RingTwinRefuses w names bytes) (sym is) tt
 
--- ---- refused tables
+-- ---- refused files
 
 pub ring_tables_refused : (w : ℕ) (names : TwinNames) (bytes : TwinBytes) (file : PlanFileView) (outcome : Outcome) → plan_of bytes.plan ≡ Ok file → TablesRefused names bytes file.plan outcome
     → RingTwinRefuses w names bytes outcome

@@ -1,5 +1,5 @@
 -- From what the crates below say of a run to what the program says of it.
-use Rattle.std.proofs.Common.{◌≡◌, ℕ, zero, suc, ◌^◌, ◌<◌, ◌≤◌, ◌+◌, Bool, true, false, not, List, [], ◌∷◌, ◌++◌, length, map, get_or, refl, sym, ap, ◌∙◌, subst, inl, inr, arith, Ok, Err}
+use Rattle.std.proofs.Common.{◌≡◌, ℕ, zero, suc, ◌^◌, ◌<◌, ◌≤◌, ◌+◌, Bool, true, false, not, List, [], ◌∷◌, ◌++◌, length, map, get_or, refl, sym, ap, ◌∙◌, subst, inl, inr, arith, Ok}
 use Rattle.std.specs.Prelude.{Option, Some, None, is_some, unwrap_or, if◌then◌else◌, reverse, count_by}
 use mathlib.Core.Path.{fun_ext}
 use Rattle.std.proofs.lemmas.Bool.{cases_Bool, false≢true}
@@ -35,9 +35,8 @@ use Rattle.plan_files.specs.declared.fault.FileError.{FileError}
 use Rattle.plan_files.specs.declared.fault.FileCause.{FileCause}
 use Rattle.plan_files.specs.declared.fault.FileCause.TheVariants as cause
 use Rattle.plan_files.specs.Faults.{unless, ButMemory}
-use Rattle.link_lanes.specs.declared.row.LaneRow.{LaneRow}
 use Rattle.plan_files.specs.Rows.{file_rows}
-use Rattle.plan_files.specs.Readings.{ReadingsEnd, readings_of, readings_by, rows_fault, Says, reading_of}
+use Rattle.plan_files.specs.Readings.{readings_of, readings_by, rows_fault, Says, reading_of}
 use Rattle.plan_files.specs.PlanFiles.{PlanFileView, plan_of}
 use Rattle.group_book.specs.Books.{BookView}
 use Rattle.transcript_log.specs.Transcripts.{TranscriptView, IsTranscript}
@@ -49,9 +48,11 @@ use Rattle.totals_report.specs.Books.{row_in as book_row, summary_in as book_sum
 use Rattle.tick_run.specs.Finished.{IsFinishedUnder}
 use Rattle.commands.specs.declared.sharing.Sharing.{Sharing}
 use Rattle.commands.specs.declared.sharing.Sharing.TheVariants.{WithEach, WithNeighbours}
-use Rattle.commands.specs.Runs.{Values, HasValues, plan_in, readings_in, shape_in, clock_in, words_by, summary_in, least_line, AreValues, AreSound, IsRunBy, IsIsolatedBy, row_in, Texts, IsSaidBy, AreTextsBy, MakesBy, IsOneSummary, IsOnlyBy}
-use Rattle.commands.specs.RunTexts.{AreTextsOf, TextsEnd}
-use Rattle.commands.specs.declared.texts.Refusal.TheVariants.{Readings as ReadingsRefusal}
+use Rattle.commands.specs.Runs.{Values, plan_in, readings_in, shape_in, clock_in, words_by, summary_in, least_line, AreValues, AreSound, IsRunBy, IsIsolatedBy, row_in, Texts, IsSaidBy, AreTextsBy, MakesBy, IsOneSummary, IsOnlyBy}
+use Rattle.command_words.specs.declared.outcome.Outcome.{Outcome}
+use Rattle.command_words.specs.declared.outcome.Outcome.TheVariants.{NoMemory, BadReadings}
+use Rattle.commands.specs.Files.{FilesRefused, ReadingsRefused}
+use Rattle.commands.specs.RunTexts.{AreTextsOf}
 use Rattle.ideal_masks.proofs.Isolation.{isolated}
 use Rattle.ideal_masks.proofs.FiniteTables.{is_table, keeps_lines}
 use Rattle.commands.proofs.StreamLemmas.{words_small}
@@ -312,22 +313,20 @@ made sharing file slots readings book t texts finished written =
       },
     )
 
-pub makes : (sharing : Sharing) (cupboard : List Meaning) (plan_bytes readings_bytes : List ℕ) (file : PlanFileView) (lanes : List LaneRow) (slots : List Slot) (readings : ReadingsView) (book : BookView) (t : TranscriptView) (texts : Texts)
-    → plan_of plan_bytes ≡ Ok file → lanes ≡ file.lanes → hung_by cupboard lanes ≡ Ok slots → readings_of file.plan readings_bytes ≡ Ok readings
-    → IsFinishedUnder readings (words_by sharing readings.plan file.keys) slots book t → AreTextsOf sharing book t texts
-    → MakesBy sharing cupboard plan_bytes readings_bytes texts
+-- the same, of the values of bytes
+pub all_told : (sharing : Sharing) (cupboard : List Meaning) (p r : List ℕ) (v : Values) (book : BookView) (t : TranscriptView) (texts : Texts) → AreValues cupboard p r v
+    → IsFinishedUnder v.readings (words_by sharing v.readings.plan v.file.keys) v.slots book t → AreTextsOf sharing book t texts
+    → AreSound v × IsRunBy sharing v t.entries × AreTextsBy sharing v t.entries texts
 unfolding with_plan
-makes sharing cupboard plan_bytes readings_bytes file lanes slots readings book t texts plan_is rows hang readings_are finished written =
-    let P : PlanView → Type 0 = λ plan. AreSound (with_plan file slots readings plan) × IsRunBy sharing (with_plan file slots readings plan) t.entries × AreTextsBy sharing (with_plan file slots readings plan) t.entries texts in
-    let both : P file.plan = subst P (plan_of_readings file.plan readings_bytes readings readings_are) (made sharing file slots readings book t texts finished written) in
-    record {
-      values = with_plan file slots readings file.plan;
-      entries = t.entries;
-      of_bytes = record { plan = plan_is; lanes = ap (hung_by cupboard) (sym rows) ∙ hang; readings = readings_are };
-      sound = both.0;
-      run = both.1;
-      told = both.2;
-    }
+all_told sharing cupboard p r v book t texts are finished written =
+    let P : PlanView → Type 0 = λ plan. AreSound (with_plan v.file v.slots v.readings plan) × IsRunBy sharing (with_plan v.file v.slots v.readings plan) t.entries × AreTextsBy sharing (with_plan v.file v.slots v.readings plan) t.entries texts in
+    subst P (plan_of_readings v.file.plan r v.readings are.readings) (made sharing v.file v.slots v.readings book t texts finished written)
+
+pub makes : (sharing : Sharing) (cupboard : List Meaning) (p r : List ℕ) (v : Values) (book : BookView) (t : TranscriptView) (texts : Texts) → AreValues cupboard p r v
+    → IsFinishedUnder v.readings (words_by sharing v.readings.plan v.file.keys) v.slots book t → AreTextsOf sharing book t texts → MakesBy sharing cupboard p r texts
+makes sharing cupboard p r v book t texts are finished written =
+    let all = all_told sharing cupboard p r v book t texts are finished written in
+    record { values = v; entries = t.entries; of_bytes = are; sound = all.0; run = all.1; told = all.2 }
 
 -- ---- refusals
 
@@ -347,21 +346,12 @@ but_memory cause.Extra claim other is = is
 but_memory (cause.Member e) claim other is = is
 but_memory cause.NotMember claim other is = is
 
--- the readings file has a fault, where the plan file has none and its lanes hang
-pub readings_refused : (sharing : Sharing) (cupboard : List Meaning) (plan_bytes readings_bytes : List ℕ) (is_writable : Bool) (file : PlanFileView) (lanes : List LaneRow) (slots : List Slot) (fault : FileError)
-    → plan_of plan_bytes ≡ Ok file → lanes ≡ file.lanes → hung_by cupboard lanes ≡ Ok slots → ReadingsEnd file.plan readings_bytes (Err fault)
-    → (fault.cause ≡ cause.Memory → ⊥) → TextsEnd sharing cupboard plan_bytes readings_bytes is_writable (Err (ReadingsRefusal fault))
-readings_refused sharing cupboard plan_bytes readings_bytes is_writable file lanes slots fault plan_is rows hang ends other =
-    (file, slots, plan_is, ap (hung_by cupboard) (sym rows) ∙ hang, but_memory fault.cause _ other ends)
-
--- neither file has a fault and the lanes hang
-pub has_values : (cupboard : List Meaning) (plan_bytes readings_bytes : List ℕ) (file : PlanFileView) (lanes : List LaneRow) (slots : List Slot) (readings : ReadingsView)
-    → plan_of plan_bytes ≡ Ok file → lanes ≡ file.lanes → hung_by cupboard lanes ≡ Ok slots → readings_of file.plan readings_bytes ≡ Ok readings
-    → HasValues cupboard plan_bytes readings_bytes
-has_values cupboard plan_bytes readings_bytes file lanes slots readings plan_is rows hang readings_are = (
-  record { file = file; slots = slots; readings = readings },
-  record { plan = plan_is; lanes = ap (hung_by cupboard) (sym rows) ∙ hang; readings = readings_are },
-)
+-- the readings file is refused, where the plan file has a value and its lanes hang
+pub readings_refuse : (cupboard : List Meaning) (plan readings p r : List ℕ) (file : PlanFileView) (slots : List Slot) (outcome : Outcome) → plan_of p ≡ Ok file → hung_by cupboard file.lanes ≡ Ok slots
+    → ReadingsRefused readings file.plan r outcome → FilesRefused cupboard plan readings p r outcome
+readings_refuse cupboard plan readings p r file slots (BadReadings name fault) plan_is hang is = (is.0, (file, slots, plan_is, hang, is.1))
+readings_refuse cupboard plan readings p r file slots NoMemory plan_is hang is = tt
+readings_refuse cupboard plan readings p r file slots _ plan_is hang is = absurd is
 
 -- ---- what the files and the lanes alone decide
 

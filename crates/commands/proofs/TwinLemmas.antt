@@ -4,12 +4,9 @@ use mathlib.Core.Path.{fun_ext}
 use Rattle.std.specs.Prelude.{codes, length}
 use Rattle.std.proofs.lemmas.Bool.{false≢true}
 use Rattle.desk_outside.specs.Desk.{View}
-use Rattle.group_plan.specs.Plans.{PlanView}
 use Rattle.group_plan.specs.Tables.{ReadingsView}
-use Rattle.plan_files.specs.declared.fault.FileError.{FileError}
-use Rattle.plan_files.specs.declared.fault.FileCause.TheVariants as cause
 use Rattle.plan_files.specs.PlanFiles.{PlanFileView}
-use Rattle.plan_files.specs.Readings.{readings_of, ReadingsEnd}
+use Rattle.plan_files.specs.Readings.{readings_of}
 use Rattle.mask_stream.specs.KeyStreams.{streams}
 use Rattle.transcript_log.specs.Tables.{Masks}
 use Rattle.transcript_log.specs.Transcripts.{TranscriptView}
@@ -25,7 +22,7 @@ use Rattle.twin_worlds.specs.declared.answers.PoolTwinError.TheVariants as pool_
 use Rattle.twin_worlds.specs.MasksText.{masks_text}
 use Rattle.twin_worlds.specs.Twins.{Disagree, DisagreeFor, TwinEnds, PooledTwinEnds}
 use Rattle.command_words.specs.declared.outcome.Outcome.{Outcome}
-use Rattle.command_words.specs.declared.outcome.Outcome.TheVariants.{Done, NoMemory, BadWords, CannotRead, TooLong, CannotWrite, CannotPrint, BadPlan, BadReadings, BadTranscript, BadReport, Impossible, NotInTime, NotThisRun, OtherRow, OtherPlan, OtherLine, OtherPresence, OtherKnown, OtherTotal, OtherComponent, BadLane, NoPartner}
+use Rattle.command_words.specs.declared.outcome.Outcome.TheVariants.{Done, NoMemory, BadWords, CannotRead, TooLong, CannotWrite, CannotWritePart, CannotPrint, BadPlan, BadReadings, BadTranscript, BadReport, Impossible, NotInTime, NotThisRun, OtherRow, OtherPlan, OtherLine, OtherPresence, OtherKnown, OtherTotal, OtherComponent, BadLane, NoPartner}
 use Rattle.command_words.specs.declared.known.KnownMeter.{KnownMeter}
 use Rattle.command_words.specs.Known.{known_of, IsKnown, is_known, AreSetsOf}
 use Rattle.command_words.specs.Words.{TwinNames}
@@ -35,19 +32,12 @@ use Rattle.commands.specs.Twins.{TwinBytes, Compared, TwinRefuses}
 use Rattle.commands.specs.Pooled.{PooledCompared, PooledRefuses}
 use Rattle.commands.specs.TwinTexts.{TablesRefused}
 use Rattle.commands.specs.PooledParts.{IsPlanFor}
-use Rattle.commands.proofs.RunLemmas.{but_memory}
 
 -- ---- the values of files
 
 -- the pool of the sets is that of the known meters
 pool-is : (known : List KnownMeter) (sets : List (List ℕ)) → AreSetsOf known sets → pool_of sets ≡ is_known known
 pool-is known sets are = fun_ext (λ g. fun_ext (λ i. are g i))
-
--- the second table is refused, where the first one is not
-pub second_refused : (plan : PlanView) (bytes : TwinBytes) (first : ReadingsView) (fault : FileError)
-    → readings_of plan bytes.readings ≡ Ok first → ReadingsEnd plan bytes.other (Err fault) → (fault.cause ≡ cause.Memory → ⊥)
-    → (first : ReadingsView) × (readings_of plan bytes.readings ≡ Ok first) × (readings_of plan bytes.other ≡ Err fault)
-second_refused plan bytes first fault first_is ends other = (first, first_is, but_memory fault.cause _ other ends)
 
 -- a table is refused, where the plan file is not
 pub tables_refused_for : (known : List KnownMeter) (names : TwinNames) (bytes : TwinBytes) (file : PlanFileView) (sets : List (List ℕ)) (outcome : Outcome) → IsPlanFor known bytes file sets
@@ -104,6 +94,7 @@ refuses-nobody names bytes BadWords ends = ends
 refuses-nobody names bytes (CannotRead name) ends = ends
 refuses-nobody names bytes (TooLong name) ends = ends
 refuses-nobody names bytes (CannotWrite name) ends = ends
+refuses-nobody names bytes (CannotWritePart prefix meter file) ends = ends
 refuses-nobody names bytes CannotPrint ends = ends
 refuses-nobody names bytes (BadPlan name fault) (named, inl bad) = (named, bad)
 refuses-nobody names bytes (BadPlan name fault) (named, inr (file, is, outside, fault_is)) = absurd (false≢true (cc outside))

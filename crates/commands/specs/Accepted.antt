@@ -1,5 +1,5 @@
 -- What is enough for a command to be done.
-use Rattle.std.specs.Prelude.{◌≡◌, ◌≤◌, ◌⊎◌, ℕ, true, List, length, reverse, Option, Some, Ok}
+use Rattle.std.specs.Prelude.{◌≡◌, ◌≤◌, ◌⊎◌, ℕ, nat_lt, true, List, length, reverse, Option, Some, Ok}
 use Rattle.desk_outside.specs.Desk.{View, Rose}
 use Rattle.link_lanes.specs.Lanes.{Meaning, Slot}
 use Rattle.link_lanes.specs.Fits.{hung_by}
@@ -21,7 +21,7 @@ use Rattle.plan_files.specs.PlanFiles.{PlanFileView, plan_of, public_of}
 use Rattle.run_course.specs.Beginnings.{IsSomeRun}
 use Rattle.command_words.specs.declared.known.KnownMeter.{KnownMeter}
 use Rattle.command_words.specs.Known.{is_known, are_in_plan}
-use Rattle.command_words.specs.Words.{RunNames, TwinNames, Size, Command, Run, Ring, Audit, Twin, RingTwin, Pooled, Make, Load, Convert, Public, Help, Version, BillNames, HideNames, Bill, Hide, InspectNames, Inspect, Registers, RegisterNames, Resume, ResumeNames}
+use Rattle.command_words.specs.Words.{RunNames, TwinNames, Size, Command, Run, Ring, Audit, Twin, RingTwin, Pooled, Make, Load, Convert, Public, Parts, Help, Version, BillNames, HideNames, Bill, Hide, InspectNames, Inspect, Registers, RegisterNames, Resume, ResumeNames}
 use Rattle.command_words.specs.declared.words.Period.{Period}
 use Rattle.command_words.specs.declared.words.Place.{Place}
 use Rattle.billing_read.specs.declared.partners.Partner.{Partner}
@@ -150,6 +150,14 @@ pub record PublicAccepts (plan : List ℕ) (v : View) : Type 0 where
   pub says : PlanFileView
   pub value : plan_of bytes ≡ Ok says
 
+-- PLAN has a value, whose plan has the group
+pub record PartsAccepts (plan : List ℕ) (g : ℕ) (v : View) : Type 0 where
+  pub bytes : List ℕ
+  pub file : HoldsFile v plan bytes
+  pub says : PlanFileView
+  pub value : plan_of bytes ≡ Ok says
+  pub group : nat_lt g (length says.plan.groups) ≡ true
+
 -- the three files of `inspect` have values, the transcript is a run of the public plan whose lines are possible, and the rows of the report are those that
 -- the frames give
 pub record InspectAccepts (names : InspectNames) (v : View) : Type 0 where
@@ -202,6 +210,7 @@ Accepts cupboard (Make size plan readings) v = Unit {0}
 Accepts cupboard (Load size workers transcript) v = LoadAccepts cupboard size
 Accepts cupboard (Convert old transcript) v = ConvertAccepts old v
 Accepts cupboard (Public plan public) v = PublicAccepts plan v
+Accepts cupboard (Parts plan g prefix) v = PartsAccepts plan g v
 Accepts cupboard (Inspect names) v = InspectAccepts names v
 Accepts cupboard (Bill names period) v = BillAccepts names v
 Accepts cupboard (Hide names period place) v = HideAccepts names period place v

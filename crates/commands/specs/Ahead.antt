@@ -1,5 +1,5 @@
 -- A transcript's file that is written ahead, while the run goes on.
-use Rattle.std.specs.Prelude.{◌≡◌, ◌<◌, ◌≤◌, ◌^◌, ℕ, Bool, true, List, [], ◌∷◌, length, take, drop, Option, Some, None, Result, IfOk, ⊤}
+use Rattle.std.specs.Prelude.{◌≡◌, ◌<◌, ◌≤◌, ◌^◌, ℕ, List, [], ◌∷◌, length, take, drop, Result, IfOk}
 use Rattle.std.specs.declared.alloc.AllocError.{AllocError}
 use Rattle.group_plan.specs.Plans.{PlanView}
 use Rattle.link_lanes.specs.declared.Post.{Post}
@@ -25,13 +25,13 @@ pub record IsNext (entries : ℕ) (t part : TranscriptView) : Type 0 where
   pub some : entries < length t.entries
   pub few : length t.entries < 2 ^ 64
 
--- the run makes its next tick, unless memory lacks; its frames met the fates of the lanes
-pub record Ticks {M : Type 0} (run : RunView M) (lanes : List Slot) (posts : List Post) (result : Result (RunView M) AllocError) (hung : List Slot) (all : List Post) : Type 0 where
-  pub makes : IfOk result (MakesTicks 1 run)
-  pub met : (first : List Slot) → HaveMet first run lanes posts → IfOk result (λ after. HaveMet first after hung all)
+-- some ticks more are made, one at least
+pub record MakesSome {M : Type 0} (before after : RunView M) : Type 0 where
+  pub count : ℕ
+  pub some : 0 < count
+  pub makes : MakesTicks count before after
 
--- where there is a file, it is still the one of this name, and it remembers what failed
-abbrev pub SameFile : {A : Type 0} → Option A → Option A → (A → List ℕ) → (A → Bool) → Type 0
-SameFile None None name failed = ⊤
-SameFile (Some a) (Some b) name failed = (name b ≡ name a) × (failed a ≡ true → failed b ≡ true)
-SameFile _ _ name failed = ⊥
+-- the run makes ticks, one at least, unless memory lacks; its frames met the fates of the lanes
+pub record Ticks {M : Type 0} (run : RunView M) (lanes : List Slot) (posts : List Post) (result : Result (RunView M) AllocError) (hung : List Slot) (all : List Post) : Type 0 where
+  pub makes : IfOk result (MakesSome run)
+  pub met : (first : List Slot) → HaveMet first run lanes posts → IfOk result (λ after. HaveMet first after hung all)

@@ -13,7 +13,7 @@ use Rattle.command_words.specs.declared.usage.TheConstants.{USAGE, VERSION}
 use Rattle.command_words.specs.declared.outcome.Outcome.{Outcome}
 use Rattle.command_words.specs.declared.outcome.Outcome.TheVariants.{NoMemory, BadWords, BadPlan, BadReadings, BadTranscript, BadLane}
 use Rattle.command_words.specs.declared.known.KnownMeter.{KnownMeter}
-use Rattle.command_words.specs.Words.{RunNames, TwinNames, Size, Command, Run, Ring, Resume, Registers, Audit, Twin, RingTwin, Pooled, Make, Load, Convert, Public, Help, Version, Bill, Hide, Inspect}
+use Rattle.command_words.specs.Words.{RunNames, TwinNames, Size, Command, Run, Ring, Resume, Registers, Audit, Twin, RingTwin, Pooled, Make, Load, Convert, Public, Parts, Help, Version, Bill, Hide, Inspect}
 use Rattle.commands.specs.Calls.{IsRead, after_fetches, Unread, Putting, putting, PutsEnd, Unwritable}
 use Rattle.plan_files.specs.PlanFiles.{public_of}
 use Rattle.plan_files.specs.Spelling.{plan_text, public_text, readings_text}
@@ -34,6 +34,7 @@ pub use Rattle.commands.specs.Runs.{RefusesReadings}
 use Rattle.commands.specs.Runs.{Texts, MakesBy, Makes, IsOnlyBy, IsOnly, HasValues, RefusesLane}
 use Rattle.commands.specs.BillingEnds.{BillEnds, HideEnds}
 use Rattle.commands.specs.Inspecting.{InspectCommandEnds}
+use Rattle.commands.specs.PartsEnds.{PartsEnds}
 
 -- ---- `run PLAN READINGS REPORT TRANSCRIPT [WORKERS]`, and `ring PLAN READINGS WIDTH REPORT TRANSCRIPT [WORKERS]`
 
@@ -289,6 +290,7 @@ Ends cupboard (Some (Make size plan readings)) v w outcome = MakeEnds size plan 
 Ends cupboard (Some (Load size workers transcript)) v w outcome = LoadEnds cupboard size transcript v w outcome
 Ends cupboard (Some (Convert old transcript)) v w outcome = ConvertEnds old transcript v w outcome
 Ends cupboard (Some (Public plan public)) v w outcome = PublicEnds plan public v w outcome
+Ends cupboard (Some (Parts plan g prefix)) v w outcome = PartsEnds plan g prefix v w outcome
 Ends cupboard (Some (Inspect names)) v w outcome = InspectCommandEnds names v w outcome
 Ends cupboard (Some (Bill names period)) v w outcome = BillEnds names period v w outcome
 Ends cupboard (Some (Hide names period place)) v w outcome = HideEnds names period place v w outcome

@@ -1,5 +1,6 @@
 pub mod Ahead
 pub mod Calls
+pub mod PartsEnds
 pub mod Sources
 pub mod RingIsolation
 pub mod Runs
@@ -21,6 +22,7 @@ pub mod BillingParts
 pub mod Inspecting
 pub mod InspectParts
 pub mod Ends
+pub mod Files
 pub mod Accepted
 pub mod Promise
 pub mod Cupboard

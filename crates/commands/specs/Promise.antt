@@ -3,7 +3,7 @@ use Rattle.std.specs.Prelude.{◌≡◌, ◌⊎◌, ℕ, false, true, List, Opti
 use Rattle.desk_outside.specs.Desk.{View, Complained, IsPrefixOf, after_step, Rose}
 use Rattle.link_lanes.specs.Lanes.{Meaning}
 use Rattle.command_words.specs.declared.outcome.Outcome.{Outcome}
-use Rattle.command_words.specs.declared.outcome.Outcome.TheVariants.{Done, NoMemory, BadWords, CannotRead, TooLong, CannotWrite, CannotPrint, BadPlan, BadReadings, BadTranscript, BadReport, Impossible, NotInTime, NotThisRun, OtherRow, OtherPlan, OtherLine, OtherPresence, OtherKnown, OtherTotal, OtherComponent, BadLane, NoPartner}
+use Rattle.command_words.specs.declared.outcome.Outcome.TheVariants.{Done, NoMemory, BadWords, CannotRead, TooLong, CannotWrite, CannotWritePart, CannotPrint, BadPlan, BadReadings, BadTranscript, BadReport, Impossible, NotInTime, NotThisRun, OtherRow, OtherPlan, OtherLine, OtherPresence, OtherKnown, OtherTotal, OtherComponent, BadLane, NoPartner}
 use Rattle.command_words.specs.Words.{Command}
 use Rattle.commands.specs.Ends.{Ends}
 use Rattle.command_words.specs.Outcomes.{status_of, complaint_of, IsFault}
@@ -22,6 +22,7 @@ Tells BadWords v w = Complains (complaint_of BadWords) v w
 Tells (CannotRead name) v w = Complains (complaint_of (CannotRead name)) v w
 Tells (TooLong name) v w = Complains (complaint_of (TooLong name)) v w
 Tells (CannotWrite name) v w = Complains (complaint_of (CannotWrite name)) v w
+Tells (CannotWritePart prefix meter file) v w = Complains (complaint_of (CannotWritePart prefix meter file)) v w
 Tells CannotPrint v w = Complains (complaint_of CannotPrint) v w
 Tells (BadPlan name fault) v w = Complains (complaint_of (BadPlan name fault)) v w
 Tells (BadReadings name fault) v w = Complains (complaint_of (BadReadings name fault)) v w

@@ -1,5 +1,5 @@
 -- How `registers` ends.
-use Rattle.std.specs.Prelude.{◌≡◌, ◌⊎◌, ℕ, Bool, false, List, [], ◌∷◌, Result, Ok, Err, ⊤}
+use Rattle.std.specs.Prelude.{◌≡◌, ◌⊎◌, ℕ, List, [], ◌∷◌, Ok, Err, ⊤}
 use Rattle.desk_outside.specs.Desk.{View}
 use Rattle.link_lanes.specs.Fits.{hung_by}
 use Rattle.link_lanes.specs.Lanes.{Meaning, Slot}
@@ -19,8 +19,6 @@ use Rattle.command_words.specs.declared.outcome.Outcome.{Outcome}
 use Rattle.command_words.specs.declared.outcome.Outcome.TheVariants.{NoMemory, BadPlan, BadReadings, BadLane}
 use Rattle.command_words.specs.Words.{RegisterNames}
 use Rattle.commands.specs.declared.register_texts.RegisterTexts.{RegisterTexts as Kept}
-use Rattle.commands.specs.declared.texts.Refusal.{Refusal}
-use Rattle.commands.specs.declared.texts.Refusal.TheVariants.{Plan, Lane, Readings, Unwritable as IsUnwritable, Memory}
 use Rattle.commands.specs.Calls.{IsRead, after_fetches, Unread, Putting, putting, PutsEnd, Unwritable}
 use Rattle.commands.specs.RegisterRuns.{HasRegisterValues, RegisterTexts, RegistersMake}
 use Rattle.commands.specs.Runs.{RefusesLane, Texts}
@@ -74,15 +72,6 @@ RegistersEnds cupboard count names v w outcome =
 abbrev pub register_texts_of : Kept → RegisterTexts
 register_texts_of kept =
     record { transcript = transcript_text kept.transcript; words = side_text kept.words; report = kept.report.items; summary = kept.summary.items }
-
--- the texts of a run of the values of the bytes, or the first that is refused; want of memory is free
-abbrev pub RegisterTextsEnd : List Meaning → ℕ → List ℕ → List ℕ → Bool → Result Kept Refusal → Type 0
-RegisterTextsEnd cupboard count p r is_writable (Ok kept) = RegistersMake cupboard count p r (register_texts_of kept)
-RegisterTextsEnd cupboard count p r is_writable (Err (Plan fault)) = plan_of p ≡ Err fault
-RegisterTextsEnd cupboard count p r is_writable (Err (Lane fault)) = RefusesLane cupboard p fault
-RegisterTextsEnd cupboard count p r is_writable (Err (Readings fault)) = RefusesTables cupboard count p r fault
-RegisterTextsEnd cupboard count p r is_writable (Err IsUnwritable) = (is_writable ≡ false) × HasRegisterValues cupboard count p r
-RegisterTextsEnd cupboard count p r is_writable (Err Memory) = ⊤
 
 -- to the texts of register 0 come the side words of the registers and the report with a total of each
 pub record AreWordsOf (registers : RegistersView) (keys : Keys) (t : TranscriptView) (first : Texts) (kept : Kept) : Type 0 where

@@ -1,15 +1,11 @@
 -- How `resume` ends.
 use Rattle.std.specs.Prelude.{◌≡◌, ◌⊎◌, ℕ, List, [], ◌∷◌, Err, ⊤}
-use Rattle.std.specs.Borrow.{Bor}
 use Rattle.desk_outside.specs.Desk.{View}
 use Rattle.link_lanes.specs.Lanes.{Meaning}
 use Rattle.plan_files.specs.PlanFiles.{plan_of}
 use Rattle.command_words.specs.declared.outcome.Outcome.{Outcome}
 use Rattle.command_words.specs.declared.outcome.Outcome.TheVariants.{NoMemory, BadPlan, BadReadings, BadTranscript, BadLane, NotThisRun, OtherPlan}
 use Rattle.command_words.specs.Words.{ResumeNames}
-use Rattle.commands.specs.declared.resume_texts.ResumeRefusal.{ResumeRefusal}
-use Rattle.commands.specs.declared.resume_texts.ResumeRefusal.TheVariants.{Files, Cut, OtherPlan as HasOther, NotThis, Unwritable as CannotWrite}
-use Rattle.commands.specs.declared.texts.Refusal.TheVariants.{Plan, Lane, Readings, Unwritable as IsUnwritable, Memory}
 use Rattle.commands.specs.Calls.{after_fetches, Unread, Putting, putting, PutsEnd, Unwritable}
 use Rattle.commands.specs.ResumeRuns.{AreResumeBytes, HasOtherPlan, IsNotThisRun, RefusesCut, ResumeBytes, ResumeMakes}
 use Rattle.commands.specs.Runs.{HasValues, IsOnly, RefusesLane, RefusesReadings, Texts}
@@ -54,17 +50,3 @@ ResumeCommandEnds cupboard names v w outcome =
     × ((ResumeRefuses cupboard names bytes outcome × (w ≡ after_fetches (resume_fetched names) v))
     ⊎ (ResumeUnwritable cupboard names bytes (after_fetches (resume_fetched names) v) w outcome
     ⊎ ResumePut cupboard names bytes (after_fetches (resume_fetched names) v) w outcome)))
-
--- ---- refusals by their causes
-
--- what is refused ends the command so
-abbrev pub RefusedAs : ResumeNames → ResumeRefusal → Outcome → Type 0
-RefusedAs names (Files (Plan fault)) outcome = (name : Bor (List ℕ)) × (name.now ≡ names.plan) × (outcome ≡ BadPlan name fault)
-RefusedAs names (Files (Lane fault)) outcome = outcome ≡ BadLane fault
-RefusedAs names (Files (Readings fault)) outcome = (name : Bor (List ℕ)) × (name.now ≡ names.readings) × (outcome ≡ BadReadings name fault)
-RefusedAs names (Files IsUnwritable) outcome = outcome ≡ NoMemory
-RefusedAs names (Files Memory) outcome = outcome ≡ NoMemory
-RefusedAs names (Cut fault) outcome = (name : Bor (List ℕ)) × (name.now ≡ names.cut) × (outcome ≡ BadTranscript name fault)
-RefusedAs names HasOther outcome = (name : Bor (List ℕ)) × (name.now ≡ names.cut) × (outcome ≡ OtherPlan name)
-RefusedAs names (NotThis line) outcome = (name : Bor (List ℕ)) × (name.now ≡ names.cut) × (outcome ≡ NotThisRun name line)
-RefusedAs names CannotWrite outcome = outcome ≡ NoMemory

@@ -1,5 +1,5 @@
 -- What `resume` makes of the bytes of its three files: a run of the plan and the readings that begins with the entries of the cut.
-use Rattle.std.specs.Prelude.{◌≡◌, ◌≢◌, ℕ, Bool, false, List, ◌++◌, Result, Ok, Err, ⊤}
+use Rattle.std.specs.Prelude.{◌≡◌, ◌≢◌, ℕ, List, ◌++◌, Result, Ok, Err, ⊤}
 use Rattle.desk_outside.specs.Desk.{View}
 use Rattle.group_plan.specs.Plans.{PlanView}
 use Rattle.link_lanes.specs.Lanes.{Meaning}
@@ -10,18 +10,17 @@ use Rattle.transcript_text.specs.declared.fault.ReadError.{ReadError}
 use Rattle.transcript_text.specs.declared.version.Version.TheVariants.{Two}
 use Rattle.transcript_text.specs.EntryLines.{entry_line}
 use Rattle.transcript_text.specs.Heads.{read_of}
-use Rattle.transcript_text.specs.declared.fault.ReadError.TheVariants as fault
 use Rattle.cut_resume.specs.declared.errors.CutError.{CutError}
-use Rattle.cut_resume.specs.declared.errors.CutError.TheVariants as cut
+use Rattle.cut_resume.specs.declared.errors.ResumeError.{ResumeError}
+use Rattle.cut_resume.specs.declared.errors.ResumeError.TheVariants.{NotThis as IsOff, Memory}
 use Rattle.cut_resume.specs.Cut.{completed}
+use Rattle.cut_resume.specs.Cut.{CutEnds as CutIs}
 use Rattle.cut_resume.specs.OnCourse.{IsFirstOff}
-use Rattle.commands.specs.declared.sharing.Sharing.TheVariants.{WithEach}
+use Rattle.command_words.specs.declared.outcome.Outcome.{Outcome}
+use Rattle.command_words.specs.declared.outcome.Outcome.TheVariants.{NoMemory, BadTranscript, OtherPlan}
 use Rattle.commands.specs.declared.texts.RunTexts.{RunTexts}
-use Rattle.commands.specs.declared.resume_texts.ResumeRefusal.{ResumeRefusal}
-use Rattle.commands.specs.declared.resume_texts.ResumeRefusal.TheVariants.{Files, Cut, OtherPlan, NotThis, Unwritable}
-use Rattle.commands.specs.declared.texts.Refusal.TheVariants.{Memory}
 use Rattle.commands.specs.Calls.{IsRead}
-use Rattle.commands.specs.RunTexts.{TextsEnd, texts_of}
+use Rattle.commands.specs.RunTexts.{texts_of}
 use Rattle.commands.specs.Runs.{AreValues, HasValues, Makes, Texts, Values, plan_in}
 use Rattle.command_words.specs.Words.{ResumeNames}
 
@@ -51,6 +50,12 @@ pub record IsOfOtherPlan (plan : PlanView) (bytes : List ℕ) : Type 0 where
   pub read : read_of Two (completed bytes) ≡ Ok cut
   pub other : cut.plan ≢ plan
 
+-- the transcript is of the cut's plan, and its first entries are the cut's
+pub record BeginsWith (cut t : TranscriptView) : Type 0 where
+  pub of_plan : t.plan ≡ cut.plan
+  pub more : List Entry
+  pub begins : t.entries ≡ cut.entries ++ more
+
 -- a run of the values of the bytes makes these texts, and begins with the entries of the cut
 pub record ResumeMakes (cupboard : List Meaning) (bytes : ResumeBytes) (texts : Texts) : Type 0 where
   pub made : Makes cupboard bytes.plan bytes.readings texts
@@ -79,28 +84,23 @@ pub record IsNotThisRun (cupboard : List Meaning) (bytes : ResumeBytes) (line : 
   pub number : line ≡ entry_line cut.plan entry
   pub off : IsFirstOff values.readings (streams values.file.keys) values.slots cut.entries entry
 
--- the texts of a run that goes on from the cut, or the first that is refused: what `run` refuses, or the cut; want of memory is free
-abbrev pub ResumeTextsEnd : List Meaning → ResumeBytes → Bool → Result RunTexts ResumeRefusal → Type 0
-ResumeTextsEnd cupboard bytes is_writable (Ok kept) = ResumeMakes cupboard bytes (texts_of kept)
-ResumeTextsEnd cupboard bytes is_writable (Err (Files why)) = TextsEnd WithEach cupboard bytes.plan bytes.readings is_writable (Err why)
-ResumeTextsEnd cupboard bytes is_writable (Err (Cut fault)) = RefusesCut cupboard bytes fault
-ResumeTextsEnd cupboard bytes is_writable (Err OtherPlan) = HasOtherPlan cupboard bytes
-ResumeTextsEnd cupboard bytes is_writable (Err (NotThis line)) = IsNotThisRun cupboard bytes line
-ResumeTextsEnd cupboard bytes is_writable (Err Unwritable) = (is_writable ≡ false) × HasValues cupboard bytes.plan bytes.readings
+-- ---- the cut, and the texts
 
--- the fault of a cut is told as that of its completed text; want of memory is told as such
-abbrev pub RefusesAs : CutError → ResumeRefusal → Type 0
-RefusesAs (cut.Head line) why = why ≡ Cut (fault.Head line)
-RefusesAs (cut.Line line) why = why ≡ Cut (fault.Line line)
-RefusesAs (cut.Field line field) why = why ≡ Cut (fault.Field line field)
-RefusesAs (cut.Count line) why = why ≡ Cut (fault.Count line)
-RefusesAs (cut.After line) why = why ≡ Cut (fault.After line)
-RefusesAs cut.Memory why = why ≡ Files Memory
+-- the cut that these bytes under this name are, where it is one of the plan; want of memory is free
+abbrev pub CutEnds : (name : List ℕ) → PlanView → (bytes : List ℕ) → Result TranscriptView Outcome → Type 0
+CutEnds cut plan bytes (Ok t) = IsCutOf plan bytes t
+CutEnds cut plan bytes (Err (BadTranscript name fault)) = (name.now ≡ cut) × (read_of Two (completed bytes) ≡ Err fault)
+CutEnds cut plan bytes (Err (OtherPlan name)) = (name.now ≡ cut) × IsOfOtherPlan plan bytes
+CutEnds cut plan bytes (Err NoMemory) = ⊤
+CutEnds cut plan bytes (Err _) = ⊥
 
--- the cut of these bytes, where it is one of the plan; want of memory is free
-abbrev pub CutEnds : PlanView → List ℕ → Result TranscriptView ResumeRefusal → Type 0
-CutEnds plan bytes (Ok cut) = IsCutOf plan bytes cut
-CutEnds plan bytes (Err (Cut fault)) = read_of Two (completed bytes) ≡ Err fault
-CutEnds plan bytes (Err OtherPlan) = IsOfOtherPlan plan bytes
-CutEnds plan bytes (Err (Files Memory)) = ⊤
-CutEnds plan bytes (Err _) = ⊥
+-- a fault of the completed text of a cut ends the command so
+abbrev pub CutRefused : (name : List ℕ) → CutError → Outcome → Type 0
+CutRefused cut fault outcome = (plan : PlanView) (bytes : List ℕ) → CutIs (Err fault) (read_of Two (completed bytes)) → CutEnds cut plan bytes (Err outcome)
+
+-- the texts of a run of these values that goes on from the cut, or the entry of this line is the first that is not on course; want of memory is free
+abbrev pub ResumeTextsEnd : Values → TranscriptView → Result RunTexts ResumeError → Type 0
+ResumeTextsEnd v cut (Ok kept) =
+    (cupboard : List Meaning) (bytes : ResumeBytes) → AreValues cupboard bytes.plan bytes.readings v → IsCutOf (plan_in v) bytes.cut cut → ResumeMakes cupboard bytes (texts_of kept)
+ResumeTextsEnd v cut (Err (IsOff line)) = (k : ℕ) × (line ≡ entry_line cut.plan k) × IsFirstOff v.readings (streams v.file.keys) v.slots cut.entries k
+ResumeTextsEnd v cut (Err Memory) = ⊤

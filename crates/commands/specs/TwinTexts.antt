@@ -1,5 +1,6 @@
--- The bytes of the four files of `twin`, as the program borrows them.
+-- The bytes of the four files of `twin`, as the program holds them.
 use Rattle.std.specs.Prelude.{◌≡◌, ◌⊎◌, ◌≤◌, length, Result, Ok, Err, ⊤}
+use Rattle.desk_outside.specs.Desk.{View}
 use Rattle.group_plan.specs.Plans.{PlanView}
 use Rattle.group_plan.specs.Tables.{ReadingsView}
 use Rattle.plan_files.specs.Readings.{readings_of}
@@ -8,12 +9,18 @@ use Rattle.command_words.specs.declared.outcome.Outcome.TheVariants.{NoMemory, B
 use Rattle.command_words.specs.Words.{TwinNames}
 use Rattle.commands.specs.declared.twin.TwinTexts.{TwinTexts}
 use Rattle.commands.specs.declared.twin.Tables.{Tables}
-use Rattle.commands.specs.Calls.{most_bytes}
-use Rattle.commands.specs.Twins.{TwinBytes}
+use Rattle.commands.specs.Calls.{most_bytes, after_fetches, Unread}
+use Rattle.commands.specs.Ends.{compared_by}
+use Rattle.commands.specs.Twins.{TwinBytes, AreReadBy}
 
--- the bytes that are borrowed
+-- the bytes that are held
 abbrev pub bytes_of : TwinTexts → TwinBytes
-bytes_of texts = record { plan = texts.plan.now; readings = texts.readings.now; other = texts.other.now; transcript = texts.transcript.now }
+bytes_of texts = record { plan = texts.plan.items; readings = texts.readings.items; other = texts.other.items; transcript = texts.transcript.items }
+
+-- the four files were read, or the first fetch that gave none ends the command
+abbrev pub TextsFetched : TwinNames → View → View → Result TwinTexts Outcome → Type 0
+TextsFetched names v w (Ok texts) = AreReadBy names v (bytes_of texts) × (w ≡ after_fetches (compared_by names) v)
+TextsFetched names v w (Err outcome) = Unread (compared_by names) v w outcome
 
 -- the plan file and the readings files have not too many bytes
 pub record AreShort (bytes : TwinBytes) : Type 0 where

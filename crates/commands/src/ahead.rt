@@ -1,6 +1,6 @@
 //! The file of a transcript, of which much is written ahead, while the run goes on.
 
-ghost use Rattle.std.specs.Prelude.{◌≡◌, ◌≤◌, ◌<◌, ◌++◌, [], true, length, take, IfOk, IfSome};
+ghost use Rattle.std.specs.Prelude.{◌≡◌, ◌≤◌, ◌<◌, ◌++◌, [], length, take, IfOk, IfSome};
 ghost use Rattle.transcript_log.specs.Transcripts.{TranscriptView};
 ghost use Rattle.transcript_text.specs.Spelling.{transcript_text};
 ghost use Rattle.transcript_text.specs.Writing.{lines_text, begun_text};
@@ -8,7 +8,7 @@ ghost use Rattle.tick_run.specs.Runs.{told_by};
 ghost use Rattle.commands.specs.Ahead.{IsAhead, IsNext};
 
 use crate::desk_calls::Begun;
-use crate::source::TranscriptPieces;
+use crate::source::{Source, TranscriptPieces};
 use collector_workers::Gate;
 use desk_outside::BegunFile;
 use mask_stream::Masks;
@@ -43,6 +43,32 @@ impl<'n, 'r, R: Threads + Sync, B: BegunFile + Drop> Ahead<'n, 'r, R, B> {
         }
     }
 
+    /// A file that has nothing yet gets the text of the first entries of a transcript, so many of them. Where there are none, it gets
+    /// nothing.
+    pub fn behind(
+        rt: &'r R,
+        alloc: Global,
+        begun: Begun<'n, B>,
+        text: &[u8],
+        entries: usize,
+    ) -> Ahead<'n, 'r, R, B>
+        requires { B.has begun.file [] }
+        ensures name { result.begun.name.now ≡ begun.entry.name.now }
+        ensures ahead { (t : TranscriptView) → entries ≤ length t.entries → text.now ≡ begun_text t.plan (take entries t.entries) → IsAhead B.has result.begun.file result.entries t }
+    {
+        if entries == 0 {
+            return Ahead::new(rt, alloc, begun);
+        }
+        let mut begun = begun;
+        begun.append_source(rt, alloc, Source::Bytes(text));
+        Ahead {
+            rt,
+            alloc,
+            begun,
+            entries,
+        }
+    }
+
     /// The newest entries of a run, where there are enough of them that are not in the file, and nothing has failed.
     pub(crate) fn next_part<M: Masks + Sync, G: Gate>(
         &self,
@@ -64,7 +90,6 @@ impl<'n, 'r, R: Threads + Sync, B: BegunFile + Drop> Ahead<'n, 'r, R, B> {
     /// Appends the text of a part.
     pub(crate) fn append(&mut self, part: &Transcript)
         ensures name { self.new.begun.name.now ≡ self.old.begun.name.now }
-        ensures remembers { B.failed self.old.begun.file ≡ true → B.failed self.new.begun.file ≡ true }
         ensures ahead { (t : TranscriptView) → IsNext self.old.entries t part.now → IsAhead B.has self.old.begun.file self.old.entries t → IsAhead B.has self.new.begun.file self.new.entries t }
     {
         let mut pieces = TranscriptPieces {

@@ -2,35 +2,30 @@
 
 ghost use Rattle.std.specs.Prelude.{◌≡◌, ◌≤◌, ℕ, List, Ok, IfOk, IfErr, string_bytes};
 ghost use Rattle.desk_outside.specs.Desk.{Rose};
-ghost use Rattle.transcript_text.specs.declared.version.Version.TheVariants.{Two};
-ghost use Rattle.transcript_text.specs.Spelling.{transcript_text};
-ghost use Rattle.transcript_text.specs.Heads.{read_of};
-ghost use Rattle.transcript_log.specs.Transcripts.{IsTranscript};
+ghost use Rattle.transcript_log.specs.Transcripts.{TranscriptView};
 ghost use Rattle.totals_report.specs.Texts.{rows_text};
 ghost use Rattle.totals_report.specs.Reading.{rows_of_text};
+ghost use Rattle.audit_check.specs.Passes.{ReadsAs, IsReplayOf};
 ghost use Rattle.commands.specs.Ends.{audited_line, AuditCommandEnds};
 ghost use Rattle.command_words.specs.Outcomes.{IsFault};
 ghost use Rattle.commands.specs.Audits.{AreAuditTexts, ReportRefuses, AuditRefuses, TextsAudited};
 
 use crate::desk_calls::{fetch_two, say};
-use audit_check::{AuditCounts, AuditError, audit as audit_lines};
+use audit_check::{AuditCounts, AuditError, Replayed, replay_text};
 use command_words::{AuditFiles, Outcome};
 use desk_outside::Desk;
 use std::alloc::{AllocError, Global};
 use totals_report::{Report, ReportError, read_report};
-use transcript_log::Transcript;
-use transcript_text::{ReadError, read};
+use transcript_text::ReadError;
 
-// The transcript of this name's bytes, or how the command ends.
-fn transcript_of<'a>(alloc: Global, name: &'a str, bytes: &[u8]) -> Result<Transcript, Outcome<'a>>
-    ensures sound { IfOk result (λ transcript. IsTranscript transcript) }
-    ensures text { IfOk result (λ transcript. bytes.now ≡ transcript_text transcript) }
-    ensures value { IfOk result (λ transcript. read_of Two bytes.now ≡ Ok transcript) }
+// What is kept of the transcript of this name's bytes, or how the command ends.
+fn replay_of<'a>(alloc: Global, name: &'a str, bytes: &[u8]) -> Result<Replayed, Outcome<'a>>
+    ensures reads { IfOk result (ReadsAs bytes.now) }
     ensures refused { (report rb : List ℕ) → IfErr result (λ outcome. AuditRefuses name.now report bytes.now rb outcome) }
     ensures no_fault { IfErr result (λ outcome. ¬ IsFault outcome) }
 {
-    match read(alloc, bytes) {
-        Ok(transcript) => Ok(transcript),
+    match replay_text(alloc, bytes) {
+        Ok(replayed) => Ok(replayed),
         Err(ReadError::Memory) => Err(Outcome::NoMemory),
         Err(fault) => Err(Outcome::BadTranscript(name, fault)),
     }
@@ -50,17 +45,17 @@ pub fn report_of<'a>(alloc: Global, name: &'a str, bytes: &[u8]) -> Result<Repor
     }
 }
 
-// The audit of a report against the transcript of this name.
+// The audit of a report against what is kept of the transcript of this name.
 fn audit_values<'a>(
     alloc: Global,
     name: &'a str,
-    transcript: &Transcript,
+    replayed: &Replayed,
     report: &Report,
 ) -> Result<AuditCounts, Outcome<'a>>
-    ensures ends { (other tb rb : List ℕ) → AreAuditTexts tb rb transcript.now report.now → TextsAudited name.now other tb rb result }
+    ensures ends { (other tb rb : List ℕ) (t : TranscriptView) → AreAuditTexts tb rb t report.now → IsReplayOf t replayed.now → TextsAudited name.now other tb rb result }
     ensures no_fault { IfErr result (λ outcome. ¬ IsFault outcome) }
 {
-    match audit_lines(alloc, transcript, report) {
+    match replayed.audit(alloc, report) {
         Ok(counts) => Ok(counts),
         Err(AuditError::Line(line)) => Err(Outcome::Impossible(name, line)),
         Err(
@@ -88,15 +83,15 @@ fn audit_texts<'a>(
     ensures ends { TextsAudited files.entry.transcript.now files.entry.report.now transcript.now report.now result }
     ensures no_fault { IfErr result (λ outcome. ¬ IsFault outcome) }
 {
-    let transcript = match transcript_of(alloc, files.transcript, transcript) {
-        Ok(transcript) => transcript,
+    let replayed = match replay_of(alloc, files.transcript, transcript) {
+        Ok(replayed) => replayed,
         Err(outcome) => return Err(outcome),
     };
     let report = match report_of(alloc, files.report, report) {
         Ok(report) => report,
         Err(outcome) => return Err(outcome),
     };
-    audit_values(alloc, files.transcript, &transcript, &report)
+    audit_values(alloc, files.transcript, &replayed, &report)
 }
 
 // The line that says how many rows and totals the report has.

@@ -13,7 +13,7 @@ ghost use Rattle.commands.specs.BillingEnds.{bills_line, BillEnds};
 ghost use Rattle.commands.specs.BillingParts.{AreBillsOf};
 
 use crate::desk_calls::{NewFile, fetch_two, put_one};
-use crate::metered::read_metered;
+use crate::files::read_metered;
 use crate::source::Source;
 use billing_read::{bills_of, bills_text};
 use command_words::{BillWords, Outcome, Period};
@@ -60,16 +60,13 @@ fn bills_of_files<'a>(
     ensures refused { IfErr result (MeteredRefuses words.entry.files.plan.now words.entry.files.readings.now plan.now readings.now) }
     ensures no_fault { IfErr result (λ outcome. ¬ IsFault outcome) }
 {
-    let (file, table) = match read_metered(
+    let (file, table) = or_fail!(read_metered(
         alloc,
         words.files.plan,
         words.files.readings,
         plan,
         readings,
-    ) {
-        Ok(both) => both,
-        Err(outcome) => return Err(outcome),
-    };
+    ));
     match bills_in(alloc, &file.plan, &table, words.period) {
         Ok(made) => Ok(made),
         Err(_) => Err(Outcome::NoMemory),
@@ -96,14 +93,8 @@ pub fn bill<'a, R: Threads + Sync, D: Desk>(
     ensures cause { IsFault result → Rose (D.faults desk.old) (D.faults desk.new) }
 {
     let files = words.files;
-    let (plan, readings) = match fetch_two(alloc, files.plan, files.readings, desk) {
-        Ok(bytes) => bytes,
-        Err(outcome) => return outcome,
-    };
-    let made = match bills_of_files(alloc, words, &plan, &readings) {
-        Ok(made) => made,
-        Err(outcome) => return outcome,
-    };
+    let (plan, readings) = or_end!(fetch_two(alloc, files.plan, files.readings, desk));
+    let made = or_end!(bills_of_files(alloc, words, &plan, &readings));
     let Ok(line) = bills_line(alloc, made.count) else {
         return Outcome::NoMemory;
     };

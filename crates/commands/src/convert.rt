@@ -32,10 +32,7 @@ pub fn convert<'a, R: Threads + Sync, D: Desk>(
     ensures later { D.faults desk.old ≤ D.faults desk.new }
     ensures cause { IsFault result → Rose (D.faults desk.old) (D.faults desk.new) }
 {
-    let bytes = match fetch(alloc, files.old, desk) {
-        Ok(bytes) => bytes,
-        Err(outcome) => return outcome,
-    };
+    let bytes = or_end!(fetch(alloc, files.old, desk));
     let transcript = match read_old(alloc, &bytes) {
         Ok(transcript) => transcript,
         Err(ReadError::Memory) => return Outcome::NoMemory,

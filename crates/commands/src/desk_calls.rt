@@ -45,14 +45,9 @@ pub fn fetch_two<'a, D: Desk>(
     ensures later { D.faults desk.old ≤ D.faults desk.new }
     ensures cause { IfErr result (λ outcome. IsFault outcome → Rose (D.faults desk.old) (D.faults desk.new)) }
 {
-    let first_bytes = match fetch(alloc, first, desk) {
-        Ok(bytes) => bytes,
-        Err(outcome) => return Err(outcome),
-    };
-    match fetch(alloc, second, desk) {
-        Ok(bytes) => Ok((first_bytes, bytes)),
-        Err(outcome) => Err(outcome),
-    }
+    let first_bytes = or_fail!(fetch(alloc, first, desk));
+    let second_bytes = or_fail!(fetch(alloc, second, desk));
+    Ok((first_bytes, second_bytes))
 }
 
 /// Says a line.
@@ -185,10 +180,8 @@ pub fn commit_one<'a, B: BegunFile + Drop, D: Desk<Begun = B>>(
     ensures later { D.faults desk.old ≤ D.faults desk.new }
     ensures cause { IsFault result → Rose (D.faults desk.old) (D.faults desk.new) }
 {
-    match commit(begun, desk) {
-        Ok(()) => say(line, desk),
-        Err(outcome) => outcome,
-    }
+    or_end!(commit(begun, desk));
+    say(line, desk)
 }
 
 /// Appends the bytes of a source to the second of two files, commits both, one after the other, once both are on the disk, and then says a
@@ -217,10 +210,8 @@ pub fn commit_two<'a, R: Threads + Sync, B: BegunFile + Drop, D: Desk<Begun = B>
     if second.fails_to_flush() {
         return commit_failed(second, desk);
     }
-    match commit(first, desk) {
-        Ok(()) => commit_one(second, line, desk),
-        Err(outcome) => outcome,
-    }
+    or_end!(commit(first, desk));
+    commit_one(second, line, desk)
 }
 
 /// Commits two files, one after the other, and then says a line.
@@ -235,10 +226,8 @@ fn commit_then<'a, B: BegunFile + Drop, D: Desk<Begun = B>>(
     ensures later { D.faults desk.old ≤ D.faults desk.new }
     ensures cause { IsFault result → Rose (D.faults desk.old) (D.faults desk.new) }
 {
-    match commit(first, desk) {
-        Ok(()) => commit_one(second, line, desk),
-        Err(outcome) => outcome,
-    }
+    or_end!(commit(first, desk));
+    commit_one(second, line, desk)
 }
 
 /// Three files that the desk has begun, in the order in which they are put.
@@ -345,10 +334,8 @@ pub fn commit_three<'a, R: Threads + Sync, B: BegunFile + Drop, D: Desk<Begun = 
     if last.fails_to_flush() {
         return commit_failed(last, desk);
     }
-    match commit(front, desk) {
-        Ok(()) => commit_then(middle, last, line, desk),
-        Err(outcome) => outcome,
-    }
+    or_end!(commit(front, desk));
+    commit_then(middle, last, line, desk)
 }
 
 /// Puts a file and then says a line.

@@ -11,7 +11,7 @@ ghost use Rattle.commands.specs.BillingEnds.{HideRefuses, HideEnds, hidden_line}
 ghost use Rattle.commands.specs.BillingParts.{hide_bytes_of, AreShort, IsOtherText, HidesPlace, HidesIn, FindsHidden};
 
 use crate::desk_calls::{NewFile, fetch, fetch_two, put_one};
-use crate::metered::read_metered;
+use crate::files::read_metered;
 use crate::source::Source;
 use billing_read::{Partner, other_world, partner};
 use command_words::{HideWords, Outcome, Place};
@@ -135,10 +135,7 @@ fn hidden_under<'a>(
     ensures ends { FindsHidden (hide_names_of words.entry.files) words.entry.period words.entry.place plan.now readings.now text.now result }
     ensures no_fault { IfErr result (λ outcome. ¬ IsFault outcome) }
 {
-    let transcript = match transcript_of(alloc, words.files.transcript, plan, text) {
-        Ok(transcript) => transcript,
-        Err(outcome) => return Err(outcome),
-    };
+    let transcript = or_fail!(transcript_of(alloc, words.files.transcript, plan, text));
     hidden_in(alloc, words, plan, readings, &transcript)
 }
 
@@ -154,16 +151,13 @@ fn hidden_of_files<'a>(
     ensures no_fault { IfErr result (λ outcome. ¬ IsFault outcome) }
 {
     let files = words.files;
-    let (file, table) = match read_metered(
+    let (file, table) = or_fail!(read_metered(
         alloc,
         files.plan,
         files.readings,
         texts.plan,
         texts.readings,
-    ) {
-        Ok(both) => both,
-        Err(outcome) => return Err(outcome),
-    };
+    ));
     hidden_under(alloc, words, &file.plan, &table, texts.transcript)
 }
 
@@ -188,23 +182,14 @@ pub fn hide<'a, R: Threads + Sync, D: Desk>(
     ensures cause { IsFault result → Rose (D.faults desk.old) (D.faults desk.new) }
 {
     let files = words.files;
-    let (plan, readings) = match fetch_two(alloc, files.plan, files.readings, desk) {
-        Ok(bytes) => bytes,
-        Err(outcome) => return outcome,
-    };
-    let transcript = match fetch(alloc, files.transcript, desk) {
-        Ok(bytes) => bytes,
-        Err(outcome) => return outcome,
-    };
+    let (plan, readings) = or_end!(fetch_two(alloc, files.plan, files.readings, desk));
+    let transcript = or_end!(fetch(alloc, files.transcript, desk));
     let texts = HideTexts {
         plan: &plan,
         readings: &readings,
         transcript: &transcript,
     };
-    let hidden = match hidden_of_files(alloc, words, texts) {
-        Ok(hidden) => hidden,
-        Err(outcome) => return outcome,
-    };
+    let hidden = or_end!(hidden_of_files(alloc, words, texts));
     let partner = hidden.partner;
     let Ok(line) = hidden_line(alloc, partner.round, partner.meter) else {
         return Outcome::NoMemory;

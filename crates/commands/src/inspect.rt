@@ -82,10 +82,7 @@ fn read_texts<'a>(
         Err(TwinError::Memory) => return Err(Outcome::NoMemory),
         Err(_) => unreachable!(),
     };
-    let report = match report_of(alloc, files.report, report) {
-        Ok(report) => report,
-        Err(outcome) => return Err(outcome),
-    };
+    let report = or_fail!(report_of(alloc, files.report, report));
     Ok((transcript, report))
 }
 
@@ -118,10 +115,10 @@ fn judge<'a>(
     ensures no_fault { IfErr result (λ outcome. ¬ IsFault outcome) }
 {
     match inspect_lines(alloc, transcript, report) {
-        Ok(found) => match check_times(alloc, name, transcript) {
-            Ok(()) => Ok(found),
-            Err(outcome) => Err(outcome),
-        },
+        Ok(found) => {
+            or_fail!(check_times(alloc, name, transcript));
+            Ok(found)
+        }
         Err(AuditError::Line(line)) => Err(Outcome::Impossible(name, line)),
         Err(
             AuditError::Row {
@@ -129,14 +126,14 @@ fn judge<'a>(
                 from_frames,
                 reported,
             },
-        ) => match check_times(alloc, name, transcript) {
-            Ok(()) => Err(Outcome::OtherRow {
+        ) => {
+            or_fail!(check_times(alloc, name, transcript));
+            Err(Outcome::OtherRow {
                 at,
                 from_frames,
                 reported,
-            }),
-            Err(outcome) => Err(outcome),
-        },
+            })
+        }
         Err(AuditError::Memory) => Err(Outcome::NoMemory),
     }
 }
@@ -152,20 +149,14 @@ fn inspect_texts<'a>(
     ensures refused { IfErr result (InspectRefuses (inspect_names_of files.entry) (inspect_bytes_of texts.entry)) }
     ensures no_fault { IfErr result (λ outcome. ¬ IsFault outcome) }
 {
-    let plan = match plan_of(alloc, files.public, texts.public) {
-        Ok(plan) => plan,
-        Err(outcome) => return Err(outcome),
-    };
-    let (transcript, report) = match read_texts(
+    let plan = or_fail!(plan_of(alloc, files.public, texts.public));
+    let (transcript, report) = or_fail!(read_texts(
         alloc,
         files,
         &plan,
         texts.transcript,
-        texts.report,
-    ) {
-        Ok(both) => both,
-        Err(outcome) => return Err(outcome),
-    };
+        texts.report
+    ));
     judge(alloc, files.transcript, &transcript, &report)
 }
 
@@ -189,23 +180,14 @@ pub fn inspect<'a, D: Desk>(alloc: Global, files: InspectFiles<'a>, desk: &mut D
     ensures later { D.faults desk.old ≤ D.faults desk.new }
     ensures cause { IsFault result → Rose (D.faults desk.old) (D.faults desk.new) }
 {
-    let (public, transcript) = match fetch_two(alloc, files.public, files.transcript, desk) {
-        Ok(bytes) => bytes,
-        Err(outcome) => return outcome,
-    };
-    let report = match fetch(alloc, files.report, desk) {
-        Ok(bytes) => bytes,
-        Err(outcome) => return outcome,
-    };
+    let (public, transcript) = or_end!(fetch_two(alloc, files.public, files.transcript, desk));
+    let report = or_end!(fetch(alloc, files.report, desk));
     let texts = InspectTexts {
         public: &public,
         transcript: &transcript,
         report: &report,
     };
-    let found = match inspect_texts(alloc, files, texts) {
-        Ok(found) => found,
-        Err(outcome) => return outcome,
-    };
+    let found = or_end!(inspect_texts(alloc, files, texts));
     let Ok(line) = line_of(alloc, found) else {
         return Outcome::NoMemory;
     };

@@ -1,18 +1,17 @@
 //! The command `load`.
 
-ghost use Rattle.std.specs.Prelude.{◌≡◌, ◌≤◌, true, None, Some, IsTrue, map};
+ghost use Rattle.std.specs.Prelude.{◌≡◌, ◌≤◌, IsTrue, map};
 ghost use Rattle.desk_outside.specs.Desk.{Rose};
 ghost use Rattle.load_maker.specs.Sizes.{is_within};
-ghost use Rattle.command_words.specs.Words.{Size};
 ghost use Rattle.command_words.specs.Commands.{size_in, name_in};
-ghost use Rattle.commands.specs.Ends.{IsMade, LoadEnds};
+ghost use Rattle.commands.specs.Ends.{LoadEnds};
 ghost use Rattle.command_words.specs.Outcomes.{IsFault};
-ghost use Rattle.commands.specs.declared.sharing.Sharing.TheVariants.{WithEach};
 
 use crate::ahead::Ahead;
 use crate::desk_calls::{begin, commit_failed, commit_one, say};
+use crate::files::read_run;
 use crate::sharing::Sharing;
-use crate::texts::{Refusal, RunInput, RunToFile, run_texts, run_to_file};
+use crate::texts::{run_texts, texts_in_memory};
 use collector_workers::Gate;
 use command_words::{LoadWords, Outcome};
 use desk_outside::{BegunFile, Desk, Readers};
@@ -21,7 +20,12 @@ use load_maker::{Made, MakeError, make};
 use std::alloc::Global;
 use std::sync::Wait;
 use std::thread::Threads;
-use tick_run::Workers;
+use tick_run::{Crew, Workers};
+
+/// What the two made files are called, which are never refused.
+const PLAN: &str = "plan";
+
+const READINGS: &str = "readings";
 
 /// Makes the two files of a size, runs them in memory, puts the transcript where it has a name, and says the summary.
 pub fn load<'a, R: Threads + Wait + Sync, D: Desk, G: Gate>(
@@ -51,85 +55,33 @@ pub fn load<'a, R: Threads + Wait + Sync, D: Desk, G: Gate>(
         Err(MakeError::Memory) => return Outcome::NoMemory,
         Err(MakeError::Range) => unreachable!(),
     };
-    let input = RunInput {
-        plan,
-        readings,
-        cupboard,
-        sharing: Sharing::WithEach,
+    let input = or_end!(read_run(alloc, PLAN, READINGS, plan, readings, cupboard));
+    let crew = Crew {
+        rt,
+        alloc,
         workers: Workers::new(words.workers),
-        is_writable: true,
+        gate,
     };
-    match words.transcript {
-        None => load_in_memory(rt, alloc, input, gate, desk),
-        Some(name) => load_to(rt, alloc, input, name, gate, desk),
-    }
-}
-
-/// Runs made files and says the summary.
-fn load_in_memory<'a, R: Threads + Wait + Sync, D: Desk, G: Gate>(
-    rt: &R,
-    alloc: Global,
-    input: RunInput,
-    gate: &G,
-    desk: &mut D,
-) -> Outcome<'a>
-    requires made { (size : Size) × IsMade size input.plan.items input.readings.items }
-    requires sharing { input.sharing ≡ WithEach }
-    requires writable { input.is_writable ≡ true }
-    ensures ends { (size : Size) → IsMade size input.plan.items input.readings.items
-        → LoadEnds (map (λ b. meaning b) input.cupboard.items) size None (D.view desk.old) (D.view desk.new) result }
-    ensures later { D.faults desk.old ≤ D.faults desk.new }
-    ensures cause { IsFault result → Rose (D.faults desk.old) (D.faults desk.new) }
-{
-    let mut nowhere: Option<Ahead<'_, '_, R, D::Begun>> = None;
-    let texts = match run_texts(rt, alloc, input, gate, &mut nowhere) {
-        Ok(texts) => texts,
-        Err(refusal) => {
-            return match refusal {
-                Refusal::Lane(fault) => Outcome::BadLane(fault),
-                Refusal::Memory => Outcome::NoMemory,
-                Refusal::Plan(_fault) => unreachable!(),
-                Refusal::Readings(_fault) => unreachable!(),
-                Refusal::Unwritable => unreachable!(),
+    let name = match words.transcript {
+        Some(name) => name,
+        None => {
+            let Ok(texts) = texts_in_memory(&crew, input) else {
+                return Outcome::NoMemory;
             };
+            return say(texts.summary.as_slice(), desk);
         }
     };
-    say(texts.summary.as_slice(), desk)
-}
-
-/// Runs made files, puts the transcript and says the summary.
-fn load_to<'a, R: Threads + Wait + Sync, D: Desk, G: Gate>(
-    rt: &R,
-    alloc: Global,
-    input: RunInput,
-    name: &'a str,
-    gate: &G,
-    desk: &mut D,
-) -> Outcome<'a>
-    requires made { (size : Size) × IsMade size input.plan.items input.readings.items }
-    requires sharing { input.sharing ≡ WithEach }
-    ensures ends { (size : Size) → IsMade size input.plan.items input.readings.items
-        → LoadEnds (map (λ b. meaning b) input.cupboard.items) size (Some name.now) (D.view desk.old) (D.view desk.new) result }
-    ensures later { D.faults desk.old ≤ D.faults desk.new }
-    ensures cause { IsFault result → Rose (D.faults desk.old) (D.faults desk.new) }
-{
     let Ok(transcript) = begin(name, Readers::Any, desk) else {
         return Outcome::NoMemory;
     };
-    let mut input = input;
-    input.is_writable = !transcript.file.has_failed();
-    let begun = Ahead::new(rt, alloc, transcript);
-    let RunToFile { ahead, texts } = run_to_file(rt, alloc, input, gate, begun);
-    let texts = match texts {
-        Ok(texts) => texts,
-        Err(refusal) => match refusal {
-            Refusal::Lane(fault) => return Outcome::BadLane(fault),
-            Refusal::Unwritable => return commit_failed(ahead.begun, desk),
-            Refusal::Memory => return Outcome::NoMemory,
-            Refusal::Plan(_fault) => unreachable!(),
-            Refusal::Readings(_fault) => unreachable!(),
-        },
+    if transcript.file.has_failed() {
+        return commit_failed(transcript, desk);
+    }
+    let ahead = Ahead::new(rt, alloc, transcript);
+    let Ok(told) = run_texts(&crew, input, Sharing::WithEach, ahead) else {
+        return Outcome::NoMemory;
     };
+    let (texts, ahead) = told;
     let transcript = ahead.finished(&texts.transcript);
     commit_one(transcript, texts.summary.as_slice(), desk)
 }

@@ -19,6 +19,7 @@ use crate::hide::hide;
 use crate::inspect::inspect;
 use crate::load::load;
 use crate::make::make;
+use crate::parts::parts;
 use crate::public::public;
 use crate::registers::registers;
 use crate::resume::resume;
@@ -60,6 +61,7 @@ fn perform<'a, R: Threads + Wait + Sync, D: Desk, G: Gate>(
         Some(Command::Load(words)) => load(rt, alloc, words, desk, cupboard, gate),
         Some(Command::Convert(files)) => convert(rt, alloc, files, desk),
         Some(Command::Public(files)) => public(rt, alloc, files, desk),
+        Some(Command::Parts(words)) => parts(alloc, words, desk),
         Some(Command::Inspect(files)) => inspect(alloc, files, desk),
         Some(Command::Bill(words)) => bill(rt, alloc, words, desk),
         Some(Command::Hide(words)) => hide(rt, alloc, words, desk),
@@ -91,7 +93,7 @@ fn status(outcome: &Outcome<'_>) -> u8
         Outcome::NoMemory => 1,
         Outcome::BadWords => 2,
         Outcome::CannotRead(_) | Outcome::TooLong(_) => 3,
-        Outcome::CannotWrite(_) | Outcome::CannotPrint => 4,
+        Outcome::CannotWrite(_) | Outcome::CannotWritePart { .. } | Outcome::CannotPrint => 4,
         Outcome::BadPlan(_, _) => 5,
         Outcome::BadReadings(_, _) => 6,
         Outcome::BadTranscript(_, _)

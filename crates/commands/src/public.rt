@@ -8,11 +8,11 @@ ghost use Rattle.command_words.specs.Outcomes.{IsFault};
 ghost use Rattle.commands.specs.Ends.{public_line, PublicRefuses, PublicEnds};
 
 use crate::desk_calls::{NewFile, fetch, put_one};
+use crate::files::plan_in;
 use crate::source::Source;
 use command_words::{Outcome, PublicFiles};
 use desk_outside::{Desk, Readers};
 use group_plan::Plan;
-use plan_files::{FileCause, PlanFile, read_plan};
 use std::alloc::{AllocError, Global};
 use std::thread::Threads;
 use transcript_log::Transcript;
@@ -47,22 +47,6 @@ fn public_text(alloc: Global, plan: &Plan) -> Result<Vec<u8>, AllocError>
     Ok(text)
 }
 
-// What the bytes of this name's plan file say, or how the command ends.
-fn plan_in<'a>(alloc: Global, name: &'a str, bytes: &[u8]) -> Result<PlanFile, Outcome<'a>>
-    requires { length bytes.now ≤ 2 ^ 28 }
-    ensures value { IfOk result (λ file. plan_of bytes.now ≡ Ok (view_of file)) }
-    ensures refused { IfErr result (λ outcome. PublicRefuses name.now bytes.now outcome) }
-    ensures no_fault { IfErr result (λ outcome. ¬ IsFault outcome) }
-{
-    match read_plan(alloc, bytes) {
-        Ok(file) => Ok(file),
-        Err(fault) => match fault.cause {
-            FileCause::Memory => Err(Outcome::NoMemory),
-            _ => Err(Outcome::BadPlan(name, fault)),
-        },
-    }
-}
-
 // The line that says how many groups and rounds the plan has.
 #[tactic(auto, unfolding(crate::specs::Ends::public_line))]
 fn public_line(alloc: Global, groups: usize, rounds: u32) -> Result<String, AllocError>
@@ -82,14 +66,8 @@ pub fn public<'a, R: Threads + Sync, D: Desk>(
     ensures later { D.faults desk.old ≤ D.faults desk.new }
     ensures cause { IsFault result → Rose (D.faults desk.old) (D.faults desk.new) }
 {
-    let bytes = match fetch(alloc, files.plan, desk) {
-        Ok(bytes) => bytes,
-        Err(outcome) => return outcome,
-    };
-    let file = match plan_in(alloc, files.plan, &bytes) {
-        Ok(file) => file,
-        Err(outcome) => return outcome,
-    };
+    let bytes = or_end!(fetch(alloc, files.plan, desk));
+    let file = or_end!(plan_in(alloc, files.plan, &bytes));
     let Ok(text) = public_text(alloc, &file.plan) else {
         return Outcome::NoMemory;
     };

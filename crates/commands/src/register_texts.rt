@@ -1,36 +1,70 @@
-//! What `registers` makes of the bytes of its two files.
+//! The values and the texts of a run of several registers.
 
-ghost use Rattle.std.specs.Prelude.{◌≡◌, ◌*◌, ◌≤◌, ◌^◌, length, map, IfOk, List, Ok};
+ghost use Rattle.std.specs.Prelude.{◌≡◌, ◌*◌, ◌≤◌, [], ℕ, length, map, IfOk, IfErr, List, Ok};
+ghost use Rattle.link_lanes.specs.Lanes.{Meaning};
+ghost use Rattle.link_lanes.specs.Racks.{HasRoom, posts_of, slots};
 ghost use Rattle.pair_keys.specs.Keys.{table_of};
+ghost use Rattle.plan_files.specs.PlanFiles.{view_of};
 ghost use Rattle.totals_report.specs.Reading.{rows_of_text};
 ghost use Rattle.totals_report.specs.declared.row.ReportRow.{ReportRow};
-ghost use Rattle.commands.specs.RegisterEnds.{RegisterTextsEnd, AreWordsOf};
+ghost use Rattle.command_words.specs.Commands.{register_names_of};
+ghost use Rattle.command_words.specs.Outcomes.{IsFault};
+ghost use Rattle.commands.specs.Calls.{most_bytes};
+ghost use Rattle.commands.specs.RegisterEnds.{AreWordsOf, RegistersRefuse, register_texts_of};
+ghost use Rattle.commands.specs.RegisterRuns.{AreRegisterValues, RegistersMake};
 ghost use Rattle.commands.specs.RunTexts.{texts_of};
 
+use crate::files::fit_plan;
 use crate::sharing::Sharing;
-use crate::texts::{Refusal, RunTexts, finished_texts};
+use crate::texts::{RunTexts, finished_texts};
 use collector_workers::Gate;
-use link_lanes::{Lane, Rack, RackCause};
+use command_words::{Outcome, RegisterFiles};
+use link_lanes::{Lane, Rack};
 use pair_keys::KeyTable;
-use plan_files::{FileCause, Registers, read_plan, read_registers};
+use plan_files::{FileCause, PlanFile, Registers, read_registers};
 use register_words::{SideWords, register_report, side_words};
 use std::alloc::{AllocError, Global};
 use std::sync::Wait;
 use std::thread::Threads;
-use tick_run::{Crew, RunError, Workers, run_plan};
+use tick_run::{Crew, RunError, run_plan};
 use totals_report::{Report, ReportError, read_report};
 use transcript_log::Transcript;
 
-/// The bytes of the two files, and the registers, lanes and workers of the run.
+/// What the two files of a run of several registers say, and the rack with the lanes of the first.
 #[derive(Drop)]
 pub struct RegisterInput {
-    pub plan: Vec<u8>,
-    pub readings: Vec<u8>,
-    pub registers: u8,
-    pub cupboard: Vec<Box<dyn Lane>>,
-    pub workers: Workers,
-    /// Whether all names that the texts go to can be written. Where one can't, nothing is run.
-    pub is_writable: bool,
+    pub file: PlanFile,
+    pub rack: Rack,
+    pub tables: Registers,
+}
+
+/// The values of a run of so many registers. The bytes of a file are let go once they are read.
+pub fn read_register_run<'a>(
+    alloc: Global,
+    registers: u8,
+    files: RegisterFiles<'a>,
+    plan: Vec<u8>,
+    readings: Vec<u8>,
+    cupboard: Vec<Box<dyn Lane>>,
+) -> Result<RegisterInput, Outcome<'a>>
+    requires plan { length plan.items ≤ most_bytes }
+    requires readings { length readings.items ≤ most_bytes }
+    requires registers { (2 ≤ registers) × (registers ≤ 8) }
+    ensures values { IfOk result (λ run. AreRegisterValues (map (λ b. meaning b) cupboard.items) registers plan.items readings.items (record { file = view_of run.file; slots = slots (λ b. meaning b) run.rack; registers = run.tables })) }
+    ensures keys { IfOk result (λ run. (table_of run.file.keys).plan ≡ run.file.plan) }
+    ensures posts { IfOk result (λ run. posts_of run.rack ≡ []) }
+    ensures room { IfOk result (λ run. HasRoom (λ b. meaning b) run.rack) }
+    ensures refused { IfErr result (RegistersRefuse (map (λ b. meaning b) cupboard.items) registers (register_names_of files.entry) plan.items readings.items) }
+    ensures no_fault { IfErr result (λ outcome. ¬ IsFault outcome) }
+{
+    let (file, rack) = or_fail!(fit_plan(alloc, files.plan, plan, cupboard));
+    match read_registers(alloc, &file.plan, registers, &readings) {
+        Ok(tables) => Ok(RegisterInput { file, rack, tables }),
+        Err(fault) => match fault.cause {
+            FileCause::Memory => Err(Outcome::NoMemory),
+            _ => Err(Outcome::BadReadings(files.readings, fault)),
+        },
+    }
 }
 
 /// The texts of a run of several registers. Those of the transcript and of the side words are long, and made only as they are put.
@@ -78,71 +112,29 @@ fn with_words<R: Threads + Sync>(
     })
 }
 
-/// The texts of a run of register 0 of the values of the two files, with the words and the totals of all registers. The bytes of the
-/// files are let go once they are read.
+/// The texts of a run of register 0 of these values, with the words and the totals of all registers.
 pub fn register_texts<R: Threads + Wait + Sync, G: Gate>(
-    rt: &R,
-    alloc: Global,
+    crew: &Crew<'_, R, G>,
     input: RegisterInput,
-    gate: &G,
-) -> Result<RegisterTexts, Refusal>
-    requires plan { length input.plan.items ≤ 2 ^ 28 }
-    requires readings { length input.readings.items ≤ 2 ^ 28 }
-    requires registers { (2 ≤ input.registers) × (input.registers ≤ 8) }
-    ensures { RegisterTextsEnd (map (λ b. meaning b) input.cupboard.items) input.registers input.plan.items input.readings.items input.is_writable result }
+) -> Result<RegisterTexts, AllocError>
+    requires keys { (table_of input.file.keys).plan ≡ input.file.plan }
+    requires same_plan { input.tables.plan ≡ input.file.plan }
+    requires posts { posts_of input.rack ≡ [] }
+    requires room { HasRoom (λ b. meaning (b.vtable, b.value)) input.rack }
+    ensures { (cupboard : List Meaning) (count : ℕ) (p r : List ℕ) → AreRegisterValues cupboard count p r (record { file = view_of input.file; slots = slots (λ b. meaning (b.vtable, b.value)) input.rack; registers = input.tables })
+        → IfOk result (λ kept. RegistersMake cupboard count p r (register_texts_of kept)) }
 {
     let RegisterInput {
-        plan,
-        readings: table,
-        registers,
-        cupboard,
-        workers,
-        is_writable,
+        file,
+        mut rack,
+        tables,
     } = input;
-    let file = match read_plan(alloc, &plan) {
-        Ok(file) => file,
-        Err(fault) => match fault.cause {
-            FileCause::Memory => return Err(Refusal::Memory),
-            _ => return Err(Refusal::Plan(fault)),
-        },
-    };
-    drop(plan);
-    let mut rack = match Rack::fit(alloc, cupboard, file.lanes.as_slice()) {
-        Ok(rack) => rack,
-        Err(fault) => match fault.cause {
-            RackCause::Memory => return Err(Refusal::Memory),
-            _ => return Err(Refusal::Lane(fault)),
-        },
-    };
-    let tables = match read_registers(alloc, &file.plan, registers, &table) {
-        Ok(tables) => tables,
-        Err(fault) => match fault.cause {
-            FileCause::Memory => return Err(Refusal::Memory),
-            _ => return Err(Refusal::Readings(fault)),
-        },
-    };
-    drop(table);
-    if !is_writable {
-        return Err(Refusal::Unwritable);
-    }
     let _registers = tables.count();
-    let crew = Crew {
-        rt,
-        alloc,
-        workers,
-        gate,
-    };
-    let finished = match run_plan(&crew, &file.plan, tables.table(0), &file.keys, &mut rack) {
+    let finished = match run_plan(crew, &file.plan, tables.table(0), &file.keys, &mut rack) {
         Ok(finished) => finished,
-        Err(RunError::Memory) => return Err(Refusal::Memory),
+        Err(RunError::Memory) => return Err(AllocError),
     };
     drop(rack);
-    let first = match finished_texts(alloc, finished, Sharing::WithEach) {
-        Ok(texts) => texts,
-        Err(AllocError) => return Err(Refusal::Memory),
-    };
-    match with_words(rt, alloc, first, &tables, &file.keys) {
-        Ok(texts) => Ok(texts),
-        Err(AllocError) => Err(Refusal::Memory),
-    }
+    let first = finished_texts(crew.alloc, finished, Sharing::WithEach)?;
+    with_words(crew.rt, crew.alloc, first, &tables, &file.keys)
 }

@@ -7,9 +7,8 @@ ghost use Rattle.command_words.specs.Outcomes.{IsFault};
 ghost use Rattle.commands.specs.RegisterEnds.{RegistersEnds};
 
 use crate::desk_calls::{ThreeSources, begin_three, commit_three, fetch_two, first_of_three};
-use crate::register_texts::{RegisterInput, register_texts};
+use crate::register_texts::{read_register_run, register_texts};
 use crate::source::Source;
-use crate::texts::Refusal;
 use collector_workers::Gate;
 use command_words::{Outcome, RegisterWords};
 use desk_outside::Desk;
@@ -17,7 +16,7 @@ use link_lanes::Lane;
 use std::alloc::Global;
 use std::sync::Wait;
 use std::thread::Threads;
-use tick_run::Workers;
+use tick_run::{Crew, Workers};
 
 /// Fetches the plan and the readings of several registers, runs register 0, puts the transcript, the words of the other registers and
 /// the report with a total of each, and says the summary. The files are begun before the run, so that a name that can't be written is
@@ -37,30 +36,22 @@ pub fn registers<'a, R: Threads + Wait + Sync, D: Desk, G: Gate>(
     ensures cause { IsFault result → Rose (D.faults desk.old) (D.faults desk.new) }
 {
     let files = words.files;
-    let (plan, readings) = match fetch_two(alloc, files.plan, files.readings, desk) {
-        Ok(bytes) => bytes,
-        Err(outcome) => return outcome,
-    };
+    let (plan, readings) = or_end!(fetch_two(alloc, files.plan, files.readings, desk));
     let Ok(begun) = begin_three(files.transcript, files.words, files.report, desk) else {
         return Outcome::NoMemory;
     };
-    let input = RegisterInput {
-        plan,
-        readings,
-        registers: words.registers,
-        cupboard,
+    let input = or_end!(read_register_run(alloc, words.registers, files, plan, readings, cupboard));
+    if begun.has_failed() {
+        return first_of_three(begun, desk);
+    }
+    let crew = Crew {
+        rt,
+        alloc,
         workers: Workers::new(words.workers),
-        is_writable: !begun.has_failed(),
+        gate,
     };
-    let texts = match register_texts(rt, alloc, input, gate) {
-        Ok(texts) => texts,
-        Err(refusal) => match refusal {
-            Refusal::Plan(fault) => return Outcome::BadPlan(files.plan, fault),
-            Refusal::Lane(fault) => return Outcome::BadLane(fault),
-            Refusal::Readings(fault) => return Outcome::BadReadings(files.readings, fault),
-            Refusal::Unwritable => return first_of_three(begun, desk),
-            Refusal::Memory => return Outcome::NoMemory,
-        },
+    let Ok(texts) = register_texts(&crew, input) else {
+        return Outcome::NoMemory;
     };
     let sources = ThreeSources {
         first: Source::Transcript(&texts.transcript),

@@ -1,47 +1,30 @@
 //! The command `resume`.
 
-ghost use Rattle.std.specs.Prelude.{◌≡◌, ◌≢◌, ◌≤◌, map};
+ghost use Rattle.std.specs.Prelude.{◌≡◌, ◌≤◌, map};
 ghost use Rattle.desk_outside.specs.Desk.{Rose};
 ghost use Rattle.command_words.specs.Commands.{resume_names_of};
 ghost use Rattle.command_words.specs.Outcomes.{IsFault};
-ghost use Rattle.commands.specs.ResumeEnds.{RefusedAs, ResumeCommandEnds};
+ghost use Rattle.commands.specs.ResumeEnds.{ResumeCommandEnds};
 
+use crate::ahead::Ahead;
 use crate::desk_calls::{begin, commit_two, fetch, fetch_two};
-use crate::resume_texts::{ResumeInput, ResumeRefusal, resume_texts};
+use crate::files::read_run;
+use crate::resume_texts::{cut_in, resume_texts};
 use crate::run::first_failed;
 use crate::source::Source;
-use crate::texts::Refusal;
 use collector_workers::Gate;
-use command_words::{Outcome, ResumeFiles, ResumeWords};
+use command_words::{Outcome, ResumeWords};
+use cut_resume::{ResumeError, begun_bytes};
 use desk_outside::{BegunFile, Desk, Readers};
 use link_lanes::Lane;
 use std::alloc::Global;
 use std::sync::Wait;
 use std::thread::Threads;
-use tick_run::Workers;
-
-// How the command ends where what the files say is refused.
-fn refused<'a>(files: ResumeFiles<'a>, refusal: ResumeRefusal) -> Outcome<'a>
-    ensures says { RefusedAs (resume_names_of files.entry) refusal result }
-    ensures no_fault { ¬ IsFault result }
-{
-    match refusal {
-        ResumeRefusal::Files(Refusal::Plan(fault)) => Outcome::BadPlan(files.plan, fault),
-        ResumeRefusal::Files(Refusal::Lane(fault)) => Outcome::BadLane(fault),
-        ResumeRefusal::Files(Refusal::Readings(fault)) => {
-            Outcome::BadReadings(files.readings, fault)
-        }
-        ResumeRefusal::Files(Refusal::Unwritable) => Outcome::NoMemory,
-        ResumeRefusal::Files(Refusal::Memory) => Outcome::NoMemory,
-        ResumeRefusal::Cut(fault) => Outcome::BadTranscript(files.cut, fault),
-        ResumeRefusal::OtherPlan => Outcome::OtherPlan(files.cut),
-        ResumeRefusal::NotThis(line) => Outcome::NotThisRun(files.cut, line),
-        ResumeRefusal::Unwritable => Outcome::NoMemory,
-    }
-}
+use tick_run::{Crew, Workers};
 
 /// Fetches the plan, the readings and a cut transcript, goes on from it, puts the transcript and then the report, and says the summary.
-/// Both files are begun before the run, so that a name that can't be written is found then.
+/// Both files are begun before the run, so that a name that can't be written is found then, and the new transcript gets the cut's own
+/// bytes, as far as its entries go.
 pub fn resume<'a, R: Threads + Wait + Sync, D: Desk, G: Gate>(
     rt: &R,
     alloc: Global,
@@ -56,36 +39,35 @@ pub fn resume<'a, R: Threads + Wait + Sync, D: Desk, G: Gate>(
     ensures cause { IsFault result → Rose (D.faults desk.old) (D.faults desk.new) }
 {
     let files = words.files;
-    let (plan, readings) = match fetch_two(alloc, files.plan, files.readings, desk) {
-        Ok(bytes) => bytes,
-        Err(outcome) => return outcome,
-    };
-    let cut = match fetch(alloc, files.cut, desk) {
-        Ok(bytes) => bytes,
-        Err(outcome) => return outcome,
-    };
-    let Ok(mut transcript) = begin(files.transcript, Readers::Any, desk) else {
+    let (plan, readings) = or_end!(fetch_two(alloc, files.plan, files.readings, desk));
+    let text = or_end!(fetch(alloc, files.cut, desk));
+    let Ok(transcript) = begin(files.transcript, Readers::Any, desk) else {
         return Outcome::NoMemory;
     };
     let Ok(report) = begin(files.report, Readers::Any, desk) else {
         return Outcome::NoMemory;
     };
-    let input = ResumeInput {
-        plan,
-        readings,
-        cut,
-        cupboard,
+    let input = or_end!(read_run(alloc, files.plan, files.readings, plan, readings, cupboard));
+    let cut = or_end!(cut_in(alloc, files.cut, &input.file.plan, &text));
+    if transcript.file.has_failed() || report.file.has_failed() {
+        return first_failed(transcript, report, desk);
+    }
+    let ahead = Ahead::behind(rt, alloc, transcript, begun_bytes(&text, &cut), cut.len());
+    drop(text);
+    let crew = Crew {
+        rt,
+        alloc,
         workers: Workers::new(words.workers),
-        is_writable: !transcript.file.has_failed() && !report.file.has_failed(),
+        gate,
     };
-    let texts = match resume_texts(rt, alloc, input, gate) {
+    let texts = match resume_texts(&crew, input, &cut) {
         Ok(texts) => texts,
-        Err(refusal) => match refusal {
-            ResumeRefusal::Unwritable => return first_failed(transcript, report, desk),
-            _ => return refused(files, refusal),
+        Err(fault) => match fault {
+            ResumeError::NotThis(line) => return Outcome::NotThisRun(files.cut, line),
+            ResumeError::Memory => return Outcome::NoMemory,
         },
     };
-    transcript.append_source(rt, alloc, Source::Transcript(&texts.transcript));
+    let transcript = ahead.finished(&texts.transcript);
     let report_bytes = Source::Bytes(texts.report.as_slice());
     let line = texts.summary.as_slice();
     commit_two(rt, alloc, transcript, report, report_bytes, line, desk)

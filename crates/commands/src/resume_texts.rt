@@ -1,146 +1,91 @@
-//! What `resume` makes of the bytes of its three files.
+//! The cut of a run, and the texts of a run that goes on from it.
 
-ghost use Rattle.std.specs.Prelude.{◌≤◌, ◌^◌, length, map};
-ghost use Rattle.commands.specs.ResumeRuns.{CutEnds, RefusesAs, ResumeTextsEnd, resume_bytes_of};
+ghost use Rattle.std.specs.Prelude.{◌≡◌, ℕ, List, [], IfErr, IfOk};
+ghost use Rattle.link_lanes.specs.Lanes.{Meaning};
+ghost use Rattle.link_lanes.specs.Racks.{HasRoom, posts_of, slots};
+ghost use Rattle.pair_keys.specs.Keys.{table_of};
+ghost use Rattle.plan_files.specs.PlanFiles.{view_of};
+ghost use Rattle.transcript_text.specs.Spelling.{transcript_text};
+ghost use Rattle.cut_resume.specs.Cut.{completed};
+ghost use Rattle.command_words.specs.Outcomes.{IsFault};
+ghost use Rattle.commands.specs.ResumeRuns.{BeginsWith, CutEnds, CutRefused, ResumeTextsEnd};
 
+use crate::files::RunInput;
 use crate::sharing::Sharing;
-use crate::texts::{Refusal, RunTexts, finished_texts};
+use crate::texts::{RunTexts, finished_texts};
 use collector_workers::Gate;
+use command_words::Outcome;
 use cut_resume::{CutError, ResumeError, is_of_plan, read_cut, resume_plan};
 use group_plan::Plan;
-use link_lanes::{Lane, Rack, RackCause};
-use plan_files::{FileCause, read_plan, read_readings};
+use link_lanes::Lane;
 use std::alloc::{AllocError, Global};
 use std::sync::Wait;
 use std::thread::Threads;
-use tick_run::{Crew, Workers};
+use tick_run::Crew;
 use transcript_log::Transcript;
 use transcript_text::ReadError;
 
-/// The bytes of the three files, and the lanes and workers of the run.
-#[derive(Drop)]
-pub struct ResumeInput {
-    pub plan: Vec<u8>,
-    pub readings: Vec<u8>,
-    pub cut: Vec<u8>,
-    pub cupboard: Vec<Box<dyn Lane>>,
-    pub workers: Workers,
-    /// Whether all names that the texts go to can be written. Where one can't, nothing is run.
-    pub is_writable: bool,
-}
-
-/// Why no run goes on.
-#[derive(Clone, Copy)]
-pub enum ResumeRefusal {
-    /// What `run` refuses.
-    Files(Refusal),
-    /// The completed text of the cut has this fault.
-    Cut(ReadError),
-    /// The cut is one of another plan.
-    OtherPlan,
-    /// The entry of this line of the cut, counted from 1, is the first that is not on course.
-    NotThis(u64),
-    /// A name that the texts go to can't be written.
-    Unwritable,
-}
-
-// The fault of a completed text.
-fn refused_cut(fault: CutError) -> ResumeRefusal
-    ensures { RefusesAs fault result }
+// How the command ends where the completed text of the cut of this name has a fault.
+fn refused_cut<'a>(name: &'a str, fault: CutError) -> Outcome<'a>
+    ensures refused { CutRefused name.now fault result }
+    ensures no_fault { ¬ IsFault result }
 {
     match fault {
-        CutError::Head(line) => ResumeRefusal::Cut(ReadError::Head(line)),
-        CutError::Line(line) => ResumeRefusal::Cut(ReadError::Line(line)),
-        CutError::Field(line, field) => ResumeRefusal::Cut(ReadError::Field(line, field)),
-        CutError::Count(line) => ResumeRefusal::Cut(ReadError::Count(line)),
-        CutError::After(line) => ResumeRefusal::Cut(ReadError::After(line)),
-        CutError::Memory => ResumeRefusal::Files(Refusal::Memory),
+        CutError::Head(line) => Outcome::BadTranscript(name, ReadError::Head(line)),
+        CutError::Line(line) => Outcome::BadTranscript(name, ReadError::Line(line)),
+        CutError::Field(line, field) => Outcome::BadTranscript(name, ReadError::Field(line, field)),
+        CutError::Count(line) => Outcome::BadTranscript(name, ReadError::Count(line)),
+        CutError::After(line) => Outcome::BadTranscript(name, ReadError::After(line)),
+        CutError::Memory => Outcome::NoMemory,
     }
 }
 
-// The cut of a text, where it is one of the plan.
-fn cut_of(alloc: Global, plan: &Plan, text: &[u8]) -> Result<Transcript, ResumeRefusal>
-    ensures { CutEnds plan.now text.now result }
+/// The cut that the text of this name is, where it is one of the plan.
+pub fn cut_in<'a>(
+    alloc: Global,
+    name: &'a str,
+    plan: &Plan,
+    text: &[u8],
+) -> Result<Transcript, Outcome<'a>>
+    ensures ends { CutEnds name.now plan.now text.now result }
+    ensures text { IfOk result (λ cut. completed text.now ≡ transcript_text cut) }
+    ensures no_fault { IfErr result (λ outcome. ¬ IsFault outcome) }
 {
     let cut = match read_cut(alloc, text) {
         Ok(cut) => cut,
-        Err(fault) => return Err(refused_cut(fault)),
+        Err(fault) => return Err(refused_cut(name, fault)),
     };
     match is_of_plan(alloc, &cut, plan) {
         Ok(true) => Ok(cut),
-        Ok(false) => Err(ResumeRefusal::OtherPlan),
-        Err(AllocError) => Err(ResumeRefusal::Files(Refusal::Memory)),
+        Ok(false) => Err(Outcome::OtherPlan(name)),
+        Err(AllocError) => Err(Outcome::NoMemory),
     }
 }
 
-/// The texts of a run of the values of the two files that goes on from the cut of a third. The bytes of the files are let go once they
-/// are read, and the rack and the readings once the run is over.
+/// The texts of a run that goes on from a cut, which is one of its plan. The rack and the readings are let go once the run is over.
 pub fn resume_texts<R: Threads + Wait + Sync, G: Gate>(
-    rt: &R,
-    alloc: Global,
-    input: ResumeInput,
-    gate: &G,
-) -> Result<RunTexts, ResumeRefusal>
-    requires plan { length input.plan.items ≤ 2 ^ 28 }
-    requires readings { length input.readings.items ≤ 2 ^ 28 }
-    ensures { ResumeTextsEnd (map (λ b. meaning b) input.cupboard.items) (resume_bytes_of input.plan.items input.readings.items input.cut.items) input.is_writable result }
+    crew: &Crew<'_, R, G>,
+    input: RunInput,
+    cut: &Transcript,
+) -> Result<RunTexts, ResumeError>
+    requires keys { (table_of input.file.keys).plan ≡ input.file.plan }
+    requires same_plan { input.readings.plan ≡ input.file.plan }
+    requires cut { cut.now.plan ≡ input.file.plan }
+    requires posts { posts_of input.rack ≡ [] }
+    requires room { HasRoom (λ b. meaning (b.vtable, b.value)) input.rack }
+    ensures begins { IfOk result (λ kept. BeginsWith cut.now kept.transcript) }
+    ensures ends { ResumeTextsEnd (record { file = view_of input.file; slots = slots (λ b. meaning (b.vtable, b.value)) input.rack; readings = input.readings }) cut.now result }
 {
-    let ResumeInput {
-        plan,
-        readings: table,
-        cut: text,
-        cupboard,
-        workers,
-        is_writable,
+    let RunInput {
+        file,
+        mut rack,
+        readings,
     } = input;
-    let file = match read_plan(alloc, &plan) {
-        Ok(file) => file,
-        Err(fault) => match fault.cause {
-            FileCause::Memory => return Err(ResumeRefusal::Files(Refusal::Memory)),
-            _ => return Err(ResumeRefusal::Files(Refusal::Plan(fault))),
-        },
-    };
-    drop(plan);
-    let mut rack = match Rack::fit(alloc, cupboard, file.lanes.as_slice()) {
-        Ok(rack) => rack,
-        Err(fault) => match fault.cause {
-            RackCause::Memory => return Err(ResumeRefusal::Files(Refusal::Memory)),
-            _ => return Err(ResumeRefusal::Files(Refusal::Lane(fault))),
-        },
-    };
-    let readings = match read_readings(alloc, &file.plan, &table) {
-        Ok(readings) => readings,
-        Err(fault) => match fault.cause {
-            FileCause::Memory => return Err(ResumeRefusal::Files(Refusal::Memory)),
-            _ => return Err(ResumeRefusal::Files(Refusal::Readings(fault))),
-        },
-    };
-    drop(table);
-    let cut = match cut_of(alloc, &file.plan, &text) {
-        Ok(cut) => cut,
-        Err(refusal) => return Err(refusal),
-    };
-    drop(text);
-    if !is_writable {
-        return Err(ResumeRefusal::Unwritable);
-    }
-    let crew = Crew {
-        rt,
-        alloc,
-        workers,
-        gate,
-    };
-    let finished = match resume_plan(&crew, &file.plan, &readings, &file.keys, &mut rack, &cut) {
-        Ok(finished) => finished,
-        Err(fault) => match fault {
-            ResumeError::NotThis(line) => return Err(ResumeRefusal::NotThis(line)),
-            ResumeError::Memory => return Err(ResumeRefusal::Files(Refusal::Memory)),
-        },
-    };
+    let finished = resume_plan(crew, &file.plan, &readings, &file.keys, &mut rack, cut)?;
     drop(rack);
     drop(readings);
-    match finished_texts(alloc, finished, Sharing::WithEach) {
+    match finished_texts(crew.alloc, finished, Sharing::WithEach) {
         Ok(texts) => Ok(texts),
-        Err(AllocError) => Err(ResumeRefusal::Files(Refusal::Memory)),
+        Err(AllocError) => Err(ResumeError::Memory),
     }
 }

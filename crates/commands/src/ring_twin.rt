@@ -11,12 +11,12 @@ ghost use Rattle.commands.specs.RingTwins.{RingBytesCompared};
 ghost use Rattle.commands.specs.RingTwinParts.{IsDisagreement, RingTablesCompared};
 ghost use Rattle.commands.specs.TwinTexts.{AreShort, bytes_of};
 
-use crate::desk_calls::fetch_two;
-use crate::twin::{Tables, TwinTexts, put_moved, read_tables, world_refusal};
+use crate::files::plan_in;
+use crate::twin::{Tables, TwinTexts, fetch_texts, put_moved, read_tables, world_refusal};
 use command_words::{Outcome, RingTwinWords, TwinFiles};
 use desk_outside::Desk;
 use mask_stream::ChaMasks;
-use plan_files::{FileCause, PlanFile, read_plan};
+use plan_files::PlanFile;
 use sparse_masks::{RingDiffer, RingMasks, ring_offsets};
 use std::alloc::{AllocError, Global};
 use std::thread::Threads;
@@ -91,30 +91,21 @@ fn compare<'a>(
     alloc: Global,
     width: u8,
     files: TwinFiles<'a>,
-    texts: TwinTexts<'_>,
+    texts: &TwinTexts,
 ) -> Result<MovedWords, Outcome<'a>>
-    requires short { AreShort (bytes_of texts) }
-    ensures ends { RingBytesCompared width (twin_names_of files.entry) (bytes_of texts.entry) result }
+    requires short { AreShort (bytes_of texts.now) }
+    ensures ends { RingBytesCompared width (twin_names_of files.entry) (bytes_of texts.now) result }
     ensures no_fault { IfErr result (λ outcome. ¬ IsFault outcome) }
 {
-    let file = match read_plan(alloc, texts.plan) {
-        Ok(file) => file,
-        Err(fault) => match fault.cause {
-            FileCause::Memory => return Err(Outcome::NoMemory),
-            _ => return Err(Outcome::BadPlan(files.plan, fault)),
-        },
-    };
-    let tables = match read_tables(alloc, files, &file.plan, texts) {
-        Ok(tables) => tables,
-        Err(outcome) => return Err(outcome),
-    };
+    let file = or_fail!(plan_in(alloc, files.plan, &texts.plan));
+    let tables = or_fail!(read_tables(alloc, files, &file.plan, texts));
     compare_tables(
         alloc,
         width,
         files.transcript,
         &file,
         &tables,
-        texts.transcript,
+        &texts.transcript,
     )
 }
 
@@ -131,23 +122,7 @@ pub fn ring_twin<'a, R: Threads + Sync, D: Desk>(
     ensures cause { IsFault result → Rose (D.faults desk.old) (D.faults desk.new) }
 {
     let files = words.files;
-    let (plan, readings) = match fetch_two(alloc, files.plan, files.readings, desk) {
-        Ok(bytes) => bytes,
-        Err(outcome) => return outcome,
-    };
-    let (other, transcript) = match fetch_two(alloc, files.other, files.transcript, desk) {
-        Ok(bytes) => bytes,
-        Err(outcome) => return outcome,
-    };
-    let texts = TwinTexts {
-        plan: &plan,
-        readings: &readings,
-        other: &other,
-        transcript: &transcript,
-    };
-    let moved = match compare(alloc, words.width, files, texts) {
-        Ok(moved) => moved,
-        Err(outcome) => return outcome,
-    };
+    let texts = or_end!(fetch_texts(alloc, files, desk));
+    let moved = or_end!(compare(alloc, words.width, files, &texts));
     put_moved(rt, alloc, "twin", files.masks, &moved, desk)
 }

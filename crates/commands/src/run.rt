@@ -1,6 +1,6 @@
 //! The commands `run` and `ring`.
 
-ghost use Rattle.std.specs.Prelude.{◌≡◌, ◌≤◌, ◌⊎◌, [], ◌∷◌, true, map};
+ghost use Rattle.std.specs.Prelude.{◌≡◌, ◌≤◌, ◌||◌, [], ◌∷◌, true, map};
 ghost use Rattle.desk_outside.specs.Desk.{Rose};
 ghost use Rattle.command_words.specs.Words.{names_of};
 ghost use Rattle.commands.specs.Calls.{Unwritable};
@@ -9,9 +9,10 @@ ghost use Rattle.command_words.specs.Outcomes.{IsFault};
 
 use crate::ahead::Ahead;
 use crate::desk_calls::{Begun, begin, commit_failed, commit_two, fetch_two};
+use crate::files::read_run;
 use crate::sharing::Sharing;
 use crate::source::Source;
-use crate::texts::{Refusal, RunInput, RunToFile, run_to_file};
+use crate::texts::run_texts;
 use collector_workers::Gate;
 use command_words::{Outcome, RingWords, RunFiles, RunWords};
 use desk_outside::{BegunFile, Desk, Readers};
@@ -19,7 +20,7 @@ use link_lanes::Lane;
 use std::alloc::Global;
 use std::sync::Wait;
 use std::thread::Threads;
-use tick_run::Workers;
+use tick_run::{Crew, Workers};
 
 /// Fetches the plan and the readings, runs, puts the transcript and then the report, and says the summary.
 pub fn run<'a, R: Threads + Wait + Sync, D: Desk, G: Gate>(
@@ -90,36 +91,28 @@ fn run_order<'a, R: Threads + Wait + Sync, D: Desk, G: Gate>(
     ensures cause { IsFault result → Rose (D.faults desk.old) (D.faults desk.new) }
 {
     let files = order.files;
-    let (plan, readings) = match fetch_two(alloc, files.plan, files.readings, desk) {
-        Ok(bytes) => bytes,
-        Err(outcome) => return outcome,
-    };
+    let (plan, readings) = or_end!(fetch_two(alloc, files.plan, files.readings, desk));
     let Ok(transcript) = begin(files.transcript, Readers::Any, desk) else {
         return Outcome::NoMemory;
     };
     let Ok(report) = begin(files.report, Readers::Any, desk) else {
         return Outcome::NoMemory;
     };
-    let input = RunInput {
-        plan,
-        readings,
-        cupboard,
-        sharing: order.sharing,
+    let input = or_end!(read_run(alloc, files.plan, files.readings, plan, readings, cupboard));
+    if transcript.file.has_failed() || report.file.has_failed() {
+        return first_failed(transcript, report, desk);
+    }
+    let crew = Crew {
+        rt,
+        alloc,
         workers: Workers::new(order.workers),
-        is_writable: !transcript.file.has_failed() && !report.file.has_failed(),
+        gate,
     };
-    let begun = Ahead::new(rt, alloc, transcript);
-    let RunToFile { ahead, texts } = run_to_file(rt, alloc, input, gate, begun);
-    let texts = match texts {
-        Ok(texts) => texts,
-        Err(refusal) => match refusal {
-            Refusal::Plan(fault) => return Outcome::BadPlan(files.plan, fault),
-            Refusal::Lane(fault) => return Outcome::BadLane(fault),
-            Refusal::Readings(fault) => return Outcome::BadReadings(files.readings, fault),
-            Refusal::Unwritable => return first_failed(ahead.begun, report, desk),
-            Refusal::Memory => return Outcome::NoMemory,
-        },
+    let ahead = Ahead::new(rt, alloc, transcript);
+    let Ok(told) = run_texts(&crew, input, order.sharing, ahead) else {
+        return Outcome::NoMemory;
     };
+    let (texts, ahead) = told;
     let transcript = ahead.finished(&texts.transcript);
     let report_bytes = Source::Bytes(texts.report.as_slice());
     let line = texts.summary.as_slice();
@@ -132,7 +125,7 @@ pub(crate) fn first_failed<'a, B: BegunFile + Drop, D: Desk<Begun = B>>(
     second: Begun<'a, B>,
     desk: &mut D,
 ) -> Outcome<'a>
-    requires { (B.failed first.file ≡ true) ⊎ (B.failed second.file ≡ true) }
+    requires { (B.failed first.file || B.failed second.file) ≡ true }
     ensures ends { Unwritable (first.entry.name.now ∷ second.entry.name.now ∷ []) (D.view desk.old) (D.view desk.new) result }
     ensures later { D.faults desk.old ≤ D.faults desk.new }
     ensures cause { IsFault result → Rose (D.faults desk.old) (D.faults desk.new) }

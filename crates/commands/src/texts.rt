@@ -1,47 +1,38 @@
-//! What `run` and `ring` make of the bytes of their two files.
+//! The texts of a run.
 
-ghost use Rattle.std.specs.Prelude.{◌≡◌, ◌≤◌, ◌^◌, [], true, length, map, IfOk, IfSome, string_bytes};
+ghost use Rattle.std.specs.Prelude.{◌≡◌, ℕ, List, [], true, IfOk, string_bytes};
 ghost use Rattle.transcript_log.specs.Events.{lines_of};
 ghost use Rattle.transcript_log.specs.Transcripts.{TranscriptView};
-ghost use Rattle.commands.specs.Ahead.{IsAhead, SameFile};
+ghost use Rattle.commands.specs.Ahead.{IsAhead};
 ghost use Rattle.group_book.specs.Books.{past, shape_of};
+ghost use Rattle.link_lanes.specs.Lanes.{Meaning};
 ghost use Rattle.link_lanes.specs.Racks.{HasRoom, posts_of, slots};
 ghost use Rattle.pair_keys.specs.Keys.{table_of};
+ghost use Rattle.plan_files.specs.PlanFiles.{view_of};
 ghost use Rattle.tick_run.specs.Finished.{IsFinishedUnder};
 ghost use Rattle.totals_report.specs.Books.{summary_in};
 ghost use Rattle.totals_report.specs.Reports.{summary_text};
-ghost use Rattle.commands.specs.Runs.{IsSaidBy, least_line, words_by};
-ghost use Rattle.commands.specs.RunTexts.{TextsEnd, AreTextsOf, texts_of};
+ghost use Rattle.commands.specs.Runs.{AreValues, IsSaidBy, Makes, MakesBy, least_line, words_by};
+ghost use Rattle.commands.specs.RunTexts.{AreTextsOf, texts_of};
 
 use crate::ahead::Ahead;
+use crate::files::RunInput;
 use crate::run_ahead::run_ahead;
 use crate::sharing::Sharing;
 use collector_workers::Gate;
 use desk_outside::BegunFile;
 use group_book::Book;
 use group_plan::Readings;
-use link_lanes::{Lane, Rack, RackCause, RackError};
+use link_lanes::{Lane, Rack};
 use mask_stream::ChaMasks;
-use plan_files::{FileCause, FileError, PlanFile, read_plan, read_readings};
+use plan_files::PlanFile;
 use sparse_masks::{RingMasks, least_of_book};
 use std::alloc::{AllocError, Global};
 use std::sync::Wait;
 use std::thread::Threads;
-use tick_run::{Crew, Finished, Workers};
+use tick_run::{Crew, Finished, RunError, run_plan};
 use totals_report::{report, summary};
 use transcript_log::Transcript;
-
-/// The bytes of the two files, and the lanes of the run, its workers and which meters share mask words.
-#[derive(Drop)]
-pub struct RunInput {
-    pub plan: Vec<u8>,
-    pub readings: Vec<u8>,
-    pub cupboard: Vec<Box<dyn Lane>>,
-    pub sharing: Sharing,
-    pub workers: Workers,
-    /// Whether all names that the texts go to can be written. Where one can't, nothing is run.
-    pub is_writable: bool,
-}
 
 /// The texts of a run. That of the transcript is long, and made only as it is put.
 #[derive(Drop)]
@@ -49,21 +40,6 @@ pub struct RunTexts {
     pub transcript: Transcript,
     pub report: Vec<u8>,
     pub summary: Vec<u8>,
-}
-
-/// Why there is no run.
-#[derive(Clone, Copy)]
-pub enum Refusal {
-    /// The plan file has this fault.
-    Plan(FileError),
-    /// A lane row of the plan file gets no lane.
-    Lane(RackError),
-    /// The readings file has this fault.
-    Readings(FileError),
-    /// The files have no fault, but a name can't be written.
-    Unwritable,
-    /// Memory ran out.
-    Memory,
 }
 
 // The line of the fewest meters whose sum is open.
@@ -114,128 +90,85 @@ pub(crate) fn finished_texts(
 }
 
 // Runs a plan under the mask words that its meters share.
-fn run_shared<R: Threads + Sync, G: Gate, B: BegunFile + Send + Drop>(
+fn run_shared<'n, 'r, R: Threads + Sync, G: Gate, B: BegunFile + Send + Drop>(
     crew: &Crew<'_, R, G>,
-    file: &PlanFile,
+    plan: &PlanFile,
     readings: &Readings,
     sharing: Sharing,
     rack: &mut Rack,
-    ahead: &mut Option<Ahead<'_, '_, R, B>>,
-) -> Result<Finished, AllocError>
-    requires readings { readings.now.plan ≡ file.now.plan }
-    requires keys { (table_of file.now.keys).plan ≡ file.now.plan }
+    file: Ahead<'n, 'r, R, B>,
+) -> Result<(Finished, Ahead<'n, 'r, R, B>), AllocError>
+    requires readings { readings.now.plan ≡ plan.now.plan }
+    requires keys { (table_of plan.now.keys).plan ≡ plan.now.plan }
     requires posts { posts_of rack.old ≡ [] }
     requires room { HasRoom (λ b. meaning (b.vtable, b.value)) rack.old }
-    requires empty { IfSome ahead.old (λ a. (t : TranscriptView) → IsAhead B.has a.begun.file a.entries t) }
-    ensures finished { IfOk result (λ f. IsFinishedUnder readings.now (words_by sharing readings.now.plan (table_of file.now.keys)) (slots (λ b. meaning (b.vtable, b.value)) rack.old) f.book f.transcript) }
-    ensures file { SameFile ahead.old ahead.new (λ a. a.begun.name.now) (λ a. B.failed a.begun.file) }
-    ensures ahead { IfOk result (λ f. IfSome ahead.new (λ a. IsAhead B.has a.begun.file a.entries f.transcript)) }
+    requires empty { (t : TranscriptView) → IsAhead B.has file.begun.file file.entries t }
+    ensures finished { IfOk result (λ led. IsFinishedUnder readings.now (words_by sharing readings.now.plan (table_of plan.now.keys)) (slots (λ b. meaning (b.vtable, b.value)) rack.old) led.0.book led.0.transcript) }
+    ensures name { IfOk result (λ led. led.1.begun.name.now ≡ file.entry.begun.name.now) }
+    ensures ahead { IfOk result (λ led. IsAhead B.has led.1.begun.file led.1.entries led.0.transcript) }
 {
-    let words = ChaMasks::new(&file.keys);
+    let words = ChaMasks::new(&plan.keys);
     match sharing {
-        Sharing::WithEach => run_ahead(crew, readings, &words, rack, ahead),
+        Sharing::WithEach => run_ahead(crew, readings, &words, rack, file),
         Sharing::WithNeighbours(width) => {
-            let masks = RingMasks::new(&words, &file.plan, width);
-            run_ahead(crew, readings, &masks, rack, ahead)
+            let masks = RingMasks::new(&words, &plan.plan, width);
+            run_ahead(crew, readings, &masks, rack, file)
         }
     }
 }
 
-/// The texts of a run of the values of the two files. Their bytes are let go once they are read, and the rack and the readings once
-/// the run is over. Where there is a file, the text of the entries is appended to it beside the ticks, as much as there is of it then.
-pub fn run_texts<R: Threads + Wait + Sync, G: Gate, B: BegunFile + Send + Drop>(
-    rt: &R,
-    alloc: Global,
+/// The texts of a run, of which that of the entries is appended to a file beside the ticks, as much as there is of it then. The rack
+/// and the readings are let go once the run is over.
+pub fn run_texts<'n, 'r, R: Threads + Sync, G: Gate, B: BegunFile + Send + Drop>(
+    crew: &Crew<'_, R, G>,
     input: RunInput,
-    gate: &G,
-    ahead: &mut Option<Ahead<'_, '_, R, B>>,
-) -> Result<RunTexts, Refusal>
-    requires plan { length input.plan.items ≤ 2 ^ 28 }
-    requires readings { length input.readings.items ≤ 2 ^ 28 }
-    requires empty { IfSome ahead.old (λ a. (t : TranscriptView) → IsAhead B.has a.begun.file a.entries t) }
-    ensures file { SameFile ahead.old ahead.new (λ a. a.begun.name.now) (λ a. B.failed a.begun.file) }
-    ensures ahead { IfOk result (λ kept. IfSome ahead.new (λ a. IsAhead B.has a.begun.file a.entries kept.transcript)) }
-    ensures texts { TextsEnd input.sharing (map (λ b. meaning b) input.cupboard.items) input.plan.items input.readings.items input.is_writable result }
+    sharing: Sharing,
+    file: Ahead<'n, 'r, R, B>,
+) -> Result<(RunTexts, Ahead<'n, 'r, R, B>), AllocError>
+    requires keys { (table_of input.file.keys).plan ≡ input.file.plan }
+    requires same_plan { input.readings.plan ≡ input.file.plan }
+    requires posts { posts_of input.rack ≡ [] }
+    requires room { HasRoom (λ b. meaning (b.vtable, b.value)) input.rack }
+    requires empty { (t : TranscriptView) → IsAhead B.has file.begun.file file.entries t }
+    ensures name { IfOk result (λ told. told.1.begun.name.now ≡ file.entry.begun.name.now) }
+    ensures ahead { IfOk result (λ told. IsAhead B.has told.1.begun.file told.1.entries told.0.transcript) }
+    ensures texts { (cupboard : List Meaning) (p r : List ℕ) → AreValues cupboard p r (record { file = view_of input.file; slots = slots (λ b. meaning (b.vtable, b.value)) input.rack; readings = input.readings })
+        → IfOk result (λ told. MakesBy sharing cupboard p r (texts_of told.0)) }
 {
     let RunInput {
-        plan,
-        readings: table,
-        cupboard,
-        sharing,
-        workers,
-        is_writable,
+        file: plan,
+        mut rack,
+        readings,
     } = input;
-    let file = match read_plan(alloc, &plan) {
-        Ok(file) => file,
-        Err(fault) => match fault.cause {
-            FileCause::Memory => return Err(Refusal::Memory),
-            _ => return Err(Refusal::Plan(fault)),
-        },
-    };
-    drop(plan);
-    let mut rack = match Rack::fit(alloc, cupboard, file.lanes.as_slice()) {
-        Ok(rack) => rack,
-        Err(fault) => match fault.cause {
-            RackCause::Memory => return Err(Refusal::Memory),
-            _ => return Err(Refusal::Lane(fault)),
-        },
-    };
-    let readings = match read_readings(alloc, &file.plan, &table) {
-        Ok(readings) => readings,
-        Err(fault) => match fault.cause {
-            FileCause::Memory => return Err(Refusal::Memory),
-            _ => return Err(Refusal::Readings(fault)),
-        },
-    };
-    drop(table);
-    if !is_writable {
-        return Err(Refusal::Unwritable);
-    }
-    let crew = Crew {
-        rt,
-        alloc,
-        workers,
-        gate,
-    };
-    let finished = match run_shared(&crew, &file, &readings, sharing, &mut rack, ahead) {
+    let (finished, file) = or_fail!(run_shared(crew, &plan, &readings, sharing, &mut rack, file));
+    drop(rack);
+    drop(readings);
+    let texts = finished_texts(crew.alloc, finished, sharing)?;
+    Ok((texts, file))
+}
+
+/// The same of a run of which nothing is written ahead, whose meters share words with each other one.
+pub fn texts_in_memory<R: Threads + Wait + Sync, G: Gate>(
+    crew: &Crew<'_, R, G>,
+    input: RunInput,
+) -> Result<RunTexts, AllocError>
+    requires keys { (table_of input.file.keys).plan ≡ input.file.plan }
+    requires same_plan { input.readings.plan ≡ input.file.plan }
+    requires posts { posts_of input.rack ≡ [] }
+    requires room { HasRoom (λ b. meaning (b.vtable, b.value)) input.rack }
+    ensures { (cupboard : List Meaning) (p r : List ℕ) → AreValues cupboard p r (record { file = view_of input.file; slots = slots (λ b. meaning (b.vtable, b.value)) input.rack; readings = input.readings })
+        → IfOk result (λ kept. Makes cupboard p r (texts_of kept)) }
+{
+    let RunInput {
+        file: plan,
+        mut rack,
+        readings,
+    } = input;
+    let finished = match run_plan(crew, &plan.plan, &readings, &plan.keys, &mut rack) {
         Ok(finished) => finished,
-        Err(AllocError) => return Err(Refusal::Memory),
+        Err(RunError::Memory) => return Err(AllocError),
     };
     drop(rack);
     drop(readings);
-    match finished_texts(alloc, finished, sharing) {
-        Ok(texts) => Ok(texts),
-        Err(AllocError) => Err(Refusal::Memory),
-    }
-}
-
-/// What a run came to, and the file of its transcript, of which much may be written.
-#[derive(Drop)]
-pub struct RunToFile<'n, 'r, R, B: BegunFile + Drop> {
-    pub ahead: Ahead<'n, 'r, R, B>,
-    pub texts: Result<RunTexts, Refusal>,
-}
-
-/// The texts of a run, of which that of the entries is appended to a file beside the ticks, as much as there is of it then.
-pub fn run_to_file<'n, 'r, R: Threads + Wait + Sync, G: Gate, B: BegunFile + Send + Drop>(
-    rt: &R,
-    alloc: Global,
-    input: RunInput,
-    gate: &G,
-    ahead: Ahead<'n, 'r, R, B>,
-) -> RunToFile<'n, 'r, R, B>
-    requires plan { length input.plan.items ≤ 2 ^ 28 }
-    requires readings { length input.readings.items ≤ 2 ^ 28 }
-    requires empty { (t : TranscriptView) → IsAhead B.has ahead.begun.file ahead.entries t }
-    ensures name { result.ahead.begun.name.now ≡ ahead.entry.begun.name.now }
-    ensures remembers { B.failed ahead.entry.begun.file ≡ true → B.failed result.ahead.begun.file ≡ true }
-    ensures ahead { IfOk result.texts (λ kept. IsAhead B.has result.ahead.begun.file result.ahead.entries kept.transcript) }
-    ensures texts { TextsEnd input.sharing (map (λ b. meaning b) input.cupboard.items) input.plan.items input.readings.items input.is_writable result.texts }
-{
-    let mut written = Some(ahead);
-    let texts = run_texts(rt, alloc, input, gate, &mut written);
-    match written {
-        Some(ahead) => RunToFile { ahead, texts },
-        None => unreachable!(),
-    }
+    finished_texts(crew.alloc, finished, Sharing::WithEach)
 }

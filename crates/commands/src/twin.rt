@@ -7,7 +7,7 @@ ghost use Rattle.command_words.specs.Known.{IsKnown, known_in};
 ghost use Rattle.command_words.specs.declared.known.KnownMeter.{KnownMeter};
 ghost use Rattle.commands.specs.Ends.{counted_line, MovedAreSaid, TwinCommandEnds, PooledEndsAs, PooledCommandEnds};
 ghost use Rattle.command_words.specs.Outcomes.{IsFault};
-ghost use Rattle.commands.specs.TwinTexts.{AreShort, TablesEnd, bytes_of};
+ghost use Rattle.commands.specs.TwinTexts.{AreShort, TablesEnd, TextsFetched, bytes_of};
 ghost use Rattle.commands.specs.RingTwins.{RingUnrecorded, RingTwinRefuses};
 ghost use Rattle.twin_worlds.specs.declared.answers.PoolTwinError.TheVariants.{Other};
 ghost use Rattle.commands.specs.Twins.{TwinBytes};
@@ -18,6 +18,7 @@ ghost use Rattle.plan_files.specs.PlanFiles.{view_of};
 ghost use Rattle.pair_keys.specs.Keys.{table_of};
 
 use crate::desk_calls::{NewFile, fetch_two, put_one};
+use crate::files::{plan_in, readings_in};
 use crate::source::Source;
 use command_words::{Outcome, PooledWords, TwinFiles, known_sets};
 use desk_outside::{Desk, Readers};
@@ -25,7 +26,7 @@ use group_plan::{Plan, Readings};
 use ideal_masks::Differ;
 use missing_round::MeterSet;
 use pair_keys::KeyError;
-use plan_files::{FileCause, FileError, PlanFile, read_plan, read_readings};
+use plan_files::{FileCause, FileError, PlanFile};
 use std::alloc::{AllocError, Global};
 use std::thread::Threads;
 use transcript_log::Entry;
@@ -38,12 +39,12 @@ const OUTSIDE_PLAN: FileError = FileError {
 };
 
 /// The bytes of the four files.
-#[derive(Clone, Copy)]
-pub(crate) struct TwinTexts<'b> {
-    pub plan: &'b [u8],
-    pub readings: &'b [u8],
-    pub other: &'b [u8],
-    pub transcript: &'b [u8],
+#[derive(Drop)]
+pub(crate) struct TwinTexts {
+    pub plan: Vec<u8>,
+    pub readings: Vec<u8>,
+    pub other: Vec<u8>,
+    pub transcript: Vec<u8>,
 }
 
 /// Both tables of readings, the second of which is to take the place of the first.
@@ -51,6 +52,26 @@ pub(crate) struct TwinTexts<'b> {
 pub(crate) struct Tables {
     pub first: Readings,
     pub second: Readings,
+}
+
+// Fetches the four files.
+pub(crate) fn fetch_texts<'a, D: Desk>(
+    alloc: Global,
+    files: TwinFiles<'a>,
+    desk: &mut D,
+) -> Result<TwinTexts, Outcome<'a>>
+    ensures ends { TextsFetched (twin_names_of files.entry) (D.view desk.old) (D.view desk.new) result }
+    ensures later { D.faults desk.old ≤ D.faults desk.new }
+    ensures cause { IfErr result (λ outcome. IsFault outcome → Rose (D.faults desk.old) (D.faults desk.new)) }
+{
+    let (plan, readings) = or_fail!(fetch_two(alloc, files.plan, files.readings, desk));
+    let (other, transcript) = or_fail!(fetch_two(alloc, files.other, files.transcript, desk));
+    Ok(TwinTexts {
+        plan,
+        readings,
+        other,
+        transcript,
+    })
 }
 
 // The outcome of a text that isn't that of the first table, or of tables that disagree.
@@ -129,26 +150,14 @@ pub(crate) fn read_tables<'a>(
     alloc: Global,
     files: TwinFiles<'a>,
     plan: &Plan,
-    texts: TwinTexts<'_>,
+    texts: &TwinTexts,
 ) -> Result<Tables, Outcome<'a>>
-    requires short { AreShort (bytes_of texts) }
-    ensures ends { TablesEnd (twin_names_of files.entry) (bytes_of texts.entry) plan.now result }
+    requires short { AreShort (bytes_of texts.now) }
+    ensures ends { TablesEnd (twin_names_of files.entry) (bytes_of texts.now) plan.now result }
     ensures no_fault { IfErr result (λ outcome. ¬ IsFault outcome) }
 {
-    let first = match read_readings(alloc, plan, texts.readings) {
-        Ok(readings) => readings,
-        Err(fault) => match fault.cause {
-            FileCause::Memory => return Err(Outcome::NoMemory),
-            _ => return Err(Outcome::BadReadings(files.readings, fault)),
-        },
-    };
-    let second = match read_readings(alloc, plan, texts.other) {
-        Ok(readings) => readings,
-        Err(fault) => match fault.cause {
-            FileCause::Memory => return Err(Outcome::NoMemory),
-            _ => return Err(Outcome::BadReadings(files.other, fault)),
-        },
-    };
+    let first = or_fail!(readings_in(alloc, files.readings, plan, &texts.readings));
+    let second = or_fail!(readings_in(alloc, files.other, plan, &texts.other));
     Ok(Tables { first, second })
 }
 
@@ -158,17 +167,14 @@ fn compare_tables<'a>(
     files: TwinFiles<'a>,
     file: &PlanFile,
     sets: &[MeterSet],
-    texts: TwinTexts<'_>,
+    texts: &TwinTexts,
 ) -> Result<MovedWords, Outcome<'a>>
-    requires short { AreShort (bytes_of texts) }
+    requires short { AreShort (bytes_of texts.now) }
     requires keys { (table_of file.now.keys).plan ≡ file.now.plan }
-    ensures ends { (known : List KnownMeter) → IsPlanFor known (bytes_of texts.entry) (view_of file.now) sets.now → BytesPooled known (twin_names_of files.entry) (bytes_of texts.entry) result }
+    ensures ends { (known : List KnownMeter) → IsPlanFor known (bytes_of texts.now) (view_of file.now) sets.now → BytesPooled known (twin_names_of files.entry) (bytes_of texts.now) result }
     ensures no_fault { IfErr result (λ outcome. ¬ IsFault outcome) }
 {
-    let tables = match read_tables(alloc, files, &file.plan, texts) {
-        Ok(tables) => tables,
-        Err(outcome) => return Err(outcome),
-    };
+    let tables = or_fail!(read_tables(alloc, files, &file.plan, texts));
     match pooled_twin(
         alloc,
         &file.plan,
@@ -176,7 +182,7 @@ fn compare_tables<'a>(
         sets,
         &tables.first,
         &tables.second,
-        texts.transcript,
+        &texts.transcript,
     ) {
         Ok(moved) => Ok(moved),
         Err(error) => Err(refusal(files.transcript, error)),
@@ -188,20 +194,14 @@ fn compare<'a>(
     alloc: Global,
     known: &str,
     files: TwinFiles<'a>,
-    texts: TwinTexts<'_>,
+    texts: &TwinTexts,
 ) -> Result<MovedWords, Outcome<'a>>
-    requires short { AreShort (bytes_of texts) }
+    requires short { AreShort (bytes_of texts.now) }
     requires known { IsKnown known.now }
-    ensures ends { BytesPooled (known_in known.now) (twin_names_of files.entry) (bytes_of texts.entry) result }
+    ensures ends { BytesPooled (known_in known.now) (twin_names_of files.entry) (bytes_of texts.now) result }
     ensures no_fault { IfErr result (λ outcome. ¬ IsFault outcome) }
 {
-    let file = match read_plan(alloc, texts.plan) {
-        Ok(file) => file,
-        Err(fault) => match fault.cause {
-            FileCause::Memory => return Err(Outcome::NoMemory),
-            _ => return Err(Outcome::BadPlan(files.plan, fault)),
-        },
-    };
+    let file = or_fail!(plan_in(alloc, files.plan, &texts.plan));
     let sets = match known_sets(alloc, &file.plan, known) {
         Ok(Some(sets)) => sets,
         Ok(None) => return Err(Outcome::BadPlan(files.plan, OUTSIDE_PLAN)),
@@ -261,24 +261,8 @@ fn twin_for<'a, R: Threads + Sync, D: Desk>(
     ensures later { D.faults desk.old ≤ D.faults desk.new }
     ensures cause { IsFault result → Rose (D.faults desk.old) (D.faults desk.new) }
 {
-    let (plan, readings) = match fetch_two(alloc, files.plan, files.readings, desk) {
-        Ok(bytes) => bytes,
-        Err(outcome) => return outcome,
-    };
-    let (other, transcript) = match fetch_two(alloc, files.other, files.transcript, desk) {
-        Ok(bytes) => bytes,
-        Err(outcome) => return outcome,
-    };
-    let texts = TwinTexts {
-        plan: &plan,
-        readings: &readings,
-        other: &other,
-        transcript: &transcript,
-    };
-    let moved = match compare(alloc, known, files, texts) {
-        Ok(moved) => moved,
-        Err(outcome) => return outcome,
-    };
+    let texts = or_end!(fetch_texts(alloc, files, desk));
+    let moved = or_end!(compare(alloc, known, files, &texts));
     put_moved(rt, alloc, verb, files.masks, &moved, desk)
 }
 

@@ -6,6 +6,6 @@ pub returns-in-Err-fetch-clause-ends : goal.returns-in-Err-fetch-clause-ends
 returns-in-Err-fetch-clause-ends g c =
     then_unread (c.args.first.now ∷ []) (c.args.second.now ∷ []) _ _ _ _ c.in-Ok.ensures.ends.1 c.in-Err-fetch.ensures.ends
 
-pub returns-in-Ok-fetch-clause-ends : goal.returns-in-Ok-fetch-clause-ends
-returns-in-Ok-fetch-clause-ends g c =
+pub returns-clause-ends : goal.returns-clause-ends
+returns-clause-ends g c =
     two_read _ _ _ _ _ _ _ c.in-Ok.ensures.ends.0 c.in-Ok.ensures.ends.1 c.in-Ok-fetch.ensures.ends.0 c.in-Ok-fetch.ensures.ends.1

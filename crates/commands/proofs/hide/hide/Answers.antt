@@ -15,6 +15,6 @@ returns-in-Err-hidden_of_files-clause-ends g c =
 
 pub returns-clause-ends : goal.returns-clause-ends
 returns-clause-ends g c =
-    hide_ends (hide_names_of c.args.words.files) c.args.words.period c.args.words.place _ _ _ _ _ c.in-Ok-hidden_of_files.hidden _ _ _ _ _ _ _ _ c.in-Ok.ensures.ends.0 c.in-Ok.ensures.ends.1
+    hide_ends (hide_names_of c.args.words.files) c.args.words.period c.args.words.place _ _ _ _ _ c.in-Ok-hidden_of_files.value _ _ _ _ _ _ _ _ c.in-Ok.ensures.ends.0 c.in-Ok.ensures.ends.1
     c.in-Ok.ensures.ends.2 c.in-Ok-fetch.ensures.ends.0 c.in-Ok-fetch.ensures.ends.1 c.deref.ensures.value c.deref-2.ensures.value c.deref-3.ensures.value
     c.in-Ok-hidden_of_files.ensures.hidden c.as_slice.ensures.value (c.as_bytes.ensures.value ∙ c.in-Ok-hidden_line.ensures) c.put_one.ensures.ends

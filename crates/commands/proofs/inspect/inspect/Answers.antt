@@ -15,6 +15,6 @@ returns-in-Err-inspect_texts-clause-ends g c =
 
 pub returns-clause-ends : goal.returns-clause-ends
 returns-clause-ends g c =
-    inspect_ends (inspect_names_of c.args.files) _ _ _ _ _ c.in-Ok-inspect_texts.found _ _ _ _ _ _ _ c.in-Ok.ensures.ends.0 c.in-Ok.ensures.ends.1
+    inspect_ends (inspect_names_of c.args.files) _ _ _ _ _ c.in-Ok-inspect_texts.value _ _ _ _ _ _ _ c.in-Ok.ensures.ends.0 c.in-Ok.ensures.ends.1
     c.in-Ok.ensures.ends.2 c.in-Ok-fetch.ensures.ends.0 c.in-Ok-fetch.ensures.ends.1 c.deref.ensures.value c.deref-2.ensures.value c.deref-3.ensures.value
     c.in-Ok-inspect_texts.ensures.found (c.as_bytes.ensures.value ∙ c.in-Ok-line_of.ensures) c.say.ensures.ends

@@ -1,6 +1,8 @@
-use Rattle.std.proofs.Common.{refl}
+use Rattle.std.proofs.Common.{ap, sym, refl, ◌∙◌}
+use Rattle.plan_files.specs.PlanFiles.{plan_of, view_of}
 use Rattle.command_words.specs.Commands.{twin_names_of}
 use Rattle.commands.specs.TwinTexts.{bytes_of}
+use Rattle.commands.proofs.RingTwinLemmas.{ring_tables_refused}
 use Rattle.commands.proofs.RunLemmas.{plan_of_readings}
 use Rattle.commands.proofs.ring_twin.compare.Goals as goal
 
@@ -10,7 +12,16 @@ compare_tables-requires-clause-first c = plan_of_readings _ _ _ c.in-Ok-read_tab
 pub compare_tables-requires-clause-second : goal.compare_tables-requires-clause-second
 compare_tables-requires-clause-second c = plan_of_readings _ _ _ c.in-Ok-read_tables.ensures.ends.1
 
+pub returns-in-Err-read_tables-clause-ends : goal.returns-in-Err-read_tables-clause-ends
+returns-in-Err-read_tables-clause-ends c =
+    ring_tables_refused c.args.width (twin_names_of c.args.files) (bytes_of c.args.texts.now) (view_of c.in-Ok.value) _
+    (ap plan_of (sym c.deref.ensures.value) ∙ c.in-Ok.ensures.value) c.in-Err-read_tables.ensures.ends
+
 pub returns-clause-ends : goal.returns-clause-ends
 returns-clause-ends c =
-    c.compare_tables.ensures.ends (twin_names_of c.args.files) (bytes_of c.args.texts) refl refl
-    (record { plan = c.in-Ok.ensures.file; first = c.in-Ok-read_tables.ensures.ends.0; second = c.in-Ok-read_tables.ensures.ends.1 })
+    c.compare_tables.ensures.ends (twin_names_of c.args.files) (bytes_of c.args.texts.now) refl (sym c.deref-2.ensures.value)
+    (record {
+      plan = ap plan_of (sym c.deref.ensures.value) ∙ c.in-Ok.ensures.value;
+      first = c.in-Ok-read_tables.ensures.ends.0;
+      second = c.in-Ok-read_tables.ensures.ends.1;
+    })

@@ -1,38 +1,41 @@
-use Rattle.std.proofs.Common.{◌≡◌, ap, arith}
-use Rattle.tick_run.proofs.RunLemmas.{makes-none, makes-more, has-left, none-left}
-use Rattle.commands.proofs.AheadLemmas.{ahead-ticks, same-file, same-then, some-by}
+use Rattle.std.proofs.Common.{◌+◌, refl, subst, ◌∙◌}
+use Rattle.std.specs.Prelude.{Option, IfSome}
+use Rattle.transcript_log.specs.Transcripts.{TranscriptView}
+use Rattle.std.proofs.lemmas.Result.{IfOk-at_ok}
+use Rattle.tick_run.specs.Runs.{HaveMet, told_by}
+use Rattle.tick_run.proofs.RunLemmas.{makes-none}
+use Rattle.commands.specs.Ahead.{IsNext, MakesSome}
+use Rattle.commands.proofs.AheadLemmas.{ahead-ticks, makes-then}
 use Rattle.commands.proofs.run_ahead.lead.Goals as goal
 
-pub loop-init : goal.loop-init
-loop-init g c = record {
-  makes = makes-none c.args.run;
-  met = λ first met. met;
-  room = c.requires.room;
-  file = same-file _ _ c.args.ahead.now;
-  ahead = c.requires.ahead;
-}
+pub ticks-init : goal.ticks-init
+ticks-init g c = record { makes = (0, makes-none c.args.run); met = λ first met. met; room = c.requires.room; name = refl; ahead = c.requires.ahead }
 
-pub follow-requires-clause-left : goal.follow-requires-clause-left
-follow-requires-clause-left g c κs within = has-left c.loop.counter c.ticks_left-end.result c.args.run c.loop.run c.loop.invariant.makes c.ticks_left-end.ensures c.loop-test.true
-
-pub loop-preserved : goal.loop-preserved
-loop-preserved g c =
+pub ticks-preserved-in_default : goal.ticks-preserved-in_default
+ticks-preserved-in_default g c =
+    let before = c.ticks.invariant in
     let ticks = c.in_ok-run.ensures.ticks in
     record {
-      makes = makes-more c.loop.counter c.args.run c.loop.run _ c.loop.invariant.makes ticks.makes;
-      met = λ first met. ticks.met first (c.loop.invariant.met first met);
-      room = c.follow.ensures.room;
-      file = same-then _ _ c.args.ahead.now c.loop.ahead c.follow.new.ahead c.loop.invariant.file c.follow.ensures.file;
-      ahead = some-by _ _ c.follow.new.ahead (λ a ahead. ahead-ticks g.B.BegunFile.has a.begun.file a.entries 1 c.loop.run _ ticks.makes ahead) c.follow.ensures.ahead;
+      makes = (before.makes.0 + ticks.makes.count, makes-then before.makes.0 ticks.makes.count c.args.run c.ticks.run _ before.makes.1 ticks.makes.makes);
+      met = λ first met. ticks.met first (before.met first met);
+      room = c.tick_on.ensures.room;
+      name = before.name;
+      ahead = ahead-ticks g.B.BegunFile.has c.ticks.file.begun.file c.ticks.file.entries ticks.makes.count c.ticks.run _ ticks.makes.makes before.ahead;
     }
 
-pub returns-in_err-run-clause-file : goal.returns-in_err-run-clause-file
-returns-in_err-run-clause-file g c = same-then _ _ c.args.ahead.now c.loop.ahead c.follow.new.ahead c.loop.invariant.file c.follow.ensures.file
-
-pub returns-clause-over : goal.returns-clause-over
-returns-clause-over g c =
-    let at : c.loop.counter ≡ c.ticks_left-end.result = omega (arith, c.loop-test.false, c.loop.auto.counter-end) in
-    none-left c.loop.counter c.ticks_left-end.result c.args.run c.loop.run c.loop.invariant.makes c.ticks_left-end.ensures at
-
-pub returns-clause-same : goal.returns-clause-same
-returns-clause-same g c = (ap (λ v. v.readings) c.loop.invariant.makes.is, ap (λ v. v.masks) c.loop.invariant.makes.is)
+pub ticks-preserved : goal.ticks-preserved
+ticks-preserved g c =
+    let before = c.ticks.invariant in
+    let ticks = c.write_beside-written.ensures.ticks in
+    let made = IfOk-at_ok (MakesSome c.ticks.run) c.in_ok-run-2.was ticks.makes in
+    let next : IsNext c.ticks.file.entries (told_by c.ticks.run) c.in-Some.part =
+    subst (λ (o : Option TranscriptView). IfSome o (IsNext c.ticks.file.entries (told_by c.ticks.run))) c.in-Some.is c.in_ok-part.ensures
+    in
+    record {
+      makes = (before.makes.0 + made.count, makes-then before.makes.0 made.count c.args.run c.ticks.run _ before.makes.1 made.makes);
+      met = λ first met. IfOk-at_ok (λ after. HaveMet first after _ _) c.in_ok-run-2.was (ticks.met first (before.met first met));
+      room = c.write_beside-written.ensures.room;
+      name = c.write_beside-written.ensures.name ∙ before.name;
+      ahead = ahead-ticks g.B.BegunFile.has c.write_beside-written.result.0.begun.file c.write_beside-written.result.0.entries made.count c.ticks.run _ made.makes
+          (c.write_beside-written.ensures.ahead (told_by c.ticks.run) next before.ahead);
+    }

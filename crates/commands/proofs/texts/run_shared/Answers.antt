@@ -13,15 +13,15 @@ use Rattle.commands.proofs.texts.run_shared.Goals as goal
 
 pub returns-in-WithEach-clause-finished : goal.returns-in-WithEach-clause-finished
 returns-in-WithEach-clause-finished g c =
-    subst (λ (m : Masks). IfOk c.run_ahead.result (λ f. IsFinishedUnder c.args.readings.now m (slots (λ b. (goal.Lane-dyn g (b.vtable, b.value)).meaning b.value) c.args.rack.now) f.book f.transcript))
-    (c.new-words.ensures.words ∙ ap (λ (s : Sharing). words_by s c.args.readings.now.plan (table_of c.args.file.now.keys)) (sym c.in-WithEach.is))
+    subst (λ (m : Masks). IfOk c.run_ahead.result (λ led. IsFinishedUnder c.args.readings.now m (slots (λ b. (goal.Lane-dyn g (b.vtable, b.value)).meaning b.value) c.args.rack.now) led.0.book led.0.transcript))
+    (c.new-words.ensures.words ∙ ap (λ (s : Sharing). words_by s c.args.readings.now.plan (table_of c.args.plan.now.keys)) (sym c.in-WithEach.is))
     c.run_ahead.ensures.finished
 
 pub returns-in-WithNeighbours-clause-finished : goal.returns-in-WithNeighbours-clause-finished
 returns-in-WithNeighbours-clause-finished g c =
-    subst (λ (m : Masks). IfOk c.run_ahead-in-WithNeighbours.result (λ f. IsFinishedUnder c.args.readings.now m (slots (λ b. (goal.Lane-dyn g (b.vtable, b.value)).meaning b.value) c.args.rack.now) f.book f.transcript))
+    subst (λ (m : Masks). IfOk c.run_ahead-in-WithNeighbours.result (λ led. IsFinishedUnder c.args.readings.now m (slots (λ b. (goal.Lane-dyn g (b.vtable, b.value)).meaning b.value) c.args.rack.now) led.0.book led.0.transcript))
     (c.new-masks.ensures.words
-    ∙ ap (ring c.in-WithNeighbours.width c.args.file.now.plan.groups) c.new-words.ensures.words
-    ∙ ap (λ (plan : PlanView). ring c.in-WithNeighbours.width plan.groups (streams (table_of c.args.file.now.keys))) (sym c.requires.readings)
-    ∙ ap (λ (s : Sharing). words_by s c.args.readings.now.plan (table_of c.args.file.now.keys)) (sym c.in-WithNeighbours.is))
+    ∙ ap (ring c.in-WithNeighbours.width c.args.plan.now.plan.groups) c.new-words.ensures.words
+    ∙ ap (λ (plan : PlanView). ring c.in-WithNeighbours.width plan.groups (streams (table_of c.args.plan.now.keys))) (sym c.requires.readings)
+    ∙ ap (λ (s : Sharing). words_by s c.args.readings.now.plan (table_of c.args.plan.now.keys)) (sym c.in-WithNeighbours.is))
     c.run_ahead-in-WithNeighbours.ensures.finished
