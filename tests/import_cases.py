@@ -2,7 +2,7 @@
 """Tries examples/import and examples/report on tables of readings: what each fault is told as, and what good tables become.
 
     tests/import_cases.py               all cases, in a second or two
-    tests/import_cases.py --million     a table of a million lines beside them, which has to be read within 20 seconds
+    tests/import_cases.py --million     a table of a million lines too, which has to be read within 20 seconds
 
 Expected lines and files were written by hand. One line is printed for each case that goes wrong, and then how many there were.
 The exit status is 0 where none does, and else 1.
@@ -162,7 +162,7 @@ REFUSED_LINES = [
     refused("--from without an offset", "a,2012-10-12T05:00Z,1\n",
             "readings.csv line 2: the time 2012-10-12T05:00Z has an offset, unlike 2012-10-12, which was read first\n",
             [*USUAL, "--from", "2012-10-12"]),
-    refused("--until beside a round", "", "--until: the time 2012-10-12T05:10 isn't on the edge of a round of 30 minutes\n",
+    refused("--until within a round", "", "--until: the time 2012-10-12T05:10 isn't on the edge of a round of 30 minutes\n",
             [*USUAL, "--until", "2012-10-12T05:10"]),
 ]
 
@@ -334,7 +334,7 @@ MADE = [
          "meters=2 groups=1 rounds=2 readings=4 districts=1 first=2012-10-11T00:00:00+00:00 last=2012-10-12T00:00:00+00:00\n",
          {"readings.csv": "g1,0,1,3\ng1,1,2,4\n",
           "rounds.csv": "round,time\n0,2012-10-11T00:00:00+00:00\n1,2012-10-12T00:00:00+00:00\n"}),
-    Made("rounds of an hour, of a clock that is three quarters of an hour beside UTC, and names in other letters",
+    Made("rounds of an hour, of a clock that is five and three quarter hours ahead of UTC, and names in other letters",
          [*USUAL[:3], "60", *USUAL[4:]],
          {"readings.csv": "meter,time,reading\n\udce9,2012-10-12T05:00+05:45,1\nK\u00f6ln,2012-10-12T05:00+05:45,2\n"
                           "K\u00f6ln,2012-10-12T06:00+05:45,3\n"},

@@ -5,7 +5,7 @@ refused, and in how much memory.
     tests/long_rows.py [--program PROGRAM]
 
 A run is a finding where its status or its complaint is another than the rules of the file say, or where it takes more than
-64 MB beside the file's bytes. The exit status is 0 where there is no finding, and 1 where there is one.
+64 MB more than the file's bytes. The exit status is 0 where there is no finding, and 1 where there is one.
 """
 import argparse
 import os
@@ -16,7 +16,7 @@ import tempfile
 HERE = os.path.dirname(os.path.abspath(__file__))
 PROGRAM = os.path.join(HERE, "..", "crates", "meteragg", "out", "meteragg")
 SIZE = 1 << 26
-MOST_BESIDE = 64 << 20
+MOST_MORE = 64 << 20
 PIECE = 1 << 16
 
 ZEROS = b"0" * 64
@@ -84,10 +84,10 @@ def main():
             write(os.path.join(folder, name), head, filling, tail)
             came = run(program, folder)
             wanted = (status, f"meteragg: {complaint}\n")
-            beside = came[2] - SIZE
-            if came[:2] != wanted or beside > MOST_BESIDE:
+            more = came[2] - SIZE
+            if came[:2] != wanted or more > MOST_MORE:
                 findings += 1
-                print(f"{what} ({name}): status {came[0]}, {came[1]!r}, {beside >> 20} MB beside the file", file=sys.stderr)
+                print(f"{what} ({name}): status {came[0]}, {came[1]!r}, {more >> 20} MB more than the file", file=sys.stderr)
     return 1 if findings else 0
 
 

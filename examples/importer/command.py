@@ -74,7 +74,7 @@ def add_table_words(parser: argparse.ArgumentParser) -> None:
     words.add_argument("--reading", metavar="COLUMN", default="reading", help="the column with the reading (reading)")
     words.add_argument("--unit", choices=("wh", "kwh"), default="wh",
                        help="watt-hours, or kilowatt-hours with up to three decimals, which are read exactly (wh)")
-    words.add_argument("--absent", metavar="TEXT", help="what stands in place of a reading that is absent, beside nothing")
+    words.add_argument("--absent", metavar="TEXT", help="the text of a reading that is absent; an empty field is absent in any case")
     words.add_argument("--round", metavar="MINUTES", type=round_minutes, required=True,
                        help="the length of a round; each time has to be a whole number of rounds after midnight")
     words.add_argument("--offset", metavar="OFFSET", type=offset,
@@ -92,7 +92,7 @@ def add_group_words(parser: argparse.ArgumentParser) -> None:
                      " until, if it has them, are the time from which the meter is a member and that from which it no longer"
                      " is; without these, it is a member from its first reading to its last")
     way.add_argument("--group-size", metavar="METERS", type=number_in(LEAST_METERS, MOST_METERS),
-                     help="make groups of at most so many meters, in the order of their names")
+                     help="make groups of at most METERS meters, in the order of their names")
     words.add_argument("--group", metavar="COLUMN", default="group", help="the column of TABLE with the group's name (group)")
     words.add_argument("--floor", metavar="METERS", type=number_in(LEAST_METERS, MOST_METERS),
                        help="of how many homes a total has to be at least (half of the group's meters)")

@@ -34,7 +34,7 @@ class District:
 
 
 def even_groups(meters: Iterable[Meter], most: int) -> Dict[str, List[Meter]]:
-    """Groups g1, g2 and so on of at most so many meters, by the meters' names, as even as they can be."""
+    """Groups g1, g2 and so on of at most `most` meters, by the meters' names, as even as they can be."""
     ordered = sorted((meter for meter in meters if meter.may_be_member), key=lambda meter: meter.name)
     count = math.ceil(len(ordered) / most)
     bounds = [len(ordered) * at // count for at in range(count + 1)]

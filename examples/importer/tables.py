@@ -7,11 +7,11 @@ from typing import Iterator, List, Sequence, Tuple
 
 READING_BOUND = 2**40
 
-# Reading stops at so many faults, and so many of them are shown.
+# The number of faults at which reading stops, and how many of them are shown.
 MOST_FAULTS = 1000
 FAULTS_SHOWN = 10
 
-# Of a text that a message shows, so many letters.
+# How many letters of a text a message shows.
 MOST_SHOWN = 200
 
 NUMBERS = {

@@ -103,8 +103,8 @@ class Clock:
         if (moment.offset is None) != (self.usual_offset is None):
             has = "has no offset" if moment.offset is None else "has an offset"
             raise ValueError(f"the time {text} {has}, unlike {self.first_text}, which was read first")
-        number, beside = divmod(moment.instant - self.midnight, self.length)
-        if beside:
+        number, rest = divmod(moment.instant - self.midnight, self.length)
+        if rest:
             raise ValueError(f"the time {text} isn't on the edge of a round of {self.length // MINUTE} minutes")
         self.offsets.setdefault(number, moment.offset)
         self.rounds[text] = number
