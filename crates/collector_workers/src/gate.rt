@@ -17,8 +17,8 @@ pub trait Gate: Sync {
         usize::MAX
     }
 
-    /// So many entries of a transcript are enough for a part that a recorder is told; 0 counts as one. Eight where a gate says
-    /// nothing else, so that a test has several parts.
+    /// So many entries of a transcript are enough for a part whose text is made while the run goes on; 0 counts as one. Eight where a
+    /// gate says nothing else, so that a test has several parts.
     fn part(&self) -> usize {
         8
     }

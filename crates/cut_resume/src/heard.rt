@@ -14,6 +14,7 @@ use group_plan::Readings;
 use link_lanes::{Lane, Rack};
 use mask_stream::Masks;
 use std::alloc::AllocError;
+use std::sync::Wait;
 use std::thread::Threads;
 use tick_run::{Crew, Finished, Run};
 use transcript_log::Transcript;
@@ -91,7 +92,7 @@ fn has_all(cut: &Transcript, heard: Option<usize>) -> bool
 }
 
 /// Makes all ticks that are left of a run, and hears its entries as they come.
-fn lead<'a, R: Threads + Sync, M: Masks + Sync, G: Gate>(
+fn lead<'a, R: Threads + Wait + Sync, M: Masks + Sync, G: Gate>(
     run: Run<'a, R, M, G>,
     rack: &mut Rack,
     cut: &Transcript,
@@ -116,7 +117,7 @@ fn lead<'a, R: Threads + Sync, M: Masks + Sync, G: Gate>(
 }
 
 /// Runs a plan under the words of the masks, and hears whether the run begins with the entries of a cut in their order.
-pub(crate) fn run_beside<R: Threads + Sync, M: Masks + Sync, G: Gate>(
+pub(crate) fn run_beside<R: Threads + Wait + Sync, M: Masks + Sync, G: Gate>(
     crew: &Crew<'_, R, G>,
     readings: &Readings,
     masks: &M,

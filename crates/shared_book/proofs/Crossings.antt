@@ -29,6 +29,10 @@ slot_send = search (sendable, crosses, handed_send) depth 60
 pub seat_send : (S V : RattleType) → IsSend S → IsSend (Seat.the_row S V)
 seat_send S V s = record { owned = λ d vs. ((λ vss. (tt, ((λ uss. (tt, tt)), tt))), seat_keyless S s V.coded.code d.table_id d.id d.me); leaving = λ k f vs. tt }
 
+-- nothing can be done with a seat that threads share
+pub seat_sync : (S V : RattleType) → IsSend S → IsSync (Seat.the_row S V)
+seat_sync S V s = record { shared = λ d b o ν q. part_keyless (Seat.the_row S V) (seat_send S V s) q d b o }
+
 pub shared_sync : (S V K P : RattleType) (g : Ghosts P.Denot S.Denot V.Denot K.Denot) → IsSend S → IsSync (Shared.the_row S V K P g)
 shared_sync S V K P g s = let fields : IsSync (Struct (shape (Shared.the_type S V K P g))) = search sendable depth 20 in
     record { shared = λ d b o ν. (fields.shared (d.words, (d.slots, (tt, tt))) b o ν, shares_keyless S s V.coded.code d.table_id (g.holds d.key) d.words d.slots ν) }

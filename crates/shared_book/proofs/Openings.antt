@@ -8,17 +8,19 @@ use Rattle.std.specs.Prelude.{Option, Some, None, is_some, IsTrue}
 use Rattle.std.specs.List.{All, Contains}
 use Rattle.std.proofs.lemmas.List.{append-nil, length-map, length-replicate}
 use Rattle.std.proofs.lemmas.Bool.{cases_lt}
+use Rattle.std.proofs.lemmas.List.Elements.{All-head, All-tail}
 use Rattle.atomic_table.specs.Table.{State, opening, Final, Seen}
 use Rattle.transcript_log.specs.declared.Line.{Line}
 use Rattle.group_book.specs.Books.{BookView}
+use Rattle.group_book.specs.ByGroup.{lines_in}
 use Rattle.group_book.specs.Groups.{GroupView}
 use Rattle.group_book.specs.Replay.{IsLedger, IsGroup, AreReplayed}
 use Rattle.shared_book.specs.declared.turn.Turn.{Turn}
 use Rattle.shared_book.specs.declared.turn.View.{View}
 use Rattle.shared_book.specs.declared.handed.Handed.{Handed}
-use Rattle.shared_book.specs.Slots.{pages_in, HavePages}
+use Rattle.shared_book.specs.Slots.{pages_in, HavePages, last_in, AreNew}
 use Rattle.shared_book.specs.Turns.{IsLegal, turns_by, journal_after}
-use Rattle.shared_book.specs.Law.{Stands, Kept, Leads, AtHome, IsOut, alive, total}
+use Rattle.shared_book.specs.Law.{Stands, Kept, Leads, HasAllOf, AtHome, IsOut, alive, total}
 use Rattle.shared_book.specs.Opened.{newcomer}
 use Rattle.shared_book.specs.Ends.{AreOfJoined}
 use Rattle.shared_book.proofs.Views.{total_two, is_bool, alive_one}
@@ -51,9 +53,15 @@ none_set zero g = refl
 none_set (suc n) zero = refl
 none_set (suc n) (suc g) = none_set n g
 
-pub opens : (o : BookView) (slots : List (Option Handed)) (groups : List GroupView) → AreReplayed o.presence o.journal groups → HavePages slots groups
+-- no pass has handed back the pages in a slot
+new_at : (slots : List (Option Handed)) (g : ℕ) (h : Handed) → AreNew slots → get_elem? (map some slots) g ≡ some (some (Some h)) → h.last ≡ None
+new_at [] g h new at = absurd (some-ne-none (some (Some h)) (sym at))
+new_at (x ∷ ss) zero h new at = subst (λ (y : Option Handed). last_in y ≡ None) (some-injective x (Some h) (some-injective (some x) (some (Some h)) at)) (All-head (λ slot. last_in slot ≡ None) x ss new)
+new_at (x ∷ ss) (suc g) h new at = new_at ss g h (All-tail (λ slot. last_in slot ≡ None) x ss new) at
+
+pub opens : (o : BookView) (slots : List (Option Handed)) (groups : List GroupView) → AreReplayed o.presence o.journal groups → HavePages slots groups → AreNew slots
     → Kept o (opening (replicate (length o.presence.plan.groups) 0) slots (newcomer o 0 []))
-opens o slots groups are have =
+opens o slots groups are have new =
     let v : View = newcomer o 0 [] in
     let only : (i : ℕ) (x : View) → get_elem? (v ∷ []) i ≡ some x → (i ≡ 0) × (v ≡ x) = only_one v in
     let none_held : (i g : ℕ) (x : View) → get_elem? (v ∷ []) i ≡ some x → x.held ≢ Some g = λ i g x e q. let k : x.held ≡ None = ap (λ (y : View). y.held) (sym (only i x e).1) in cc in record {
@@ -90,6 +98,7 @@ opens o slots groups are have =
             found.0,
             found.1,
             subst (λ (j : List Line). IsGroup o.presence j g found.0.pages) (sym (append-nil o.journal)) (subst (IsGroup o.presence o.journal g) found.2 (are.each g found.0.pages lt)),
+            subst (HasAllOf o [] (v ∷ []) g) (sym (new_at slots g found.0 new found.1)) (ap (lines_in g) (append-nil o.journal)),
           );
     }
 

@@ -14,7 +14,7 @@ use Rattle.shared_book.specs.declared.turn.View.{View}
 use Rattle.shared_book.specs.Turns.{IsLegal, turns_by}
 use Rattle.shared_book.specs.Law.{total, alive, Holds, Leads, Tells, AtHome, IsOut, Kept, Mine, learnt, Learns}
 use Rattle.shared_book.specs.Opened.{parent, child, met, spent}
-use Rattle.shared_book.proofs.Views.{total_set, total_two, alive_one, inside, stay, spent_stays, apart_stay, out_stays, tells_stay, leads_stay, whole_of}
+use Rattle.shared_book.proofs.Views.{total_set, total_two, alive_one, inside, stay, spent_stays, apart_stay, out_stays, tells_stay, leads_stay, whole_of, all_of_stays, all_of_longer}
 
 at_end : (l : List View) (a : View) (j : ℕ) (b : View) → get_elem? (l ++ a ∷ []) j ≡ some b → (get_elem? l j ≡ some b) ⊎ ((j ≡ length l) × (a ≡ b))
 at_end [] a zero b e = inr (refl, some-injective a b e)
@@ -93,7 +93,7 @@ splits o id v live first free quiet s r at =
           (λ j x e p. let t = tells_stay r.log r.log s.views id v w at live (λ q. absurd (cc)) (λ _ h. h) (λ _ _. refl) r.tells j x e p in
           record { told = t.told; mine = t.mine; out = t.out; view = t.view; at = at_longer vs (c ∷ []) x.told_by t.view t.at; spent = t.spent })
           (λ p. absurd (cc));
-      slot = λ k kt. ⊎_elim (λ (q : AtHome o r.log s k). inl q)
+      slot = λ k kt. ⊎_elim (λ (q : AtHome o r.log s k). inl (q.0, q.1, q.2, q.3, all_of_longer o r.log vs c k q.1.last (all_of_stays o r.log r.log s.views id k v w q.1.last at live refl (λ _ same. same) q.4)))
           (λ (q : IsOut s k). let p = out_stays s id k v w s.words at (not_held k) q in inr (p.0, p.1, at_longer vs (c ∷ []) p.0 p.1 p.2, p.3)) (r.slot k kt);
     }
 
@@ -173,7 +173,13 @@ joins o id v other u live first free quiet lives empty s r at ne eo =
             spent = refl;
           })
           (λ k y _ q p. moved y (r.tells k y q p)) j x e);
-      slot = λ k kt. ⊎_elim (λ (q : AtHome o r.log s k). inl q)
+      slot = λ k kt. ⊎_elim (λ (q : AtHome o r.log s k). inl (
+        q.0,
+        q.1,
+        q.2,
+        q.3,
+        all_of_stays o r.log r.log vs other k u spent q.1.last eo lives refl (λ l. absurd (cc)) (all_of_stays o r.log r.log s.views id k v b q.1.last at live refl (λ _ same. same) q.4),
+      ))
           (λ (q : IsOut s k). inr (out_stays (record { words = s.words; homes = s.homes; views = vs }) other k u spent s.words eo (not_theirs k) (out_stays s id k v b s.words at (not_held k) q)))
           (r.slot k kt);
     }
@@ -204,7 +210,7 @@ learns o slots id m live first free pending s r _ at _ =
         unmade = λ n l. r.unmade n (let k = length-set s.views id w in omega arith);
         leads = leads_stay r.log r.log s.views id v w at live refl refl refl refl refl (λ _ _. refl) r.leads (stay (λ j x. j ≡ 0 → x.out ≡ 0 → x.pending ≡ false → x.seen ≡ r.log) s.views id w (λ _ _ _. refl) (λ j x _ e z. whole_of s r j x e z));
         tells = tells_stay r.log r.log s.views id v w at live (λ p. absurd (cc)) (λ _ h. h) (λ _ _. refl) r.tells;
-        slot = λ k kt. ⊎_elim (λ (q : AtHome o r.log s k). inl (word_same k 0 q.0, q.1, q.2, q.3)) (λ (q : IsOut s k). inr (out_stays s id k v w (set s.words 0 (get_or s.words 0 0)) at (not_held k) q)) (r.slot k kt);
+        slot = λ k kt. ⊎_elim (λ (q : AtHome o r.log s k). inl (word_same k 0 q.0, q.1, q.2, q.3, all_of_stays o r.log r.log s.views id k v w q.1.last at live refl (λ _ _. refl) q.4)) (λ (q : IsOut s k). inr (out_stays s id k v w (set s.words 0 (get_or s.words 0 0)) at (not_held k) q)) (r.slot k kt);
       },
       (r.log, refl, mine.seen, told.told, told.mine, ap (λ (n : ℕ). turns_by n r.log) mine.number ∙ mine.mine, subst (λ (x : BookView). IsLegal x r.log) (sym mine.opening) r.legal, told.out, λ n h ne. (lead.gone n h).3 (λ _. ne)),
     )

@@ -16,10 +16,10 @@ use Rattle.shared_book.specs.declared.turn.Turn.{Turn}
 use Rattle.shared_book.specs.declared.turn.View.{View}
 use Rattle.shared_book.specs.declared.handed.Handed.{Handed}
 use Rattle.shared_book.specs.Turns.{StartsWith, IsLegal, turn, turns_of, turns_by}
-use Rattle.shared_book.specs.Law.{alive, Stands, Holds, AtHome, IsOut, Kept, Mine, holding, done_with, Takes, Tries, NextIs, added, Gives, GivesBack}
+use Rattle.shared_book.specs.Law.{alive, Stands, HasAllOf, Holds, AtHome, IsOut, Kept, Mine, holding, done_with, Takes, Tries, NextIs, added, Gives, GivesBack}
 use Rattle.shared_book.specs.Rests.{IsCarried, marked, carried}
 use Rattle.shared_book.proofs.Ledgers.{SameOf, legal_added, same_added, same_elsewhere, stands_same}
-use Rattle.shared_book.proofs.Views.{total_two, alive_one, inside, stay, leads_stay, apart_stay, tells_stay, out_stays, whole_of, word_here, word_else, held_same}
+use Rattle.shared_book.proofs.Views.{total_two, alive_one, inside, stay, leads_stay, apart_stay, tells_stay, out_stays, whole_of, word_here, word_else, held_same, all_of_stays, own_all}
 
 -- ---- out
 
@@ -41,8 +41,8 @@ takes_nothing o slots id g m s r at n = (
 
 -- the pages are at home, in this slot
 takes_one : (o : BookView) (slots id g : ℕ) (m : Mine) → m.0.live ≡ true → m.0.held ≡ None → m.1 ≡ [] → g < length o.presence.plan.groups → (s : State (Option Handed) View) (r : Kept o s) → get_elem? s.views id ≡ some m.0
-    → get_or s.words g 0 ≡ 0 → (h : Handed) → get_elem? s.homes g ≡ some (some (Some h)) → Stands o r.log g h.pages → TriesAt o slots id g m s 1
-takes_one o slots id g m live free none_out lt s r at now h home stands =
+    → get_or s.words g 0 ≡ 0 → (h : Handed) → get_elem? s.homes g ≡ some (some (Some h)) → Stands o r.log g h.pages → HasAllOf o r.log s.views g h.last → TriesAt o slots id g m s 1
+takes_one o slots id g m live free none_out lt s r at now h home stands all =
     let v : View = m.0 in
     let mine = (r.each id v at).0 live in
     let w : View = holding v g r.log in
@@ -81,7 +81,7 @@ takes_one o slots id g m live free none_out lt s r at now h home stands =
         slot = λ k kt. dite (ℕ_discrete k g)
             (λ (z : k ≡ g). inr (id, w, set_here s.views id w (inside s.views id v at), ap Some (sym z)))
             (λ (n : k ≢ g). ⊎_elim
-            (λ (q : AtHome o r.log s k). inl (word_else s.words g k 1 n ∙ q.0, q.1, set_else s.homes g k none n ∙ q.2, q.3))
+            (λ (q : AtHome o r.log s k). inl (word_else s.words g k 1 n ∙ q.0, q.1, set_else s.homes g k none n ∙ q.2, q.3, all_of_stays o r.log r.log s.views id k v w q.1.last at live refl (λ _ _. refl) q.4))
             (λ (q : IsOut s k). inr (out_stays s id k v w (set s.words g 1) at (not_held k) q))
             (r.slot k kt));
       },
@@ -93,13 +93,14 @@ takes_one o slots id g m live free none_out lt s r at now h home stands =
         ap (λ (n : ℕ). turns_by n r.log) mine.number ∙ mine.mine,
         subst (λ (b : BookView). Stands b r.log g h.pages) (sym mine.opening) stands,
         λ z. sym (whole_of s r id v at (sym mine.number ∙ z.0) z.1 z.2),
+        λ own. subst (λ (b : BookView). SameOf b g r.log v.seen) (sym mine.opening) (own_all o r.log s.views id g v h.last at live mine.number mine.seen all own),
       ),
     )
 
 takes_if_home : (o : BookView) (slots id g : ℕ) (m : Mine) → m.0.live ≡ true → m.0.held ≡ None → m.1 ≡ [] → g < length o.presence.plan.groups → (s : State (Option Handed) View) (r : Kept o s) → get_elem? s.views id ≡ some m.0
     → get_or s.words g 0 ≡ 0 → TriesAt o slots id g m s 1
 takes_if_home o slots id g m live free none_out lt s r at now = ⊎_elim
-    (λ (q : AtHome o r.log s g). takes_one o slots id g m live free none_out lt s r at now q.1 q.2 q.3)
+    (λ (q : AtHome o r.log s g). takes_one o slots id g m live free none_out lt s r at now q.1 q.2 q.3 q.4)
     (λ (q : IsOut s g). let one = r.out q.0 g q.1 q.2 q.3 in absurd (omega arith))
     (r.slot g lt)
 
@@ -202,10 +203,15 @@ gives_of o slots id g v h live held slot_lt next s r slots_are at _ =
             let a = alive_one x lead.live in let b = alive_one v live in let c = lead.out in absurd (omega arith)));
         tells = tells_stay r.log log s.views id v w at live (λ p. (p, refl, refl, refl, refl, refl)) (λ told q. starts_more r.log told turns q) others r.tells;
         slot = λ k kt. dite (ℕ_discrete k g)
-            (λ (z : k ≡ g). inl (subst (AtHome o log (stepped s g 0 id ((g, Some h) ∷ []) w gives)) (sym z)
-            (word_here s.words g 0 within, h, set_here s.homes g (some (Some h)) home_within, stands_same o g (v.seen ++ turns) log h.pages stands legal (same_added o g v.number r.log v.seen own same))))
+            (λ (z : k ≡ g). inl (subst (AtHome o log (stepped s g 0 id ((g, Some h) ∷ []) w gives)) (sym z) (
+              word_here s.words g 0 within,
+              h,
+              set_here s.homes g (some (Some h)) home_within,
+              stands_same o g (v.seen ++ turns) log h.pages stands legal (same_added o g v.number r.log v.seen own same),
+              subst (HasAllOf o log (set s.views id w) g) (sym next.2) (w, ap (get_elem? (set s.views id w)) number ∙ set_here s.views id w (inside s.views id v at), λ _. refl),
+            )))
             (λ (n : k ≢ g). ⊎_elim
-            (λ (q : AtHome o r.log s k). inl (word_else s.words g k 0 n ∙ q.0, q.1, set_else s.homes g k (some (Some h)) n ∙ q.2, stands_same o k r.log log q.1.pages q.3 legal (elsewhere k n)))
+            (λ (q : AtHome o r.log s k). inl (word_else s.words g k 0 n ∙ q.0, q.1, set_else s.homes g k (some (Some h)) n ∙ q.2, stands_same o k r.log log q.1.pages q.3 legal (elsewhere k n), all_of_stays o r.log log s.views id k v w q.1.last at live (elsewhere k n) (λ _ _. refl) q.4))
             (λ (q : IsOut s k). inr (out_stays s id k v w (set s.words g 0) at (λ e. n (held_same e held)) q))
             (r.slot k kt));
       },

@@ -30,24 +30,25 @@ use Rattle.shared_book.specs.declared.parcel.CommitError.TheVariants.{Frame, Tak
 use Rattle.shared_book.specs.declared.turn.Turn.{Turn}
 use Rattle.shared_book.specs.Parcels.{Judged, Accepted, RefusedFrame, Outside, judged_beside, judged_request, group_in, IsOutside}
 use Rattle.shared_book.specs.Turns.{IsLegal, StartsWith, journal_after, turn, turns_of, turns_by}
-use Rattle.shared_book.specs.Law.{Stands, Mine, Takes, holding}
+use Rattle.shared_book.specs.Law.{Stands, Mine, Takes, IsOwn, holding}
 use Rattle.shared_book.specs.Rests.{Rests, PutsBack}
-use Rattle.shared_book.specs.Passes.{PassView, known, ChecksOut, ChecksIn, Sees, Refuses, CommitEnds, SamePass}
+use Rattle.shared_book.specs.Passes.{PassView, known, ChecksOut, ChecksIn, IsUnchanged, Sees, Refuses, CommitEnds, SamePass}
 use Rattle.shared_book.specs.Writes.{Writes, Leaves, WriteEnds}
 use Rattle.shared_book.proofs.Ledgers.{SameOf, journal-turns}
 use Rattle.shared_book.proofs.Steps.{turns_more}
 
 -- ---- out and in
 
-pub checked_out : (o : BookView) (g : ℕ) (m m1 m2 : Mine) (pages : GroupView) → Rests m → m.0.opening ≡ o → Takes m g m1
-    → ((h : Handed) → m1.1 ≡ (g, Some h) ∷ [] → (pages ≡ h.pages) × (m2 ≡ (m1.0, (g, None) ∷ [])))
-    → Rests m2 × (m2.0.opening ≡ o) × ChecksOut o (known m.0) g pages (known m2.0)
-checked_out o g m m1 m2 pages rests opens t f =
+pub checked_out : (o : BookView) (g : ℕ) (m m1 m2 : Mine) (handed : Handed) → Rests m → m.0.opening ≡ o → Takes m g m1
+    → ((h : Handed) → m1.1 ≡ (g, Some h) ∷ [] → (handed ≡ h) × (m2 ≡ (m1.0, (g, None) ∷ [])))
+    → Rests m2 × (m2.0.opening ≡ o) × ChecksOut o (known m.0) g handed.pages (known m2.0) × (IsOwn m.0.number handed.last → IsUnchanged o (known m.0) g (known m2.0))
+checked_out o g m m1 m2 handed rests opens t f =
     let found = f t.1 (ap (λ (x : Mine). x.1) t.2) in
     let x : Mine = (holding m.0 g t.0, (g, None) ∷ []) in
     let is : m2 ≡ x = found.1 ∙ ap (λ (y : Mine). let z : Mine = (y.0, (g, None) ∷ []) in z) t.2 in
-    let P : Mine → Type 0 = λ y. Rests y × (y.0.opening ≡ o) × ChecksOut o (known m.0) g pages (known y.0) in
-    let stands : Stands o t.0 g pages = subst (λ (b : BookView). Stands b t.0 g pages) opens (subst (Stands m.0.opening t.0 g) (sym found.0) t.5) in
+    let pages : GroupView = handed.pages in
+    let P : Mine → Type 0 = λ y. Rests y × (y.0.opening ≡ o) × ChecksOut o (known m.0) g pages (known y.0) × (IsOwn m.0.number handed.last → IsUnchanged o (known m.0) g (known y.0)) in
+    let stands : Stands o t.0 g pages = subst (λ (b : BookView). Stands b t.0 g pages) opens (subst (λ (k : Handed). Stands m.0.opening t.0 g k.pages) (sym found.0) t.5) in
     subst P (sym is) (
       (refl, rests.1, rests.2),
       opens,
@@ -60,6 +61,7 @@ checked_out o g m m1 m2 pages rests opens t f =
         stands = stands;
         alone = λ z. t.6 (z.0, z.1, rests.2);
       },
+      λ own. subst (λ (b : BookView). SameOf b g t.0 m.0.seen) opens (t.7 (subst (λ (k : Handed). IsOwn m.0.number k.last) found.0 own)),
     )
 
 pub checked_in : (o : BookView) (g : ℕ) (m m1 : Mine) (lines : List Line) → Rests m → m.0.opening ≡ o → PutsBack m.0 g lines m1

@@ -1,17 +1,23 @@
 -- What stays of the views of passes where one of them changes.
-use Rattle.std.proofs.Common.{◌≡◌, ◌≢◌, ◌<◌, ◌≤◌, ◌+◌, ◌⊎◌, ℕ, zero, suc, Bool, true, false, List, [], ◌∷◌, length, set, get_or, sym, refl, ap, ◌∙◌, subst, arith, inl, inr, ⊎_elim, length-set}
+use Rattle.std.proofs.Common.{◌≡◌, ◌≢◌, ◌<◌, ◌≤◌, ◌+◌, ◌⊎◌, ℕ, zero, suc, Bool, true, false, List, [], ◌∷◌, length, set, get_or, sym, refl, ap, ◌∙◌, subst, arith, inl, inr, ⊎_elim, length-set, length-append, ◌++◌}
 use Rattle.std.specs.List.{Contains}
-use Rattle.std.specs.Prelude.{Option, Some}
+use Rattle.std.specs.Prelude.{Option, Some, None}
+use Rattle.std.proofs.lemmas.List.{append-nil}
+use mathlib.Core.Logic.{dite}
 use mathlib.Core.Option.{some, some-injective, some-ne-none}
+use native.Mathlib.Decide.{ℕ_discrete}
 use lib.ListN.{get_elem?}
 use Rattle.atomic_table.specs.Table.{State}
-use Rattle.atomic_table.proofs.Lists.{at_set, set_else}
+use Rattle.atomic_table.proofs.Lists.{at_set, at_longer, set_here, set_else}
 use Rattle.shared_book.specs.declared.turn.Turn.{Turn}
 use Rattle.group_book.specs.Books.{BookView}
+use Rattle.group_book.specs.ByGroup.{lines_in}
+use Rattle.transcript_log.specs.declared.Line.{Line}
 use Rattle.shared_book.specs.declared.turn.View.{View}
 use Rattle.shared_book.specs.declared.handed.Handed.{Handed}
-use Rattle.shared_book.specs.Turns.{turns_by, StartsWith}
-use Rattle.shared_book.specs.Law.{total, alive, Fits, Holds, Leads, Tells, IsOut, Kept}
+use Rattle.shared_book.specs.Turns.{turns_by, lines_of, journal_after, StartsWith}
+use Rattle.shared_book.specs.Law.{total, alive, Fits, Holds, Leads, Tells, HasAllOf, IsOwn, IsOut, Kept}
+use Rattle.shared_book.proofs.Ledgers.{SameOf, journal-append, lines_in-append}
 
 pub is_bool : (b : Bool) → (b ≡ true) ⊎ (b ≡ false)
 is_bool true = inl refl
@@ -153,3 +159,48 @@ held_same {g} {h} e f = unwrapped g h (sym e ∙ f)
 
 pub whole_of : {o : BookView} (s : State (Option Handed) View) (r : Kept o s) (j : ℕ) (x : View) → get_elem? s.views j ≡ some x → j ≡ 0 → x.out ≡ 0 → x.pending ≡ false → x.seen ≡ r.log
 whole_of s r j x e z q p = (r.leads x (subst (λ (n : ℕ). get_elem? s.views n ≡ some x) z e)).whole q p
+
+-- ---- what is known of a group
+
+-- a history with no more of a group than at the opening has no more of it than any that it begins with
+nothing_more : (xs ys zs : List Line) → (xs ++ ys) ++ zs ≡ xs → xs ++ ys ≡ xs
+nothing_more xs ys zs e =
+    let all : length ((xs ++ ys) ++ zs) ≡ length xs = ap length e in
+    let one = length-append (xs ++ ys) zs in
+    let two = length-append xs ys in
+    ap (λ (l : List Line). xs ++ l) (none_left ys (omega arith)) ∙ append-nil xs
+  where
+    none_left : (ys : List Line) → length ys ≡ 0 → ys ≡ []
+    none_left [] z = refl
+    none_left (y ∷ ys) z = absurd (omega arith)
+
+pub none_since : (o : BookView) (g : ℕ) (log seen : List Turn) → StartsWith log seen → lines_in g (journal_after o log) ≡ lines_in g o.journal → lines_in g (journal_after o log) ≡ lines_in g (journal_after o seen)
+none_since o g log seen s none =
+    let here : lines_in g (journal_after o log) ≡ (lines_in g o.journal ++ lines_in g (lines_of seen)) ++ lines_in g (lines_of s.0)
+    = ap (λ (l : List Turn). lines_in g (journal_after o l)) s.1 ∙ ap (lines_in g) (journal-append o seen s.0) ∙ lines_in-append g (journal_after o seen) (lines_of s.0)
+    ∙ ap (λ (l : List Line). l ++ lines_in g (lines_of s.0)) (lines_in-append g o.journal (lines_of seen)) in
+    none ∙ sym (lines_in-append g o.journal (lines_of seen) ∙ nothing_more (lines_in g o.journal) (lines_in g (lines_of seen)) (lines_in g (lines_of s.0)) (sym here ∙ none))
+
+-- it stays, where the history has no more of the group, and an unspent pass changes that then has as much of it as there is, if it had
+pub all_of_stays : (o : BookView) (log log' : List Turn) (vs : List View) (me g : ℕ) (v w : View) (last : Option ℕ) → get_elem? vs me ≡ some v → v.live ≡ true → SameOf o g log' log
+    → (w.live ≡ true → SameOf o g log v.seen → SameOf o g log' w.seen) → HasAllOf o log vs g last → HasAllOf o log' (set vs me w) g last
+all_of_stays o log log' vs me g v w None at live same mine k = same ∙ k
+all_of_stays o log log' vs me g v w (Some i) at live same mine k = dite (ℕ_discrete i me)
+    (λ (e : i ≡ me).
+    let is : k.0 ≡ v = some-injective k.0 v (sym k.1 ∙ (ap (get_elem? vs) e ∙ at)) in
+    let has : SameOf o g log v.seen = subst (λ (x : View). SameOf o g log x.seen) is (k.2 (ap (λ (x : View). x.live) is ∙ live)) in
+    (w, ap (get_elem? (set vs me w)) e ∙ set_here vs me w (inside vs me v at), λ l. mine l has))
+    (λ (n : i ≢ me). (k.0, set_else vs me i w n ∙ k.1, λ l. same ∙ k.2 l))
+
+-- and where a pass is new
+pub all_of_longer : (o : BookView) (log : List Turn) (vs : List View) (c : View) (g : ℕ) (last : Option ℕ) → HasAllOf o log vs g last → HasAllOf o log (vs ++ c ∷ []) g last
+all_of_longer o log vs c g None k = k
+all_of_longer o log vs c g (Some i) k = (k.0, at_longer vs (c ∷ []) i k.0 k.1, k.2)
+
+-- the last pass has seen all of the group
+pub own_all : (o : BookView) (log : List Turn) (vs : List View) (id g : ℕ) (v : View) (last : Option ℕ) → get_elem? vs id ≡ some v → v.live ≡ true → v.number ≡ id → StartsWith log v.seen
+    → HasAllOf o log vs g last → IsOwn v.number last → SameOf o g log v.seen
+own_all o log vs id g v None at live number seen k own = none_since o g log v.seen seen k
+own_all o log vs id g v (Some i) at live number seen k own =
+    let is : k.0 ≡ v = some-injective k.0 v (sym k.1 ∙ (ap (get_elem? vs) (own ∙ number) ∙ at)) in
+    subst (λ (x : View). SameOf o g log x.seen) is (k.2 (ap (λ (x : View). x.live) is ∙ live))

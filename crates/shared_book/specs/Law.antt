@@ -65,9 +65,14 @@ pub record Tells (log : List Turn) (views : List View) (v : View) : Type 0 where
 abbrev pub HasAll : View → Type 0
 HasAll v = (v.number ≡ 0) × (v.out ≡ 0) × (v.pending ≡ false)
 
--- the pages of a group are in their place, and stand for the history
+-- the last pass that has handed the pages of a group back has seen all that there is of the group; where none has, the group has no more than at the opening
+abbrev pub HasAllOf : BookView → List Turn → List View → ℕ → Option ℕ → Type 0
+HasAllOf o log views g None = lines_in g (journal_after o log) ≡ lines_in g o.journal
+HasAllOf o log views g (Some i) = (x : View) × (get_elem? views i ≡ some x) × (x.live ≡ true → lines_in g (journal_after o log) ≡ lines_in g (journal_after o x.seen))
+
+-- the pages of a group are in their place, and stand for the history; it is known who handed them back
 abbrev pub AtHome : BookView → List Turn → State (Option Handed) View → ℕ → Type 0
-AtHome o log s g = (slice_index s.words g ≡ 0) × (h : Handed) × (get_elem? s.homes g ≡ some (some (Some h))) × Stands o log g h.pages
+AtHome o log s g = (slice_index s.words g ≡ 0) × (h : Handed) × (get_elem? s.homes g ≡ some (some (Some h))) × Stands o log g h.pages × HasAllOf o log s.views g h.last
 
 -- the pages of a group are out with a pass
 abbrev pub IsOut : State (Option Handed) View → ℕ → Type 0
@@ -102,10 +107,17 @@ holding v g seen = record v { held = Some g; seen = seen }
 abbrev pub done_with : View → List Turn → View
 done_with v seen = record v { held = None; seen = seen; mine = turns_by v.number seen }
 
--- the pass has the slot of a group, with pages that stand for a history that begins with what it had seen
+-- pages were last handed back by the pass with this number, or by none
+abbrev pub IsOwn : ℕ → Option ℕ → Type 0
+IsOwn n None = Unit {0}
+IsOwn n (Some i) = i ≡ n
+
+-- the pass has the slot of a group, with pages that stand for a history that begins with what it had seen. Where no other pass has handed them back last,
+-- the history has no more of the group than what the pass had seen
 abbrev pub Takes : Mine → ℕ → Mine → Type 0
 Takes m g m' = (seen : List Turn) × (h : Handed) × (m' ≡ (holding m.0 g seen, (g, Some h) ∷ [])) × StartsWith seen m.0.seen × (turns_by m.0.number seen ≡ m.0.mine)
     × Stands m.0.opening seen g h.pages × (HasAll m.0 → seen ≡ m.0.seen)
+    × (IsOwn m.0.number h.last → lines_in g (journal_after m.0.opening seen) ≡ lines_in g (journal_after m.0.opening m.0.seen))
 
 -- the pages were at home, and the pass has them; or they were not
 abbrev pub Tries : Step (Option Handed) → Mine → ℕ → Mine → Type 0
@@ -115,9 +127,9 @@ Tries st m r m' = MatchBool (r == 0) (Takes m st.word m') (m' ≡ m)
 abbrev pub added : Handed → List Line
 added h = drop h.from h.lines.value.items
 
--- the pages stand for what the pass has seen and for its lines, which are all of the group
+-- the pages stand for what the pass has seen and for its lines, which are all of the group, and have its number
 abbrev pub NextIs : View → ℕ → Handed → Type 0
-NextIs v g h = All (λ l. group_of (event_of l) ≡ g) (added h) × Stands v.opening (v.seen ++ turns_of v.number (added h)) g h.pages
+NextIs v g h = All (λ l. group_of (event_of l) ≡ g) (added h) × Stands v.opening (v.seen ++ turns_of v.number (added h)) g h.pages × (h.last ≡ Some v.number)
 
 -- the pass's lines were added to a history that begins with what it had seen, and has the same of the group
 pub record Gives (v : View) (g : ℕ) (lines : List Line) (before : List Turn) : Type 0 where

@@ -59,6 +59,10 @@ pub record ChecksOut (o : BookView) (v : PassView) (g : ℕ) (pages : GroupView)
   pub stands : Stands o w.seen g pages
   pub alone : IsAlone v → w.seen ≡ v.seen
 
+-- what the pass has seen has no more of a group than what it had seen
+abbrev pub IsUnchanged : BookView → PassView → ℕ → PassView → Type 0
+IsUnchanged o v g w = lines_in g (journal_after o w.seen) ≡ lines_in g (journal_after o v.seen)
+
 -- the pass has no pages. Its lines are the last ones of a legal history, which begins with what it had seen, and of which nobody else made a commit
 -- in the group since
 pub record ChecksIn (o : BookView) (v : PassView) (g : ℕ) (lines : List Line) (w : PassView) : Type 0 where

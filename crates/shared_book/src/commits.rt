@@ -1,13 +1,13 @@
 //! Commits on a shared book: the pages of a group are checked out, events are made on them, and they are checked in with the
 //! lines of these.
 
-ghost use Rattle.std.specs.Prelude.{◌≡◌, ◌<◌, ◌≤◌, ◌+◌, ◌++◌, All, Some, None, Ok, drop, length};
+ghost use Rattle.std.specs.Prelude.{◌≡◌, ◌<◌, ◌≤◌, ◌+◌, ◌++◌, All, Some, None, Ok, true, drop, length};
 ghost use Rattle.transcript_log.specs.Events.{event_of};
 ghost use Rattle.group_book.specs.ByGroup.{group_of};
 ghost use Rattle.shared_book.specs.Parcels.{group_in, request_of, IsOutside};
 ghost use Rattle.shared_book.specs.Turns.{turns_of};
 ghost use Rattle.shared_book.specs.Law.{Stands};
-ghost use Rattle.shared_book.specs.Passes.{ChecksOut, ChecksIn, CommitEnds};
+ghost use Rattle.shared_book.specs.Passes.{ChecksOut, ChecksIn, CommitEnds, IsUnchanged};
 ghost use Rattle.shared_book.specs.Ends.{opening, view, IsPassOf};
 
 use crate::handed::Handed;
@@ -30,7 +30,28 @@ impl SharedBook {
         ensures pass { IsPassOf self.now pass.new }
         ensures ends { ChecksOut (opening self.now) (view pass.old) group result (view pass.new) }
     {
-        take_pages(rt, &self.table.shared, &mut pass.seat, group as usize)
+        let (pages, _own) = self.check_out_own(rt, pass, group);
+        pages
+    }
+
+    /// Checks the pages of a group out, as `check_out` does, and says whether no pass but this one has ever checked them in, or has last:
+    /// then there is no more of the group than the pass had seen.
+    pub fn check_out_own<R: Wait>(&self, rt: &R, pass: &mut Pass, group: u16) -> (GroupPages, bool)
+        requires pass { IsPassOf self.now pass.old }
+        requires free { (view pass.old).held ≡ None }
+        requires group { group < length (opening self.now).presence.plan.groups }
+        ensures pass { IsPassOf self.now pass.new }
+        ensures ends { ChecksOut (opening self.now) (view pass.old) group result.0 (view pass.new) }
+        ensures own { result.1 ≡ true → IsUnchanged (opening self.now) (view pass.old) group (view pass.new) }
+    {
+        let number = pass.number;
+        take_pages(
+            rt,
+            &self.table.shared,
+            &mut pass.seat,
+            group as usize,
+            number,
+        )
     }
 
     /// Checks the pages of a group in, with the lines of the commits that the pass made on them: those of a list from a place on.
@@ -47,6 +68,7 @@ impl SharedBook {
             pages,
             lines: Snapshot::of(lines),
             from,
+            last: Some(pass.number),
         };
         put_pages(&self.table.shared, &mut pass.seat, group, handed);
     }

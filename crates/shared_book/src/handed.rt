@@ -2,7 +2,7 @@
 
 ghost use Rattle.std.specs.Prelude.{◌≡◌, ◌<◌, ◌≤◌, ◌+◌, [], false, Some, length, vec_len, vec_capacity, slice_index_or, All, is_some, IsTrue, ℕ};
 ghost use Rattle.std.specs.Mem.Slots.{slots_items, slots_filled, slots_len, IsFull};
-ghost use Rattle.shared_book.specs.Slots.{pages_in, HavePages};
+ghost use Rattle.shared_book.specs.Slots.{pages_in, HavePages, AreNew};
 
 use atomic_table::Closed;
 use group_book::GroupPages;
@@ -10,12 +10,14 @@ use std::alloc::Global;
 use std::snapshot::Snapshot;
 use transcript_log::Lines;
 
-/// The pages of a group, and the lines that were handed back with them: those of a list from a place on.
+/// The pages of a group, and the lines that were handed back with them: those of a list from a place on. Where a pass has handed them
+/// back, they have the number of the last one that did.
 #[derive(Drop)]
 pub struct Handed {
     pub pages: GroupPages,
     pub lines: Snapshot<Lines>,
     pub from: usize,
+    pub last: Option<u32>,
 }
 
 /// The pages in a slot that has some.
@@ -32,13 +34,15 @@ fn pages_in(slot: Option<Handed>) -> GroupPages
 pub(crate) fn put_in(groups: Vec<GroupPages>, slots: &mut Vec<Option<Handed>>, none: &Lines)
     requires empty { (slots.old.items ≡ []) × (vec_len slots.old ≡ 0) }
     requires room { length groups.items ≤ vec_capacity slots.old }
-    ensures { HavePages slots.new.items groups.items }
+    ensures pages { HavePages slots.new.items groups.items }
+    ensures new { AreNew slots.new.items }
 {
     for pages in groups {
         slots.push_reserved(Some(Handed {
             pages,
             lines: Snapshot::of(none),
             from: 0,
+            last: None,
         }));
     }
 }

@@ -2,9 +2,9 @@
 
 ghost use Rattle.std.specs.Prelude.{◌≡◌, ◌<◌, ◌∷◌, [], true, Some, None};
 ghost use Rattle.shared_book.specs.declared.handed.Handed.{Handed as HandedView};
-ghost use Rattle.shared_book.specs.Law.{Takes, NextIs, added};
+ghost use Rattle.shared_book.specs.Law.{Takes, IsOwn, NextIs, added};
 ghost use Rattle.shared_book.specs.Rests.{Rests, PutsBack};
-ghost use Rattle.shared_book.specs.Passes.{known, ChecksOut, ChecksIn};
+ghost use Rattle.shared_book.specs.Passes.{known, ChecksOut, ChecksIn, IsUnchanged};
 
 use crate::handed::Handed;
 use crate::law::{HandBack, Key, Law, TakeOut};
@@ -50,18 +50,27 @@ fn take_slot<R: Wait>(rt: &R, shelf: &Shelf, seat: &mut Seat<Option<Handed>, Vie
     unreachable!()
 }
 
-/// The pages in the slot that was taken.
-fn pages_in(shelf: &Shelf, seat: &mut Seat<Option<Handed>, View>, group: usize) -> GroupPages
+/// What lies in the slot that was taken.
+fn handed_in(shelf: &Shelf, seat: &mut Seat<Option<Handed>, View>, group: usize) -> Handed
     requires table { seat.old.table_id ≡ shelf.now.table_id }
     requires slot { (h : HandedView) × (seat.old.me.1 ≡ (group, Some h) ∷ []) }
     ensures seat { (seat.new.table_id ≡ seat.old.table_id) × (seat.new.id ≡ seat.old.id) }
-    ensures pages { (h : HandedView) → seat.old.me.1 ≡ (group, Some h) ∷ [] → (result ≡ h.pages) × (seat.new.me ≡ (seat.old.me.0, (group, None) ∷ [])) }
+    ensures handed { (h : HandedView) → seat.old.me.1 ≡ (group, Some h) ∷ [] → (result ≡ h) × (seat.new.me ≡ (seat.old.me.0, (group, None) ∷ [])) }
 {
     let Some(handed) = shelf.exchange(seat, group, None) else {
         unreachable!()
     };
-    let Handed { pages, .. } = handed;
-    pages
+    handed
+}
+
+/// Whether what was handed back last was so by the pass with this number, or by none.
+fn is_own(last: Option<u32>, number: u32) -> bool
+    ensures { result ≡ true → IsOwn number last }
+{
+    match last {
+        Some(by) => by == number,
+        None => true,
+    }
 }
 
 /// Puts the pages of a group back into their slot, with their lines, and gives the slot back.
@@ -77,23 +86,28 @@ fn put_back(shelf: &Shelf, seat: &mut Seat<Option<Handed>, View>, group: usize, 
     shelf.store::<HandBack>(seat, group, HOME);
 }
 
-/// Waits until the pages of a group are at home, and takes them out.
+/// Waits until the pages of a group are at home, and takes them out. Says whether no other pass than that with this number has handed
+/// them back last.
 pub(crate) fn take_pages<R: Wait>(
     rt: &R,
     shelf: &Shelf,
     seat: &mut Seat<Option<Handed>, View>,
     group: usize,
-) -> GroupPages
+    number: u32,
+) -> (GroupPages, bool)
     requires table { seat.old.table_id ≡ shelf.now.table_id }
     requires group { (group < shelf.now.table_id.words) × (group < shelf.now.table_id.slots) }
     requires rests { Rests seat.old.me × (seat.old.me.0.held ≡ None) }
+    requires number { seat.old.me.0.number ≡ number }
     ensures seat { (seat.new.table_id ≡ seat.old.table_id) × (seat.new.id ≡ seat.old.id) }
     ensures rests { Rests seat.new.me }
     ensures opening { seat.new.me.0.opening ≡ seat.old.me.0.opening }
-    ensures ends { ChecksOut seat.old.me.0.opening (known seat.old.me.0) group result (known seat.new.me.0) }
+    ensures ends { ChecksOut seat.old.me.0.opening (known seat.old.me.0) group result.0 (known seat.new.me.0) }
+    ensures own { result.1 ≡ true → IsUnchanged seat.old.me.0.opening (known seat.old.me.0) group (known seat.new.me.0) }
 {
     take_slot(rt, shelf, seat, group);
-    pages_in(shelf, seat, group)
+    let Handed { pages, last, .. } = handed_in(shelf, seat, group);
+    (pages, is_own(last, number))
 }
 
 /// Puts the pages of a group back, which the pass has.

@@ -1,10 +1,11 @@
 -- A tick of one group, step by step.
-use Rattle.std.proofs.Common.{◌≡◌, ℕ, ◌+◌, ◌-◌, ◌<◌, Bool, true, false, cond, List, [], ◌∷◌, ◌++◌, length, map, get_or, refl, sym, ap, ◌∙◌, subst, append_assoc, append-nil, arith}
-use Rattle.std.specs.Prelude.{◌==◌, nat_lt, if◌then◌else◌, Some, Vec}
+use Rattle.std.proofs.Common.{◌≡◌, ℕ, ◌+◌, ◌-◌, ◌<◌, ◌≤◌, Bool, true, false, cond, List, [], ◌∷◌, ◌++◌, length, map, take, drop, get_or, refl, sym, ap, ◌∙◌, subst, append_assoc, append-nil, arith}
+use Rattle.std.specs.Prelude.{◌==◌, nat_lt, if◌then◌else◌, Some, None, Vec}
 use Rattle.std.specs.declared.alloc.Global.{Global}
 use Rattle.std.specs.List.{filter, flat_map, range_with_len, count_by, All}
 use Rattle.std.proofs.lemmas.Bool.{and_from, lt-ltb}
-use Rattle.std.proofs.lemmas.List.{map-append}
+use Rattle.std.proofs.lemmas.List.{length-append, map-append}
+use Rattle.std.proofs.Math.Seq.{take-append_seam, drop-append_seam}
 use Rattle.std.proofs.lemmas.List.Elements.{All-weaker, All-head, All-tail, All-nil, All-cons, All-append, All-map}
 use Rattle.missing_round.specs.Masks.{Masks}
 use Rattle.group_plan.specs.Plans.{PlanView, size, is_place}
@@ -17,11 +18,12 @@ use Rattle.meter_frames.specs.Frames.{IsFrame, FitsKind}
 use Rattle.transcript_log.specs.declared.Event.{Event}
 use Rattle.transcript_log.specs.declared.Event.TheVariants.{Take}
 use Rattle.transcript_log.specs.declared.Line.{Line}
+use Rattle.transcript_log.specs.declared.Line.TheVariants.{Send as SendLine, Take as TakeLine, Close as CloseLine, End as EndLine}
 use Rattle.transcript_log.specs.declared.Entry.{Entry}
 use Rattle.transcript_log.specs.Drafts.{quiet}
 use Rattle.transcript_log.specs.Events.{event_of, lines_of}
 use Rattle.transcript_log.specs.Journal.{past_of, HasFramesOf}
-use Rattle.transcript_log.specs.Lines.{LinesView}
+use Rattle.transcript_log.specs.Lines.{LinesView, HasOwnTag}
 use Rattle.group_plan.specs.declared.Kind.TheVariants.{Announcement}
 use Rattle.transcript_log.specs.Schedule.{Shape, members_of, is_announced, survivors, missing}
 use Rattle.transcript_log.specs.Transcript.{Contents, frame}
@@ -46,7 +48,7 @@ use Rattle.plan_meters.proofs.SpellingLemmas.{frame_in-is}
 use Rattle.run_rows.proofs.TickRun.{all_member}
 use Rattle.tick_run.specs.declared.group_tick.GroupWork.{GroupWork}
 use Rattle.tick_run.specs.Batches.{CanTake, Batched}
-use Rattle.tick_run.specs.GroupRuns.{Calls, IsTakeable, takes_of, send_line, AreSendable, SendsAll, posted_all, sent_with, script_of, book_with, IsGroupAt, entries_then, GroupTicks}
+use Rattle.tick_run.specs.GroupRuns.{Calls, IsTakeable, takes_of, send_line, AreSendable, SendsAll, posted_all, sent_with, script_of, book_with, taken_in, closed_in, sends_in, IsGroupAt, entries_then, GroupTicks}
 use Rattle.tick_run.specs.Jobs.{announcements_due}
 use Rattle.tick_run.specs.Progress.{IsDelay, KeepSets, past_of_entries, sending}
 use Rattle.tick_run.specs.Running.{starting, emptied, taken, closed, sending_at, run_contents, AreRunning, AreCopiesDue, HaveCome, HaveEvents, calls_of, calls_due}
@@ -69,12 +71,12 @@ use Rattle.tick_run.proofs.TickLoop.{frames_at, due-of_plan, frames-due, frames-
 -- ---- the copies
 
 -- with the copies of the last tick's frames on their way and those of this tick off the link, the run goes on
-pub group-begun : (readings : ReadingsView) (m : Masks) (t : ℕ) (entries : List Entry) (fates : List (List ℕ)) (work : GroupWork) (off left : List Arrival) (copies : List (List ℕ))
-    → IsGroupAt readings m t entries fates work → off ≡ posted_all (t - 1) work.frames.items fates work.link → left ≡ due_elsewhere t off → copies ≡ due_at t off
-    → AreRunning readings m (work.pages.group ∷ []) (emptied t) (book_with readings entries) (script_of readings entries) left × HaveCome t entries copies
-group-begun readings m t entries fates work off left copies at posted elsewhere due =
-    emptied-of readings m (work.pages.group ∷ []) t (book_with readings entries) (script_of readings entries) off left copies
-    (subst (λ (l : List Arrival). AreRunning readings m (work.pages.group ∷ []) (starting t) (book_with readings entries) (script_of readings entries) l) (sym posted) at.running) elsewhere due
+pub group-begun : (readings : ReadingsView) (m : Masks) (t : ℕ) (entries : List Entry) (fates : List (List ℕ)) (kept : GroupView) (work : GroupWork) (off left : List Arrival) (copies : List (List ℕ))
+    → IsGroupAt readings m t entries fates kept work → off ≡ posted_all (t - 1) work.frames.items fates work.link → left ≡ due_elsewhere t off → copies ≡ due_at t off
+    → AreRunning readings m (kept.group ∷ []) (emptied t) (book_with readings entries) (script_of readings entries) left × HaveCome t entries copies
+group-begun readings m t entries fates kept work off left copies at posted elsewhere due =
+    emptied-of readings m (kept.group ∷ []) t (book_with readings entries) (script_of readings entries) off left copies
+    (subst (λ (l : List Arrival). AreRunning readings m (kept.group ∷ []) (starting t) (book_with readings entries) (script_of readings entries) l) (sym posted) at.running) elsewhere due
 
 -- ---- the Takes
 
@@ -307,14 +309,14 @@ own_quiet t g added own = All-map (λ e. group_of (event_of e.line) ≡ g) (quie
 -- ---- the tick
 
 -- with its fates a group stands before the next tick
-pub group-next : (readings : ReadingsView) (m : Masks) (t g : ℕ) (es : List Entry) (waiting : List Arrival) (tags : List Tag) (fates : List (List ℕ)) (after : GroupWork)
+pub group-next : (readings : ReadingsView) (m : Masks) (t g : ℕ) (es : List Entry) (waiting : List Arrival) (tags : List Tag) (fates : List (List ℕ)) (kept : GroupView) (after : GroupWork)
     → All (λ e. group_of (event_of e.line) ≡ g) es → AreRunning readings m (g ∷ []) (closed t) (book_with readings es) (script_of readings es) waiting → AreCopiesDue t es tags
     → after.frames.items ≡ frames_at readings m (g ∷ []) t (script_of readings es) tags → All IsFrame after.frames.items
-    → after.pages.group ≡ g → Replays (presence_of readings) (lines_of es ++ map send_line after.frames.items) after.pages
+    → kept.group ≡ g → Replays (presence_of readings) (lines_of es ++ map send_line after.frames.items) kept
     → AreGroupMeters (book_with readings es) (t + 1) g after.meters.meters.items → after.link ≡ waiting
     → All (All IsDelay) fates → length fates ≡ length after.frames.items
-    → IsGroupAt readings m (t + 1) (es ++ sent_with t after.frames.items fates) fates after
-group-next readings m t g es waiting tags fates after own is due are framed group rep meters link delays long =
+    → IsGroupAt readings m (t + 1) (es ++ sent_with t after.frames.items fates) fates kept after
+group-next readings m t g es waiting tags fates kept after own is due are framed group rep meters link delays long =
     let frames : List Frame = after.frames.items in
     let last : List Entry = es ++ sent_with t frames fates in
     let dues = frames-due readings m (g ∷ []) t tags (book_with readings es) (script_of readings es) waiting frames is due are in
@@ -330,13 +332,51 @@ group-next readings m t g es waiting tags fates after own is due are framed grou
       running = subst (λ (h : ℕ). AreRunning readings m (h ∷ []) (starting (t + 1)) (book_with readings last) (script_of readings last) (posted_all (t + 1 - 1) frames fates after.link)) (sym group)
           (subst (λ (l : List Arrival). AreRunning readings m (g ∷ []) (starting (t + 1)) (book_with readings last) (script_of readings last) (posted_all (t + 1 - 1) frames fates l)) (sym link)
           (subst (λ (u : ℕ). AreRunning readings m (g ∷ []) (starting (t + 1)) (book_with readings last) (script_of readings last) (posted_all u frames fates waiting)) before over));
-      pages = subst (λ j. Replays (presence_of readings) j after.pages) (sym (lines_sent t es frames fates long)) rep;
+      pages = subst (λ j. Replays (presence_of readings) j kept) (sym (lines_sent t es frames fates long)) rep;
       meters = subst (λ (h : ℕ). AreGroupMeters (book_with readings last) (t + 1) h after.meters.meters.items) (sym group)
           (group-stays readings (t + 1) g es (sent_with t frames fates) after.meters.meters.items meters);
     }
 
+-- lines in three parts are cut where these begin
+record Cut (xs ys zs : List Line) (work : GroupWork) : Type 0 where
+  order : work.closed_from ≤ work.sent_from
+  within : work.sent_from ≤ length work.lines.items
+  taken_are : taken_in work ≡ xs
+  closed_are : closed_in work ≡ ys
+  sends_are : sends_in work ≡ zs
+
+cut-parts : (xs ys zs : List Line) (work : GroupWork) → work.lines.items ≡ (xs ++ ys) ++ zs → work.closed_from ≡ length xs → work.sent_from ≡ length (xs ++ ys) → Cut xs ys zs work
+cut-parts xs ys zs work lines from to =
+    let both : length (xs ++ ys) ≡ length xs + length ys = length-append xs ys in
+    let whole : length work.lines.items ≡ length (xs ++ ys) + length zs = ap length lines ∙ length-append (xs ++ ys) zs in
+    let first : work.lines.items ≡ xs ++ (ys ++ zs) = lines ∙ append_assoc xs ys zs in
+    let long : work.sent_from - work.closed_from ≡ length ys = omega arith in
+    record {
+      order = omega arith;
+      within = omega arith;
+      taken_are = ap (λ n. take n work.lines.items) from ∙ ap (take (length xs)) first ∙ take-append_seam xs (ys ++ zs);
+      closed_are = ap (λ n. take n (drop work.closed_from work.lines.items)) long ∙ ap (λ n. take (length ys) (drop n work.lines.items)) from
+          ∙ ap (λ l. take (length ys) (drop (length xs) l)) first ∙ ap (take (length ys)) (drop-append_seam xs (ys ++ zs)) ∙ take-append_seam ys zs;
+      sends_are = ap (λ n. drop n work.lines.items) to ∙ ap (drop (length (xs ++ ys))) lines ∙ drop-append_seam (xs ++ ys) zs;
+    }
+
+-- a line that is no Send has no frame
+own_tag : (k : ℕ) (l : Line) → k < 2 → phase (event_of l) ≡ k → HasOwnTag l
+own_tag k (SendLine tag None) small is = tt
+own_tag k (SendLine tag (Some f)) small is = absurd (omega arith)
+own_tag k (TakeLine tag w) small is = tt
+own_tag k (CloseLine g r w) small is = tt
+own_tag k (EndLine g r w) small is = tt
+
+own_tags : (k : ℕ) (ls : List Line) → k < 2 → All (λ l. phase (event_of l) ≡ k) ls → All HasOwnTag ls
+own_tags k ls small all = All-weaker (λ l. phase (event_of l) ≡ k) HasOwnTag (λ l is. own_tag k l small is) ls all
+
+sent_tags : (frames : List Frame) → All HasOwnTag (map send_line frames)
+sent_tags [] = All-nil HasOwnTag
+sent_tags (f ∷ frames) = All-cons HasOwnTag (send_line f) (map send_line frames) refl (sent_tags frames)
+
 -- what the calls of a tick have made is its tick
-pub group-ticks : (readings : ReadingsView) (m : Masks) (t g : ℕ) (entries : List Entry) (waiting : List Arrival) (copies : List (List ℕ)) (came heard : List Frame) (after : GroupWork)
+pub group-ticks : (readings : ReadingsView) (m : Masks) (t g : ℕ) (entries : List Entry) (waiting : List Arrival) (copies : List (List ℕ)) (came heard : List Frame) (kept : GroupView) (after : GroupWork)
     → (taken_before taken_after closed_before closed_after sent_before sent_after : LinesView) (v w : GroupView)
     → All (λ e. group_of (event_of e.line) ≡ g) entries
     → AreRunning readings m (g ∷ []) (emptied t) (book_with readings entries) (script_of readings entries) waiting → HaveCome t entries copies → came ≡ frames_in copies
@@ -344,10 +384,11 @@ pub group-ticks : (readings : ReadingsView) (m : Masks) (t g : ℕ) (entries : L
     → (closes : Calls (presence_of readings) (lines_of (entries ++ map (quiet t) takes.added)) (calls_of (clock_of readings.plan) t g) closed_before g w closed_after)
     → heard ≡ announcements came → AreGroupMeters (book_with readings ((entries ++ map (quiet t) takes.added) ++ map (quiet t) closes.added)) (t + 1) g after.meters.meters.items
     → after.frames.items ≡ readings_at readings m t g ++ announcements_due (book_with readings ((entries ++ map (quiet t) takes.added) ++ map (quiet t) closes.added)) t g ++ answers_at readings.plan m heard g
-    → SendsAll (presence_of readings) (lines_of ((entries ++ map (quiet t) takes.added) ++ map (quiet t) closes.added)) after.frames.items sent_before g after.pages sent_after → after.link ≡ waiting
-    → after.taken.items ≡ takes.added → after.closed.items ≡ closes.added → after.sent.items ≡ map send_line after.frames.items
-    → GroupTicks readings m t entries g after
-group-ticks readings m t g entries waiting copies came heard after taken_before taken_after closed_before closed_after sent_before sent_after v w own is come are takes closes some meters frames sends link taken_are closed_are sent_are =
+    → SendsAll (presence_of readings) (lines_of ((entries ++ map (quiet t) takes.added) ++ map (quiet t) closes.added)) after.frames.items sent_before g kept sent_after → after.link ≡ waiting
+    → after.lines.items ≡ (takes.added ++ closes.added) ++ map send_line after.frames.items
+    → after.closed_from ≡ length takes.added → after.sent_from ≡ length (takes.added ++ closes.added)
+    → GroupTicks readings m t entries g kept after
+group-ticks readings m t g entries waiting copies came heard kept after taken_before taken_after closed_before closed_after sent_before sent_after v w own is come are takes closes some meters frames sends link lines_are closed_at sent_at =
     let one : List Entry = entries ++ map (quiet t) takes.added in
     let es : List Entry = one ++ map (quiet t) closes.added in
     let took = group-taken readings m t g entries waiting copies came taken_before taken_after v is come are takes in
@@ -356,28 +397,46 @@ group-ticks readings m t g entries waiting copies came heard after taken_before 
     let all_own : All (λ e. group_of (event_of e.line) ≡ g) es
     = All-append (λ e. group_of (event_of e.line) ≡ g) one (map (quiet t) closes.added)
     (All-append (λ e. group_of (event_of e.line) ≡ g) entries (map (quiet t) takes.added) own (own_quiet t g takes.added takes.own)) (own_quiet t g closes.added closes.own) in
+    let sent_lines : List Line = map send_line after.frames.items in
+    let cut = cut-parts takes.added closes.added sent_lines after lines_are closed_at sent_at in
+    let take_phases : All (λ l. phase (event_of l) ≡ 0) takes.added
+    = phases_added 0 (takes_of came) takes.added (have-events (takes_of came) takes.added takes.events_are) (subst (All (λ e. phase e ≡ 0)) (sym (takes_tags came)) (all_takes (tags_of came))) in
+    let close_phases : All (λ l. phase (event_of l) ≡ 1) closes.added
+    = phases_added 1 (calls_due (clock_of readings.plan) (g ∷ []) t) closes.added
+    (have-events (calls_due (clock_of readings.plan) (g ∷ []) t) closes.added (closes.events_are ∙ sym (append-nil (calls_of (clock_of readings.plan) t g)))) (all_calls (clock_of readings.plan) t (g ∷ [])) in
     record {
       group = sends.group;
-      takes = subst (All (λ l. phase (event_of l) ≡ 0)) (sym taken_are)
-          (phases_added 0 (takes_of came) takes.added (have-events (takes_of came) takes.added takes.events_are) (subst (All (λ e. phase e ≡ 0)) (sym (takes_tags came)) (all_takes (tags_of came))));
-      closes = subst (All (λ l. phase (event_of l) ≡ 1)) (sym closed_are)
-          (phases_added 1 (calls_due (clock_of readings.plan) (g ∷ []) t) closes.added
-          (have-events (calls_due (clock_of readings.plan) (g ∷ []) t) closes.added (closes.events_are ∙ sym (append-nil (calls_of (clock_of readings.plan) t g)))) (all_calls (clock_of readings.plan) t (g ∷ [])));
-      sends = sent_are;
-      fit_taken = subst (All (FitsLine readings.plan [])) (sym taken_are)
+      parts = record {
+        closed = cut.order;
+        sent = cut.within;
+        own = subst (All HasOwnTag) (sym lines_are)
+            (All-append HasOwnTag (takes.added ++ closes.added) sent_lines
+            (All-append HasOwnTag takes.added closes.added (own_tags 0 takes.added (omega arith) take_phases) (own_tags 1 closes.added (omega arith) close_phases)) (sent_tags after.frames.items));
+      };
+      takes = subst (All (λ l. phase (event_of l) ≡ 0)) (sym cut.taken_are) take_phases;
+      closes = subst (All (λ l. phase (event_of l) ≡ 1)) (sym cut.closed_are) close_phases;
+      sends = cut.sends_are;
+      own = subst (All (λ l. group_of (event_of l) ≡ g)) (sym lines_are)
+          (All-append (λ l. group_of (event_of l) ≡ g) (takes.added ++ closes.added) sent_lines (All-append (λ l. group_of (event_of l) ≡ g) takes.added closes.added takes.own closes.own)
+          (All-map (λ l. group_of (event_of l) ≡ g) send_line after.frames.items (group-own readings m t g es (tags_of (frames_in copies)) after.frames.items due)));
+      pages = subst (λ j. Replays (presence_of readings) j kept)
+          (ap (λ l. l ++ sent_lines) (lines_append one t closes.added ∙ ap (λ l. l ++ closes.added) (lines_append entries t takes.added) ∙ append_assoc (lines_of entries) takes.added closes.added)
+          ∙ append_assoc (lines_of entries) (takes.added ++ closes.added) sent_lines ∙ ap (λ l. lines_of entries ++ l) (sym lines_are))
+          sends.pages;
+      fit_taken = subst (All (FitsLine readings.plan [])) (sym cut.taken_are)
           (lines_fit readings.plan (run_shape readings) (lines_of entries) takes.added refl (journal_after (run_shape readings) [] (lines_of entries) takes.added takes.pages.ledger.journal.lines)
           (events_fit readings.plan (takes_of came) takes.added takes.events_are (takes_fit readings.plan came
           (All-weaker (IsTakeable (presence_of readings) g (lines_of entries)) (λ f. is_place readings.plan f.tag.group f.tag.round f.tag.meter ≡ true) (λ f can. can.known) came (group-takeable readings m t g entries waiting copies came own is come are)))));
-      fit_closed = subst (All (FitsLine readings.plan [])) (sym closed_are)
+      fit_closed = subst (All (FitsLine readings.plan [])) (sym cut.closed_are)
           (lines_fit readings.plan (run_shape readings) (lines_of one) closes.added refl (journal_after (run_shape readings) [] (lines_of one) closes.added closes.pages.ledger.journal.lines)
           (events_fit readings.plan (calls_of (clock_of readings.plan) t g) closes.added closes.events_are (calls_fit readings.plan (clock_of readings.plan) t g refl
           (subst (λ (h : ℕ). h < length readings.plan.groups) closes.group closes.pages.inside))));
       fit_sent = due-of_plan readings m t readings.plan (script_of readings es) after.frames.items refl
           (frames-due readings m (g ∷ []) t (tags_of (frames_in copies)) (book_with readings es) (script_of readings es) waiting after.frames.items shut.0 shut.1.due due);
       next = λ fates delays long.
-          subst (λ (ls : List Line). IsGroupAt readings m (t + 1) (entries_then t entries ls after.closed.items after.frames.items fates) fates after) (sym taken_are)
-          (subst (λ (ls : List Line). IsGroupAt readings m (t + 1) (entries_then t entries takes.added ls after.frames.items fates) fates after) (sym closed_are)
-          (group-next readings m t g es waiting (tags_of (frames_in copies)) fates after all_own shut.0 shut.1.due due sends.framed sends.group sends.pages meters link delays long));
+          subst (λ (ls : List Line). IsGroupAt readings m (t + 1) (entries_then t entries ls (closed_in after) after.frames.items fates) fates kept after) (sym cut.taken_are)
+          (subst (λ (ls : List Line). IsGroupAt readings m (t + 1) (entries_then t entries takes.added ls after.frames.items fates) fates kept after) (sym cut.closed_are)
+          (group-next readings m t g es waiting (tags_of (frames_in copies)) fates kept after all_own shut.0 shut.1.due due sends.framed sends.group sends.pages meters link delays long));
     }
 
 -- ---- what the calls of a tick give, one after another
@@ -447,9 +506,9 @@ group-can_send readings m t g es left copies frames is come are =
 
 -- ---- what a group's fates and its note of failure leave alone
 
-pub at-noted : (readings : ReadingsView) (m : Masks) (t : ℕ) (entries : List Entry) (fates : List (List ℕ)) (work : GroupWork) (kept : Vec (List ℕ) Global) (failed : Bool)
-    → IsGroupAt readings m t entries fates work → IsGroupAt readings m t entries fates (record work { fates = kept; failed = failed })
-at-noted readings m t entries fates work kept failed at = record {
+pub at-noted : (readings : ReadingsView) (m : Masks) (t : ℕ) (entries : List Entry) (fates : List (List ℕ)) (kept : GroupView) (work : GroupWork) (met : Vec (List ℕ) Global) (failed : Bool)
+    → IsGroupAt readings m t entries fates kept work → IsGroupAt readings m t entries fates kept (record work { fates = met; failed = failed })
+at-noted readings m t entries fates kept work met failed at = record {
   own = at.own;
   long = at.long;
   fits = at.fits;
@@ -458,15 +517,18 @@ at-noted readings m t entries fates work kept failed at = record {
   meters = at.meters;
 }
 
-pub ticks-noted : (readings : ReadingsView) (m : Masks) (t : ℕ) (entries : List Entry) (g : ℕ) (work : GroupWork) (kept : Vec (List ℕ) Global) (failed : Bool)
-    → GroupTicks readings m t entries g work → GroupTicks readings m t entries g (record work { fates = kept; failed = failed })
-ticks-noted readings m t entries g work kept failed tick = record {
+pub ticks-noted : (readings : ReadingsView) (m : Masks) (t : ℕ) (entries : List Entry) (g : ℕ) (kept : GroupView) (work : GroupWork) (met : Vec (List ℕ) Global) (failed : Bool)
+    → GroupTicks readings m t entries g kept work → GroupTicks readings m t entries g kept (record work { fates = met; failed = failed })
+ticks-noted readings m t entries g kept work met failed tick = record {
   group = tick.group;
+  parts = record { closed = tick.parts.closed; sent = tick.parts.sent; own = tick.parts.own };
   takes = tick.takes;
   closes = tick.closes;
   sends = tick.sends;
+  own = tick.own;
+  pages = tick.pages;
   fit_taken = tick.fit_taken;
   fit_closed = tick.fit_closed;
   fit_sent = tick.fit_sent;
-  next = λ fates delays long. at-noted readings m (t + 1) (entries_then t entries work.taken.items work.closed.items work.frames.items fates) fates work kept failed (tick.next fates delays long);
+  next = λ fates delays long. at-noted readings m (t + 1) (entries_then t entries (taken_in work) (closed_in work) work.frames.items fates) fates kept work met failed (tick.next fates delays long);
 }

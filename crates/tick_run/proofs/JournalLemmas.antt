@@ -1,5 +1,5 @@
 -- What all groups made of a tick, as it is written down.
-use Rattle.std.proofs.Common.{◌≡◌, ℕ, ◌+◌, ◌<◌, ◌≤◌, List, [], ◌∷◌, ◌++◌, length, map, drop, get_or, refl, sym, ap, ◌∙◌, subst, append_assoc, arith}
+use Rattle.std.proofs.Common.{◌≡◌, ℕ, suc, ◌+◌, ◌-◌, ◌<◌, ◌≤◌, List, [], ◌∷◌, ◌++◌, length, map, take, drop, get_or, refl, sym, ap, ◌∙◌, subst, append_assoc, arith}
 use Rattle.std.specs.Prelude.{Some, Result, Ok, Err, OnOk}
 use Rattle.std.specs.List.{flat_map, All, AllZip}
 use Rattle.std.proofs.lemmas.List.{drop_more, map-append}
@@ -12,35 +12,35 @@ use Rattle.transcript_log.specs.declared.Entry.{Entry}
 use Rattle.transcript_log.specs.Drafts.{quiet, Begins}
 use Rattle.transcript_log.specs.Events.{lines_of}
 use Rattle.transcript_log.specs.Transcripts.{TranscriptView, FitsLine, last_tick_from}
-use Rattle.tick_run.specs.declared.group_tick.GroupWork.{GroupWork}
+use Rattle.tick_run.specs.declared.running.Group.{Group}
 use Rattle.tick_run.specs.ByGroups.{taken_by, closed_by, sends_by, sent_by, quiet_then, whole_then, Fated, IsButFates}
-use Rattle.tick_run.specs.GroupRuns.{send_line, sent_with}
+use Rattle.tick_run.specs.GroupRuns.{send_line, taken_in, closed_in, sends_in, sent_with}
 use Rattle.tick_run.specs.Progress.{sending}
 use Rattle.tick_run.specs.Written.{Fits}
 
 -- ---- the lines of entries
 
-lines_append : (xs ys : List Entry) → lines_of (xs ++ ys) ≡ lines_of xs ++ lines_of ys
+pub lines_append : (xs ys : List Entry) → lines_of (xs ++ ys) ≡ lines_of xs ++ lines_of ys
 lines_append xs ys = map-append (λ (e : Entry). e.line) xs ys
 
-lines_quiet : (t : ℕ) (ls : List Line) → lines_of (map (quiet t) ls) ≡ ls
+pub lines_quiet : (t : ℕ) (ls : List Line) → lines_of (map (quiet t) ls) ≡ ls
 lines_quiet t [] = refl
 lines_quiet t (l ∷ ls) = ap (λ x. l ∷ x) (lines_quiet t ls)
 
-lines_sent : (t : ℕ) (frames : List Frame) (fates : List (List ℕ)) → length fates ≡ length frames → lines_of (sent_with t frames fates) ≡ map send_line frames
+pub lines_sent : (t : ℕ) (frames : List Frame) (fates : List (List ℕ)) → length fates ≡ length frames → lines_of (sent_with t frames fates) ≡ map send_line frames
 lines_sent t [] fates long = refl
 lines_sent t (f ∷ frames) [] long = absurd (omega arith)
 lines_sent t (f ∷ frames) (fate ∷ fates) long = ap (λ l. send_line f ∷ l) (lines_sent t frames fates (omega arith))
 
-lines_by : (plan : PlanView) (t : ℕ) (works : List GroupWork) → All (Fits plan) works → All Fated works → lines_of (sent_by t works) ≡ sends_by works
+lines_by : (plan : PlanView) (t : ℕ) (works : List Group) → All (Fits plan) works → All Fated works → lines_of (sent_by t works) ≡ sends_by works
 lines_by plan t [] fit fated = refl
 lines_by plan t (w ∷ works) fit fated =
     let here = All-head (Fits plan) w works fit in
     let met = All-head Fated w works fated in
-    let own : List Entry = sent_with t w.frames.items w.fates.items in
+    let own : List Entry = sent_with t w.work.frames.items w.work.fates.items in
     lines_append own (sent_by t works)
-    ∙ ap (λ l. l ++ lines_of (sent_by t works)) (lines_sent t w.frames.items w.fates.items met.long ∙ sym here.sends)
-    ∙ ap (λ l. w.sent.items ++ l) (lines_by plan t works (All-tail (Fits plan) w works fit) (All-tail Fated w works fated))
+    ∙ ap (λ l. l ++ lines_of (sent_by t works)) (lines_sent t w.work.frames.items w.work.fates.items met.long ∙ sym here.sends)
+    ∙ ap (λ l. sends_in w.work ++ l) (lines_by plan t works (All-tail (Fits plan) w works fit) (All-tail Fated w works fated))
 
 -- ---- the entries of Sends
 
@@ -56,6 +56,12 @@ last_quiet t from (x ∷ xs) ls le = last_quiet t x.tick xs ls le
 
 item_of : {X : Type 0} (k : ℕ) (xs : List X) (x : X) → x ≡ get_or xs k x → k < length xs → drop k xs ≡ x ∷ drop (k + 1) xs
 item_of k xs x at lt = drop_more xs k x lt ∙ ap (λ y. y ∷ drop (k + 1) xs) (sym at)
+
+-- a part of a list begins with its first line
+pub part-next : (xs : List Line) (at to : ℕ) (x : Line) → at < to → to ≤ length xs → x ≡ get_or xs at x → take (to - at) (drop at xs) ≡ x ∷ take (to - (at + 1)) (drop (at + 1) xs)
+part-next xs at to x lt within is =
+    let more : to - at ≡ suc (to - (at + 1)) = omega arith in
+    ap (λ n. take n (drop at xs)) more ∙ ap (take (suc (to - (at + 1)))) (item_of at xs x is (omega arith))
 
 -- of a group, the first k Sends have their entries
 pub record Stamping (t k : ℕ) (frames : List Frame) (fates : List (List ℕ)) (script now : TranscriptView) : Type 0 where
@@ -98,7 +104,7 @@ stamp-begins t k frames fates f fate script now journal at lt with_fate in_fates
 -- ---- those of one group after another
 
 -- the Sends of the first k groups have their entries
-pub record StampingAll (t k : ℕ) (works : List GroupWork) (script now : TranscriptView) : Type 0 where
+pub record StampingAll (t k : ℕ) (works : List Group) (script now : TranscriptView) : Type 0 where
   pub plan : now.plan ≡ script.plan
   pub later : last_tick_from 0 now.entries ≤ t
   pub entries : now.entries ++ sent_by t (drop k works) ≡ script.entries ++ sent_by t works
@@ -114,11 +120,11 @@ beyond : (xs : List Entry) (more : List Line) → drop (length xs) (lines_of xs 
 beyond [] more = refl
 beyond (x ∷ xs) more = beyond xs more
 
-all_flat : (P : Line → Type 0) (F : GroupWork → List Line) (works : List GroupWork) → All (λ w. All P (F w)) works → All P (flat_map F works)
+all_flat : (P : Line → Type 0) (F : Group → List Line) (works : List Group) → All (λ w. All P (F w)) works → All P (flat_map F works)
 all_flat P F [] all = All-nil P
 all_flat P F (w ∷ works) all = All-append P (F w) (flat_map F works) (All-head (λ w. All P (F w)) w works all) (all_flat P F works (All-tail (λ w. All P (F w)) w works all))
 
-module _ (t : ℕ) (script : TranscriptView) (works : List GroupWork) (old mid journal : List Line) (is : old ≡ lines_of script.entries) (first : mid ≡ old ++ taken_by works) (then : journal ≡ mid ++ closed_by works) where
+module _ (t : ℕ) (script : TranscriptView) (works : List Group) (old mid journal : List Line) (is : old ≡ lines_of script.entries) (first : mid ≡ old ++ taken_by works) (then : journal ≡ mid ++ closed_by works) where
   -- the journal has the Takes, Closes and Ends behind the lines of the entries
   behind : journal ≡ lines_of script.entries ++ (taken_by works ++ closed_by works)
   behind = then ∙ ap (λ l. l ++ closed_by works) (first ∙ ap (λ l. l ++ taken_by works) is) ∙ append_assoc (lines_of script.entries) (taken_by works) (closed_by works)
@@ -131,8 +137,8 @@ module _ (t : ℕ) (script : TranscriptView) (works : List GroupWork) (old mid j
       let P : Line → Type 0 = FitsLine script.plan [] in
       subst (All P) (sym quiet_beyond)
       (All-append P (taken_by works) (closed_by works)
-      (all_flat P (λ w. w.taken.items) works (λ k d lt. (fits k d lt).taken))
-      (all_flat P (λ w. w.closed.items) works (λ k d lt. (fits k d lt).closed)))
+      (all_flat P (λ w. taken_in w.work) works (λ k d lt. (fits k d lt).taken))
+      (all_flat P (λ w. closed_in w.work) works (λ k d lt. (fits k d lt).closed)))
 
   -- once they have their entries
   module _ (done : TranscriptView) (made : done ≡ record script { entries = script.entries ++ map (quiet t) (drop (length script.entries) journal) }) where
@@ -155,18 +161,18 @@ module _ (t : ℕ) (script : TranscriptView) (works : List GroupWork) (old mid j
 -- ---- once the frames have met their fates
 
 -- what does not depend on the fates stays
-flat_same : {X : Type 0} (F : GroupWork → List X) → ((x y : GroupWork) → F (record x { fates = y.fates }) ≡ F x) → (before after : List GroupWork) → AllZip IsButFates before after → flat_map F after ≡ flat_map F before
+flat_same : {X : Type 0} (F : Group → List X) → ((x y : Group) → F (record x { work = record x.work { fates = y.work.fates } }) ≡ F x) → (before after : List Group) → AllZip IsButFates before after → flat_map F after ≡ flat_map F before
 flat_same F keeps [] [] same = refl
 flat_same F keeps [] (y ∷ after) same = absurd same
 flat_same F keeps (x ∷ before) [] same = absurd same
-flat_same F keeps (x ∷ before) (y ∷ after) same = ap (λ (w : GroupWork). F w ++ flat_map F after) same.0 ∙ ap (λ l. l ++ flat_map F after) (keeps x y) ∙ ap (λ l. F x ++ l) (flat_same F keeps before after same.1)
+flat_same F keeps (x ∷ before) (y ∷ after) same = ap (λ (w : Group). F w ++ flat_map F after) same.0 ∙ ap (λ l. l ++ flat_map F after) (keeps x y) ∙ ap (λ l. F x ++ l) (flat_same F keeps before after same.1)
 
-quiet_same : (t : ℕ) (entries : List Entry) (before after : List GroupWork) → AllZip IsButFates before after → quiet_then t entries after ≡ quiet_then t entries before
+quiet_same : (t : ℕ) (entries : List Entry) (before after : List Group) → AllZip IsButFates before after → quiet_then t entries after ≡ quiet_then t entries before
 quiet_same t entries before after same =
-    ap (λ ls. (entries ++ map (quiet t) ls) ++ map (quiet t) (closed_by after)) (flat_same (λ w. w.taken.items) (λ x y. refl) before after same)
-    ∙ ap (λ ls. (entries ++ map (quiet t) (taken_by before)) ++ map (quiet t) ls) (flat_same (λ w. w.closed.items) (λ x y. refl) before after same)
+    ap (λ ls. (entries ++ map (quiet t) ls) ++ map (quiet t) (closed_by after)) (flat_same (λ w. taken_in w.work) (λ x y. refl) before after same)
+    ∙ ap (λ ls. (entries ++ map (quiet t) (taken_by before)) ++ map (quiet t) ls) (flat_same (λ w. closed_in w.work) (λ x y. refl) before after same)
 
-module _ (t : ℕ) (script mid : TranscriptView) (before after : List GroupWork) (made : mid ≡ record script { entries = quiet_then t script.entries before }) where
+module _ (t : ℕ) (script mid : TranscriptView) (before after : List Group) (made : mid ≡ record script { entries = quiet_then t script.entries before }) where
   pub made-later : last_tick_from 0 script.entries ≤ t → last_tick_from 0 mid.entries ≤ t
   made-later le =
       subst (λ (z : TranscriptView). last_tick_from 0 z.entries ≤ t) (sym made)
@@ -175,7 +181,7 @@ module _ (t : ℕ) (script mid : TranscriptView) (before after : List GroupWork)
   -- the journal has just the lines of all entries
   pub all-lines : (lines : List Line) → lines ≡ lines_of mid.entries ++ sends_by before → AllZip IsButFates before after → All (Fits mid.plan) after → All Fated after → lines ≡ lines_of (mid.entries ++ sent_by t after)
   all-lines lines are same fits fated =
-      are ∙ ap (λ l. lines_of mid.entries ++ l) (sym (flat_same (λ w. w.sent.items) (λ x y. refl) before after same) ∙ sym (lines_by mid.plan t after fits fated)) ∙ sym (lines_append mid.entries (sent_by t after))
+      are ∙ ap (λ l. lines_of mid.entries ++ l) (sym (flat_same (λ w. sends_in w.work) (λ x y. refl) before after same) ∙ sym (lines_by mid.plan t after fits fated)) ∙ sym (lines_append mid.entries (sent_by t after))
 
   -- once the Sends have their entries
   module _ (done : TranscriptView) (stamped : done ≡ record mid { entries = mid.entries ++ sent_by t after }) where

@@ -10,11 +10,13 @@ pub mod LaneLemmas
 pub mod FrameSteps
 pub mod DueLemmas
 pub mod CallLemmas
+pub mod CheckLemmas
 pub mod StateLemmas
 pub mod ShapeLemmas
 pub mod PostedLemmas
 pub mod SendingLemmas
 pub mod FitLemmas
+pub mod JoinLemmas
 pub mod JournalLemmas
 pub mod TakeLemmas
 pub mod TickLoop
@@ -22,6 +24,7 @@ pub mod BatchedLemmas
 pub mod FinishLemmas
 pub mod MetersLemmas
 pub mod RowsOf
+pub mod Crossings
 pub mod DueAnnouncements
 pub mod MergedLemmas
 pub mod GroupCalls

@@ -9,7 +9,7 @@ use Rattle.link_lanes.specs.declared.Post.{Post}
 use Rattle.link_lanes.specs.Lanes.{Slot, after_post}
 use Rattle.meter_frames.specs.declared.Frame.{Frame}
 use Rattle.transcript_log.specs.declared.Entry.{Entry}
-use Rattle.tick_run.specs.declared.group_tick.GroupWork.{GroupWork}
+use Rattle.tick_run.specs.declared.running.Group.{Group}
 use Rattle.tick_run.specs.ByGroups.{hung_after, fates_met, Passes, PassesBehind, frames_by, fates_by, Fated, IsButFates}
 use Rattle.tick_run.specs.GroupRuns.{sent_with}
 use Rattle.tick_run.specs.Progress.{IsDelay, sending}
@@ -116,26 +116,26 @@ one_each : (t : ℕ) (lanes : List Slot) (frames : List Frame) → length (passe
 one_each t lanes [] = refl
 one_each t lanes (f ∷ frames) = ap suc (one_each t (map (after_post t) lanes) frames)
 
-frames-push : (works : List GroupWork) (w : GroupWork) → frames_by (works ++ w ∷ []) ≡ frames_by works ++ w.frames.items
-frames-push works w = flat_map-append (λ (x : GroupWork). x.frames.items) works (w ∷ []) ∙ ap (λ l. frames_by works ++ l) (append-nil w.frames.items)
+frames-push : (works : List Group) (w : Group) → frames_by (works ++ w ∷ []) ≡ frames_by works ++ w.work.frames.items
+frames-push works w = flat_map-append (λ (x : Group). x.work.frames.items) works (w ∷ []) ∙ ap (λ l. frames_by works ++ l) (append-nil w.work.frames.items)
 
 -- one group more
-pub all-next : (t k : ℕ) (works : List GroupWork) (w : GroupWork) (own : List Frame) (lanes mid hung : List Slot) (posts some all : List Post) (fates more : List (List ℕ)) → k < length works → get_or works k w ≡ w
-    → own ≡ w.frames.items → PassesBehind t own mid hung some all fates more → Passes t (frames_by (take k works)) lanes mid posts some fates → Passes t (frames_by (take (k + 1) works)) lanes hung posts all more
+pub all-next : (t k : ℕ) (works : List Group) (w : Group) (own : List Frame) (lanes mid hung : List Slot) (posts some all : List Post) (fates more : List (List ℕ)) → k < length works → get_or works k w ≡ w
+    → own ≡ w.work.frames.items → PassesBehind t own mid hung some all fates more → Passes t (frames_by (take k works)) lanes mid posts some fates → Passes t (frames_by (take (k + 1) works)) lanes hung posts all more
 all-next t k works w own lanes mid hung posts some all fates more lt is own_are passes so_far =
     let front : take (k + 1) works ≡ take k works ++ w ∷ [] = take_more works k w lt ∙ ap (λ x. take k works ++ x ∷ []) is in
-    let theirs : Passes t w.frames.items mid hung some all passes.met = subst (λ fs. Passes t fs mid hung some all passes.met) own_are passes.passes in
+    let theirs : Passes t w.work.frames.items mid hung some all passes.met = subst (λ fs. Passes t fs mid hung some all passes.met) own_are passes.passes in
     subst (λ fs. Passes t fs lanes hung posts all more) (sym (ap frames_by front ∙ frames-push (take k works) w))
-    (subst (λ es. Passes t (frames_by (take k works) ++ w.frames.items) lanes hung posts all es) (sym passes.behind)
-    (passes-then t (frames_by (take k works)) w.frames.items lanes mid hung posts some all fates passes.met so_far theirs))
+    (subst (λ es. Passes t (frames_by (take k works) ++ w.work.frames.items) lanes hung posts all es) (sym passes.behind)
+    (passes-then t (frames_by (take k works)) w.work.frames.items lanes mid hung posts some all fates passes.met so_far theirs))
 
-pub all-ends : (t k : ℕ) (works : List GroupWork) (lanes hung : List Slot) (posts all : List Post) (fates : List (List ℕ)) → length works ≤ k → Passes t (frames_by (take k works)) lanes hung posts all fates
+pub all-ends : (t k : ℕ) (works : List Group) (lanes hung : List Slot) (posts all : List Post) (fates : List (List ℕ)) → length works ≤ k → Passes t (frames_by (take k works)) lanes hung posts all fates
     → Passes t (frames_by works) lanes hung posts all fates
 all-ends t k works lanes hung posts all fates over passes = subst (λ ws. Passes t (frames_by ws) lanes hung posts all fates) (take_all k works over) passes
 
 -- the frames that are still to pass
-pub frames-left : (k : ℕ) (works : List GroupWork) (w : GroupWork) → k < length works → get_or works k w ≡ w → length (frames_by (drop k works)) ≡ length w.frames.items + length (frames_by (drop (k + 1) works))
-frames-left k works w lt is = ap (λ ws. length (frames_by ws)) (next_of k works w lt is) ∙ length-append w.frames.items (frames_by (drop (k + 1) works))
+pub frames-left : (k : ℕ) (works : List Group) (w : Group) → k < length works → get_or works k w ≡ w → length (frames_by (drop k works)) ≡ length w.work.frames.items + length (frames_by (drop (k + 1) works))
+frames-left k works w lt is = ap (λ ws. length (frames_by ws)) (next_of k works w lt is) ∙ length-append w.work.frames.items (frames_by (drop (k + 1) works))
 
 -- each frame has its post
 pub long-passed : (t : ℕ) (frames : List Frame) (lanes hung : List Slot) (posts all : List Post) (fates : List (List ℕ)) → Passes t frames lanes hung posts all fates → length all ≡ length posts + length frames
@@ -148,22 +148,22 @@ fates-long t frames lanes hung posts all fates passes = ap length passes.fates_a
 -- ---- each group gets the fates of its frames
 
 -- the first k groups have theirs, the others are as before, and the fates from this place on are still to be given
-pub record Giving (k : ℕ) (before now : List GroupWork) (from : ℕ) (fates : List (List ℕ)) : Type 0 where
+pub record Giving (k : ℕ) (before now : List Group) (from : ℕ) (fates : List (List ℕ)) : Type 0 where
   pub same : AllZip IsButFates (take k before) (take k now)
   pub fated : All Fated (take k now)
-  pub rest : (i : ℕ) (d : GroupWork) → k ≤ i → get_or now i d ≡ get_or before i d
+  pub rest : (i : ℕ) (d : Group) → k ≤ i → get_or now i d ≡ get_or before i d
   pub long : length now ≡ length before
   pub given : fates_by (take k now) ++ drop from fates ≡ fates
 
-pub giving-starts : (works : List GroupWork) (fates : List (List ℕ)) → Giving 0 works works 0 fates
+pub giving-starts : (works : List Group) (fates : List (List ℕ)) → Giving 0 works works 0 fates
 giving-starts works fates = record { same = tt; fated = All-nil Fated; rest = λ i d le. refl; long = refl; given = refl }
 
-fates-push : (works : List GroupWork) (w : GroupWork) → fates_by (works ++ w ∷ []) ≡ fates_by works ++ w.fates.items
-fates-push works w = flat_map-append (λ (x : GroupWork). x.fates.items) works (w ∷ []) ∙ ap (λ l. fates_by works ++ l) (append-nil w.fates.items)
+fates-push : (works : List Group) (w : Group) → fates_by (works ++ w ∷ []) ≡ fates_by works ++ w.work.fates.items
+fates-push works w = flat_map-append (λ (x : Group). x.work.fates.items) works (w ∷ []) ∙ ap (λ l. fates_by works ++ l) (append-nil w.work.fates.items)
 
 -- one group more
-pub giving-next : (k : ℕ) (before now : List GroupWork) (w after : GroupWork) (from n : ℕ) (fates : List (List ℕ)) → k < length now → w ≡ get_or now k w → IsButFates w after
-    → n ≡ length w.frames.items → after.fates.items ≡ take n (drop from fates) → from + n ≤ length fates → All (All IsDelay) fates → Giving k before now from fates
+pub giving-next : (k : ℕ) (before now : List Group) (w after : Group) (from n : ℕ) (fates : List (List ℕ)) → k < length now → w ≡ get_or now k w → IsButFates w after
+    → n ≡ length w.work.frames.items → after.work.fates.items ≡ take n (drop from fates) → from + n ≤ length fates → All (All IsDelay) fates → Giving k before now from fates
     → Giving (k + 1) before (slice_set now k after) (from + n) fates
 giving-next k before now w after from n fates lt at same count theirs within delays so_far =
     let inside : k < length before = omega (arith, lt, so_far.long) in
@@ -172,7 +172,7 @@ giving-next k before now w after from n fates lt at same count theirs within del
     let new : take (k + 1) (slice_set now k after) ≡ take k now ++ after ∷ [] = take_more_set now k after lt in
     let left : length (drop from fates) ≡ length fates - from = length-drop from fates in
     let fated : Fated after = record {
-      long = ap length theirs ∙ length-take-le n (drop from fates) (omega (arith, within, left)) ∙ count ∙ sym (ap (λ (x : GroupWork). length x.frames.items) same);
+      long = ap length theirs ∙ length-take-le n (drop from fates) (omega (arith, within, left)) ∙ count ∙ sym (ap (λ (x : Group). length x.work.frames.items) same);
       delays = subst (All (All IsDelay)) (sym theirs) (All-take (All IsDelay) n (drop from fates) (All-drop (All IsDelay) from fates delays));
     } in
     record {
@@ -186,14 +186,14 @@ giving-next k before now w after from n fates lt at same count theirs within del
           ∙ ap (λ l. fates_by (take k now) ++ l) (take-append-drop n (drop from fates)) ∙ so_far.given;
     }
   where
-    zip_push : (xs ys : List GroupWork) (x y : GroupWork) → AllZip IsButFates xs ys → IsButFates x y → AllZip IsButFates (xs ++ x ∷ []) (ys ++ y ∷ [])
+    zip_push : (xs ys : List Group) (x y : Group) → AllZip IsButFates xs ys → IsButFates x y → AllZip IsButFates (xs ++ x ∷ []) (ys ++ y ∷ [])
     zip_push [] [] x y all is = (is, tt)
     zip_push [] (z ∷ ys) x y all is = absurd all
     zip_push (z ∷ xs) [] x y all is = absurd all
     zip_push (z ∷ xs) (v ∷ ys) x y all is = (all.0, zip_push xs ys x y all.1 is)
 
 -- all groups have theirs
-module _ (k : ℕ) (before now : List GroupWork) (from : ℕ) (fates : List (List ℕ)) (over : length before ≤ k) (giving : Giving k before now from fates) where
+module _ (k : ℕ) (before now : List Group) (from : ℕ) (fates : List (List ℕ)) (over : length before ≤ k) (giving : Giving k before now from fates) where
   pub giving-same : AllZip IsButFates before now
   giving-same =
       subst (λ xs. AllZip IsButFates xs now) (take_all k before over)

@@ -10,6 +10,7 @@ use Rattle.transcript_log.specs.declared.Entry.{Entry}
 use Rattle.run_rows.specs.Ticks.{clock_of, last_tick as last_of}
 use Rattle.transcript_log.specs.Transcripts.{TranscriptView}
 use Rattle.group_book.specs.Books.{BookView}
+use Rattle.shared_book.specs.Ends.{opening}
 use Rattle.tick_run.specs.declared.finished.Finished.{Finished}
 use Rattle.tick_run.specs.declared.running.Running.{Running}
 use Rattle.tick_run.specs.Finished.{IsFinishedUnder, HasRowsOf}
@@ -56,17 +57,17 @@ none-left count left run now makes all here =
     omega (arith, at, plan, all, here)
 
 -- what a run that is over makes
-module _ {E : Type 0} (readings : ReadingsView) (m : Masks) (n : ℕ) (run : Running) (runs : RunsAt readings m n run) (limits : IsWithinLimits readings.plan) (members : IsPresenceTable run.presence.plan run.presence.table)
+module _ {E : Type 0} (readings : ReadingsView) (m : Masks) (n : ℕ) (run : Running) (runs : RunsAt readings m n run) (limits : IsWithinLimits readings.plan) (members : IsPresenceTable (opening run.shared).presence.plan (opening run.shared).presence.table)
     (table : IsReadingTable readings.plan readings.table) (last : n ≡ last_of (clock_of readings.plan) + 1) where
-  pub finishes-if : (r : Result Finished E) → IfOk r (λ f. f.book.presence ≡ run.presence) → IfOk r (λ f. f.book.journal ≡ run.journal.items) → IfOk r (λ f. f.transcript ≡ run.transcript)
+  pub finishes-if : (r : Result Finished E) → IfOk r (λ f. f.book.presence ≡ (opening run.shared).presence) → IfOk r (λ f. f.book.journal ≡ run.journal.items) → IfOk r (λ f. f.transcript ≡ run.transcript)
       → (first lanes : List Slot) (posts : List Post) → KeptFates first n run.transcript.entries lanes posts → IfOk r (λ f. IsFinishedUnder readings m first f.book f.transcript)
   finishes-if (Ok f) presence journal same first lanes posts kept = run-finishes readings m n run runs limits members first lanes posts f.book f.transcript table last kept presence journal same
   finishes-if (Err e) presence journal same first lanes posts kept = tt
 
-  pub reports-if : (r : Result Finished E) → IfOk r (λ f. f.book.presence ≡ run.presence) → IfOk r (λ f. f.book.journal ≡ run.journal.items) → IfOk r (λ f. f.transcript ≡ run.transcript)
+  pub reports-if : (r : Result Finished E) → IfOk r (λ f. f.book.presence ≡ (opening run.shared).presence) → IfOk r (λ f. f.book.journal ≡ run.journal.items) → IfOk r (λ f. f.transcript ≡ run.transcript)
       → (first lanes : List Slot) (posts : List Post) → KeptFates first n run.transcript.entries lanes posts → IfOk r (λ f. HasRowsOf f.transcript.entries f.book)
   reports-if (Ok f) presence journal same first lanes posts kept =
-      rows-are readings m first f.book f.transcript (subst (λ (p : PresenceView). IsPresenceTable p.plan p.table) runs.presence members)
+      rows-are readings m first f.book f.transcript (subst (λ (p : PresenceView). IsPresenceTable p.plan p.table) runs.shared.presence members)
       (run-finishes readings m n run runs limits members first lanes posts f.book f.transcript table last kept presence journal same)
   reports-if (Err e) presence journal same first lanes posts kept = tt
 

@@ -6,35 +6,68 @@ use Rattle.group_plan.specs.Tables.{ReadingsView}
 use Rattle.transcript_log.specs.declared.Line.{Line}
 use Rattle.transcript_log.specs.declared.Entry.{Entry}
 use Rattle.transcript_log.specs.Drafts.{quiet}
-use Rattle.transcript_log.specs.Events.{event_of}
+use Rattle.transcript_log.specs.Events.{event_of, lines_of}
 use Rattle.group_book.specs.ByGroup.{group_of}
+use Rattle.group_book.specs.Groups.{GroupView}
 use Rattle.run_rows.specs.ByGroup.{entries_in}
 use Rattle.run_rows.specs.Ticks.{moment, sent_at, IsOrdered}
-use Rattle.tick_run.specs.declared.group_tick.GroupWork.{GroupWork}
+use Rattle.tick_run.specs.declared.running.Group.{Group}
 use Rattle.link_lanes.specs.declared.Post.{Post}
 use Rattle.link_lanes.specs.Lanes.{Slot, after_post}
 use Rattle.meter_frames.specs.declared.Frame.{Frame}
-use Rattle.tick_run.specs.GroupRuns.{IsGroupAt, GroupTicks, sent_with}
+use Rattle.tick_run.specs.GroupRuns.{IsWorkAt, GroupTicks, IsInParts, taken_in, closed_in, sends_in, sent_with}
+use Rattle.shared_book.specs.declared.parts.SharedBook.{SharedBook}
 use Rattle.tick_run.specs.Progress.{IsDelay}
 use Rattle.tick_run.specs.Sending.{passed}
+use Rattle.tick_run.specs.Sharing.{HasTurns}
 
--- group g stands before tick t, by its part of these entries
-pub record StandsFor (readings : ReadingsView) (m : Masks) (t : ℕ) (entries : List Entry) (g : ℕ) (work : GroupWork) : Type 0 where
-  pub group : work.pages.group ≡ g
-  pub stands : IsGroupAt readings m t (entries_in g entries) work.fates.items work
+-- group g stands before tick t by these entries, and its pass has made their lines
+pub record IsAt (book : SharedBook) (readings : ReadingsView) (m : Masks) (t : ℕ) (entries : List Entry) (g : ℕ) (it : Group) : Type 0 where
+  pub number : it.number ≡ g
+  pub stands : IsWorkAt readings m t entries it.work.fates.items g it.work
+  pub turns : HasTurns book g (lines_of entries) it.pass
+
+-- by its part of these entries
+abbrev pub StandsFor : SharedBook → ReadingsView → Masks → ℕ → List Entry → ℕ → Group → Type 0
+StandsFor book readings m t entries g it = IsAt book readings m t (entries_in g entries) g it
 
 -- so do all groups of the plan, which are these
-abbrev pub AllStand : ReadingsView → Masks → ℕ → List Entry → List GroupWork → Type 0
-AllStand readings m t entries works = AllZip (StandsFor readings m t entries) (range_with_len 0 (length readings.plan.groups)) works
+abbrev pub AllStand : SharedBook → ReadingsView → Masks → ℕ → List Entry → List Group → Type 0
+AllStand book readings m t entries groups = AllZip (StandsFor book readings m t entries) (range_with_len 0 (length readings.plan.groups)) groups
 
--- by some entries all groups stand before tick t
-pub record CanTickAll (readings : ReadingsView) (m : Masks) (t : ℕ) (works : List GroupWork) : Type 0 where
+-- by some entries a group stands before tick t
+pub record CanShare (book : SharedBook) (readings : ReadingsView) (m : Masks) (t : ℕ) (it : Group) : Type 0 where
   pub entries : List Entry
-  pub stand : AllStand readings m t entries works
+  pub group : ℕ
+  pub at : IsAt book readings m t entries group it
 
--- tick t was made of each group, which stood before it by its part of these entries
-abbrev pub AllTick : ReadingsView → Masks → ℕ → List Entry → List GroupWork → Type 0
-AllTick readings m t entries works = AllZip (λ g work. GroupTicks readings m t (entries_in g entries) g work) (range_with_len 0 (length readings.plan.groups)) works
+-- by some entries all groups do
+pub record CanTickAll (book : SharedBook) (readings : ReadingsView) (m : Masks) (t : ℕ) (groups : List Group) : Type 0 where
+  pub entries : List Entry
+  pub stand : AllStand book readings m t entries groups
+
+-- tick t was made of group g, which stood before it by these entries, and its lines are checked in
+pub record IsMade (book : SharedBook) (readings : ReadingsView) (m : Masks) (t : ℕ) (entries : List Entry) (g : ℕ) (it : Group) : Type 0 where
+  pub kept : GroupView
+  pub number : it.number ≡ g
+  pub ticks : GroupTicks readings m t entries g kept it.work
+  pub turns : HasTurns book g (lines_of entries ++ it.work.lines.items) it.pass
+
+-- so it was of each group, by its part of these entries
+abbrev pub AllMade : SharedBook → ReadingsView → Masks → ℕ → List Entry → List Group → Type 0
+AllMade book readings m t entries groups = AllZip (λ g it. IsMade book readings m t (entries_in g entries) g it) (range_with_len 0 (length readings.plan.groups)) groups
+
+-- tick t was made of group g on some pages, by its part of these entries, and of each
+pub record Ticked (readings : ReadingsView) (m : Masks) (t : ℕ) (entries : List Entry) (g : ℕ) (it : Group) : Type 0 where
+  pub kept : GroupView
+  pub ticks : GroupTicks readings m t (entries_in g entries) g kept it.work
+
+abbrev pub AllTick : ReadingsView → Masks → ℕ → List Entry → List Group → Type 0
+AllTick readings m t entries groups = AllZip (Ticked readings m t entries) (range_with_len 0 (length readings.plan.groups)) groups
+
+-- the lines of the last tick of each group stand in their parts
+abbrev pub AllInParts : List Group → Type 0
+AllInParts groups = All (λ it. IsInParts it.work) groups
 
 -- the entries of all groups of n before tick t: in order, and in each tick the Sends of one group after another
 pub record AreWhole (n t : ℕ) (entries : List Entry) : Type 0 where
@@ -44,24 +77,24 @@ pub record AreWhole (n t : ℕ) (entries : List Entry) : Type 0 where
   pub turns : (u : ℕ) → sent_at entries u ≡ flat_map (λ g. sent_at (entries_in g entries) u) (range_with_len 0 n)
 
 -- what the groups made of tick t: the lines of their Takes, those of their Closes and Ends, those of their Sends, and these as entries with the fates that they met
-abbrev pub taken_by : List GroupWork → List Line
-taken_by works = flat_map (λ work. work.taken.items) works
+abbrev pub taken_by : List Group → List Line
+taken_by groups = flat_map (λ it. taken_in it.work) groups
 
-abbrev pub closed_by : List GroupWork → List Line
-closed_by works = flat_map (λ work. work.closed.items) works
+abbrev pub closed_by : List Group → List Line
+closed_by groups = flat_map (λ it. closed_in it.work) groups
 
-abbrev pub sends_by : List GroupWork → List Line
-sends_by works = flat_map (λ work. work.sent.items) works
+abbrev pub sends_by : List Group → List Line
+sends_by groups = flat_map (λ it. sends_in it.work) groups
 
-abbrev pub sent_by : ℕ → List GroupWork → List Entry
-sent_by t works = flat_map (λ work. sent_with t work.frames.items work.fates.items) works
+abbrev pub sent_by : ℕ → List Group → List Entry
+sent_by t groups = flat_map (λ it. sent_with t it.work.frames.items it.work.fates.items) groups
 
 -- the entries after its Takes, Closes and Ends, and after all of it
-abbrev pub quiet_then : ℕ → List Entry → List GroupWork → List Entry
-quiet_then t entries works = (entries ++ map (quiet t) (taken_by works)) ++ map (quiet t) (closed_by works)
+abbrev pub quiet_then : ℕ → List Entry → List Group → List Entry
+quiet_then t entries groups = (entries ++ map (quiet t) (taken_by groups)) ++ map (quiet t) (closed_by groups)
 
-abbrev pub whole_then : ℕ → List Entry → List GroupWork → List Entry
-whole_then t entries works = quiet_then t entries works ++ sent_by t works
+abbrev pub whole_then : ℕ → List Entry → List Group → List Entry
+whole_then t entries groups = quiet_then t entries groups ++ sent_by t groups
 
 -- ---- the lanes
 
@@ -88,17 +121,17 @@ pub record PassesBehind (t : ℕ) (frames : List Frame) (lanes hung : List Slot)
   pub behind : after ≡ before ++ met
 
 -- the frames of groups, one after another, and the fates that these met
-abbrev pub frames_by : List GroupWork → List Frame
-frames_by works = flat_map (λ work. work.frames.items) works
+abbrev pub frames_by : List Group → List Frame
+frames_by groups = flat_map (λ it. it.work.frames.items) groups
 
-abbrev pub fates_by : List GroupWork → List (List ℕ)
-fates_by works = flat_map (λ work. work.fates.items) works
+abbrev pub fates_by : List Group → List (List ℕ)
+fates_by groups = flat_map (λ it. it.work.fates.items) groups
 
 -- each frame of a group has met a fate
-pub record Fated (work : GroupWork) : Type 0 where
-  pub long : length work.fates.items ≡ length work.frames.items
-  pub delays : All (All IsDelay) work.fates.items
+pub record Fated (it : Group) : Type 0 where
+  pub long : length it.work.fates.items ≡ length it.work.frames.items
+  pub delays : All (All IsDelay) it.work.fates.items
 
 -- a group with other fates
-abbrev pub IsButFates : GroupWork → GroupWork → Type 0
-IsButFates before after = after ≡ record before { fates = after.fates }
+abbrev pub IsButFates : Group → Group → Type 0
+IsButFates before after = after ≡ record before { work = record before.work { fates = after.work.fates } }

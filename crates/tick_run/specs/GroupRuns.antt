@@ -1,5 +1,5 @@
 -- A run of one group: what it has between ticks, and what a tick makes of it.
-use Rattle.std.specs.Prelude.{◌≡◌, ℕ, ◌-◌, ◌+◌, List, [], ◌∷◌, ◌++◌, length, map, All, true, Option, Some, None}
+use Rattle.std.specs.Prelude.{◌≡◌, ℕ, ◌-◌, ◌+◌, ◌<◌, ◌≤◌, List, [], ◌∷◌, ◌++◌, length, map, take, drop, All, true, Option, Some, None}
 use Rattle.missing_round.specs.Masks.{Masks}
 use Rattle.group_plan.specs.Plans.{is_place}
 use Rattle.group_plan.specs.Tables.{ReadingsView, PresenceView, presence_of}
@@ -15,7 +15,7 @@ use Rattle.transcript_log.specs.declared.Entry.{Entry}
 use Rattle.transcript_log.specs.Drafts.{quiet}
 use Rattle.transcript_log.specs.Events.{event_of, lines_of}
 use Rattle.transcript_log.specs.Journal.{core_line}
-use Rattle.transcript_log.specs.Lines.{LinesView}
+use Rattle.transcript_log.specs.Lines.{LinesView, HasOwnTag}
 use Rattle.transcript_log.specs.Schedule.{shape_of_presence}
 use Rattle.transcript_log.specs.Transcripts.{TranscriptView, FitsLine}
 use Rattle.group_book.specs.declared.answers.SendAnswer.{SendAnswer}
@@ -23,7 +23,7 @@ use Rattle.run_rows.specs.Ticks.{phase}
 use Rattle.group_book.specs.Books.{BookView, Adds, SendEnds, posted_in}
 use Rattle.group_book.specs.ByGroup.{group_of}
 use Rattle.group_book.specs.Groups.{GroupView}
-use Rattle.group_book.specs.Replay.{Replays, book_at}
+use Rattle.group_book.specs.Replay.{IsLedger, Replays, book_at}
 use Rattle.plan_meters.specs.GroupMeters.{AreGroupMeters}
 use Rattle.plan_meters.specs.Meters.{AreTold}
 use Rattle.tick_run.specs.declared.group_tick.GroupWork.{GroupWork}
@@ -128,33 +128,62 @@ script_of readings entries = record { plan = readings.plan; entries = entries }
 abbrev pub book_with : ReadingsView → List Entry → BookView
 book_with readings entries = book_at (presence_of readings) (lines_of entries) 0
 
+-- the lines of a group's last tick: of Takes, of Closes and Ends, and of Sends
+abbrev pub taken_in : GroupWork → List Line
+taken_in work = take work.closed_from work.lines.items
+
+abbrev pub closed_in : GroupWork → List Line
+closed_in work = take (work.sent_from - work.closed_from) (drop work.closed_from work.lines.items)
+
+abbrev pub sends_in : GroupWork → List Line
+sends_in work = drop work.sent_from work.lines.items
+
+-- these parts are one after another, and each frame in them has its line's tag
+pub record IsInParts (work : GroupWork) : Type 0 where
+  pub closed : work.closed_from ≤ work.sent_from
+  pub sent : work.sent_from ≤ length work.lines.items
+  pub own : All HasOwnTag work.lines.items
+
 -- a group before tick t. Its entries are a run of the group up to there; its pages, its meters and its copies are those of these entries. The frames
 -- of the tick before have met these fates, and their copies are not on their way yet
-pub record IsGroupAt (readings : ReadingsView) (m : Masks) (t : ℕ) (entries : List Entry) (fates : List (List ℕ)) (work : GroupWork) : Type 0 where
-  pub own : All (λ e. group_of (event_of e.line) ≡ work.pages.group) entries
+pub record IsGroupAt (readings : ReadingsView) (m : Masks) (t : ℕ) (entries : List Entry) (fates : List (List ℕ)) (kept : GroupView) (work : GroupWork) : Type 0 where
+  pub own : All (λ e. group_of (event_of e.line) ≡ kept.group) entries
   pub long : length fates ≡ length work.frames.items
   pub fits : All (λ f. FitsKind f.tag.kind f.missing f.word) work.frames.items
-  pub running : AreRunning readings m (work.pages.group ∷ []) (starting t) (book_with readings entries) (script_of readings entries) (posted_all (t - 1) work.frames.items fates work.link)
-  pub pages : Replays (presence_of readings) (lines_of entries) work.pages
-  pub meters : AreGroupMeters (book_with readings entries) t work.pages.group work.meters.meters.items
+  pub running : AreRunning readings m (kept.group ∷ []) (starting t) (book_with readings entries) (script_of readings entries) (posted_all (t - 1) work.frames.items fates work.link)
+  pub pages : Replays (presence_of readings) (lines_of entries) kept
+  pub meters : AreGroupMeters (book_with readings entries) t kept.group work.meters.meters.items
+
+-- group g before tick t, but for its pages, which are in the shared book: the lines of its entries are a book's
+pub record IsWorkAt (readings : ReadingsView) (m : Masks) (t : ℕ) (entries : List Entry) (fates : List (List ℕ)) (g : ℕ) (work : GroupWork) : Type 0 where
+  pub inside : g < length readings.plan.groups
+  pub own : All (λ e. group_of (event_of e.line) ≡ g) entries
+  pub long : length fates ≡ length work.frames.items
+  pub fits : All (λ f. FitsKind f.tag.kind f.missing f.word) work.frames.items
+  pub running : AreRunning readings m (g ∷ []) (starting t) (book_with readings entries) (script_of readings entries) (posted_all (t - 1) work.frames.items fates work.link)
+  pub ledger : IsLedger (presence_of readings) (lines_of entries)
+  pub meters : AreGroupMeters (book_with readings entries) t g work.meters.meters.items
 
 -- the entries of a group after a tick, in which it added these lines and its frames met these fates
 abbrev pub entries_then : ℕ → List Entry → List Line → List Line → List Frame → List (List ℕ) → List Entry
 entries_then t entries taken closed frames fates = ((entries ++ map (quiet t) taken) ++ map (quiet t) closed) ++ sent_with t frames fates
 
--- tick t of group g: it has taken, closed and ended, and sent; and whatever fates its frames meet, it stands before the next tick with them
-pub record GroupTicks (readings : ReadingsView) (m : Masks) (t : ℕ) (entries : List Entry) (g : ℕ) (after : GroupWork) : Type 0 where
-  pub group : after.pages.group ≡ g
-  pub takes : All (λ l. phase (event_of l) ≡ 0) after.taken.items
-  pub closes : All (λ l. phase (event_of l) ≡ 1) after.closed.items
-  pub sends : after.sent.items ≡ map send_line after.frames.items
-  pub fit_taken : All (FitsLine readings.plan []) after.taken.items
-  pub fit_closed : All (FitsLine readings.plan []) after.closed.items
+-- tick t of group g: it has taken, closed and ended, and sent. Its lines are the group's, and its pages are of its entries with them. And whatever fates its frames meet, it stands before the next tick with them
+pub record GroupTicks (readings : ReadingsView) (m : Masks) (t : ℕ) (entries : List Entry) (g : ℕ) (kept : GroupView) (after : GroupWork) : Type 0 where
+  pub group : kept.group ≡ g
+  pub parts : IsInParts after
+  pub takes : All (λ l. phase (event_of l) ≡ 0) (taken_in after)
+  pub closes : All (λ l. phase (event_of l) ≡ 1) (closed_in after)
+  pub sends : sends_in after ≡ map send_line after.frames.items
+  pub own : All (λ l. group_of (event_of l) ≡ g) after.lines.items
+  pub pages : Replays (presence_of readings) (lines_of entries ++ after.lines.items) kept
+  pub fit_taken : All (FitsLine readings.plan []) (taken_in after)
+  pub fit_closed : All (FitsLine readings.plan []) (closed_in after)
   pub fit_sent : All (IsOfPlan readings.plan) after.frames.items
   pub next : (fates : List (List ℕ)) → All (All IsDelay) fates → length fates ≡ length after.frames.items
-      → IsGroupAt readings m (t + 1) (entries_then t entries after.taken.items after.closed.items after.frames.items fates) fates after
+      → IsGroupAt readings m (t + 1) (entries_then t entries (taken_in after) (closed_in after) after.frames.items fates) fates kept after
 
 -- by some entries a group stands before tick t
-pub record CanTick (readings : ReadingsView) (m : Masks) (t : ℕ) (work : GroupWork) : Type 0 where
+pub record CanTick (readings : ReadingsView) (m : Masks) (t : ℕ) (kept : GroupView) (work : GroupWork) : Type 0 where
   pub entries : List Entry
-  pub stands : IsGroupAt readings m t entries work.fates.items work
+  pub stands : IsGroupAt readings m t entries work.fates.items kept work

@@ -7,6 +7,7 @@ pub mod Jobs
 pub mod Sending
 pub mod Batches
 pub mod GroupRuns
+pub mod Sharing
 pub mod ByGroups
 pub mod Written
 pub mod Whole

@@ -6,44 +6,77 @@ ghost use Rattle.group_plan.specs.Tables.{presence_of};
 ghost use Rattle.link_lanes.specs.Racks.{slots, posts_of, spare_of, HasRoom};
 ghost use Rattle.transcript_log.specs.declared.Entry.{Entry as EntryView};
 ghost use Rattle.plan_meters.specs.Hidden.{IsOfOnePlan};
+ghost use Rattle.shared_book.specs.Ends.{opening};
 ghost use Rattle.tick_run.specs.Progress.{IsDelay};
-ghost use Rattle.tick_run.specs.GroupRuns.{IsGroupAt, CanTick, GroupTicks};
 ghost use Rattle.tick_run.specs.Runs.{IsOfRun};
-ghost use Rattle.tick_run.specs.ByGroups.{AllStand, CanTickAll, AllTick, Passes, PassesBehind, frames_by, fates_by, Fated, IsButFates};
+ghost use Rattle.tick_run.specs.ByGroups.{IsAt, IsMade, CanShare, AllStand, CanTickAll, AllMade, Passes, PassesBehind, frames_by, fates_by, Fated, IsButFates};
 
 use crate::context::Context;
-use crate::group_tick::{GroupWork, group_tick};
+use crate::group_tick::group_tick;
+use crate::running::Group;
 use collector_workers::Gate;
-use group_plan::Presence;
 use link_lanes::{Fate, Lane, Rack};
 use mask_stream::Masks;
 use meter_frames::Frame;
 use plan_meters::Known;
+use shared_book::SharedBook;
 use std::alloc::AllocError;
+use std::sync::Wait;
 use std::thread;
 use std::thread::Threads;
 
 // ---- the ticks of the groups
 
-/// Makes the tick of a group, and notes whether there was no memory for it.
-fn tick_work<M: Masks>(known: &Known<M>, presence: &Presence, work: &mut GroupWork, tick: u32)
+/// Makes the tick of a group: checks its pages out of the shared book, and in again with the lines of the tick. No other pass makes
+/// commits in the group, so that the pages are always the group's own.
+fn tick_shared<R: Wait, M: Masks>(
+    rt: &R,
+    known: &Known<M>,
+    shared: &SharedBook,
+    group: &mut Group,
+    tick: u32,
+) -> Result<(), AllocError>
     requires known { IsOfOnePlan M.plan M.table known.now }
-    requires presence { presence.now ≡ presence_of known.now.readings.now }
-    requires can { CanTick known.now.readings.now (M.table known.now.masks.now) tick work.old }
+    requires presence { (opening shared.now).presence ≡ presence_of known.now.readings.now }
+    requires can { CanShare shared.now known.now.readings.now (M.table known.now.masks.now) tick group.old }
     requires tick { tick < 2 ^ 31 }
-    ensures { (entries : List EntryView) → IsGroupAt known.now.readings.now (M.table known.now.masks.now) tick entries work.old.fates.items work.old →
-        work.new.failed ≡ false → GroupTicks known.now.readings.now (M.table known.now.masks.now) tick entries work.old.pages.group work.new }
+    ensures { (entries : List EntryView) (g : ℕ) → IsAt shared.now known.now.readings.now (M.table known.now.masks.now) tick entries g group.old →
+        OnOk result (IsMade shared.now known.now.readings.now (M.table known.now.masks.now) tick entries g group.new) }
 {
-    let made = group_tick(known, presence, work, tick);
-    work.failed = made.is_err();
+    let (mut pages, own) = shared.check_out_own(rt, &mut group.pass, group.number);
+    if !own {
+        return Err(AllocError);
+    }
+    group_tick(known, shared.presence(), &mut pages, &mut group.work, tick)?;
+    shared.check_in(&mut group.pass, pages, &group.work.lines, 0);
+    Ok(())
+}
+
+/// Makes the tick of a group, and notes whether there was no memory for it.
+fn tick_work<R: Wait, M: Masks>(
+    rt: &R,
+    known: &Known<M>,
+    shared: &SharedBook,
+    group: &mut Group,
+    tick: u32,
+)
+    requires known { IsOfOnePlan M.plan M.table known.now }
+    requires presence { (opening shared.now).presence ≡ presence_of known.now.readings.now }
+    requires can { CanShare shared.now known.now.readings.now (M.table known.now.masks.now) tick group.old }
+    requires tick { tick < 2 ^ 31 }
+    ensures { (entries : List EntryView) (g : ℕ) → IsAt shared.now known.now.readings.now (M.table known.now.masks.now) tick entries g group.old →
+        group.new.work.failed ≡ false → IsMade shared.now known.now.readings.now (M.table known.now.masks.now) tick entries g group.new }
+{
+    let made = tick_shared(rt, known, shared, group, tick);
+    group.work.failed = made.is_err();
 }
 
 /// Whether there was no memory for the tick of one of the groups.
-fn any_failed(works: &[GroupWork]) -> bool
-    ensures { result ≡ list_any (λ work. work.failed) works.now }
+fn any_failed(groups: &[Group]) -> bool
+    ensures { result ≡ list_any (λ group. group.work.failed) groups.now }
 {
-    for work in works {
-        if work.failed {
+    for group in groups {
+        if group.work.failed {
             return true;
         }
     }
@@ -60,41 +93,38 @@ fn worker_of(at: usize, groups: usize, threads: usize) -> u32
 
 /// Makes the tick of all groups, in the crew's threads. The gate is asked before each group, by the number of the
 /// worker that makes its tick.
-pub(crate) fn tick_all<R: Threads + Sync, M: Masks + Sync, G: Gate>(
+pub(crate) fn tick_all<R: Threads + Wait + Sync, M: Masks + Sync, G: Gate>(
     context: &Context<R, M, G>,
-    presence: &Presence,
-    works: &mut [GroupWork],
+    shared: &SharedBook,
+    groups: &mut [Group],
     tick: u32,
 ) -> Result<(), AllocError>
     requires context { IsOfRun M.plan M.table context.now }
-    requires presence { presence.now ≡ presence_of context.now.known.readings.now }
-    requires can { CanTickAll context.now.known.readings.now (M.table context.now.known.masks.now) tick works.old }
+    requires presence { (opening shared.now).presence ≡ presence_of context.now.known.readings.now }
+    requires can { CanTickAll shared.now context.now.known.readings.now (M.table context.now.known.masks.now) tick groups.old }
     requires tick { tick < 2 ^ 31 }
-    ensures { (entries : List EntryView) → AllStand context.now.known.readings.now (M.table context.now.known.masks.now) tick entries works.old →
-        OnOk result (AllTick context.now.known.readings.now (M.table context.now.known.masks.now) tick entries works.new) }
+    ensures { (entries : List EntryView) → AllStand shared.now context.now.known.readings.now (M.table context.now.known.masks.now) tick entries groups.old →
+        OnOk result (AllMade shared.now context.now.known.readings.now (M.table context.now.known.masks.now) tick entries groups.new) }
 {
-    let known = &context.known;
-    let gate = context.crew.gate;
-    let threads = context.threads;
-    let groups = works.len();
+    let count = groups.len();
     thread::for_each_mut(
         context.crew.rt,
-        works,
-        threads,
-        &|at: usize, work: &mut GroupWork|
-            requires known { IsOfOnePlan M.plan M.table known.now }
-            requires presence { presence.now ≡ presence_of known.now.readings.now }
-            requires can { CanTick known.now.readings.now (M.table known.now.masks.now) tick work.now }
+        groups,
+        context.threads,
+        &|at: usize, group: &mut Group|
+            requires context { IsOfRun M.plan M.table context.now }
+            requires presence { (opening shared.now).presence ≡ presence_of context.now.known.readings.now }
+            requires can { CanShare shared.now context.now.known.readings.now (M.table context.now.known.masks.now) tick group.now }
             requires tick { tick < 2 ^ 31 }
-            requires threads { 0 < threads }
-            ensures { (entries : List EntryView) → IsGroupAt known.entry.now.readings.now (M.table known.entry.now.masks.now) tick entries work.entry.now.fates.items work.entry.now →
-                work.exit.now.failed ≡ false → GroupTicks known.entry.now.readings.now (M.table known.entry.now.masks.now) tick entries work.entry.now.pages.group work.exit.now }
+            ensures { (entries : List EntryView) (g : ℕ) → IsAt shared.entry.now context.entry.now.known.readings.now (M.table context.entry.now.known.masks.now) tick entries g group.entry.now →
+                group.exit.now.work.failed ≡ false → IsMade shared.entry.now context.entry.now.known.readings.now (M.table context.entry.now.known.masks.now) tick entries g group.exit.now }
         {
-            gate.at(worker_of(at, groups, threads));
-            tick_work(known, presence, work, tick)
+            let crew = context.crew;
+            crew.gate.at(worker_of(at, count, context.threads));
+            tick_work(crew.rt, &context.known, shared, group, tick)
         },
     );
-    if any_failed(works) {
+    if any_failed(groups) {
         return Err(AllocError);
     }
     Ok(())
@@ -130,12 +160,12 @@ fn pass_frames(
 }
 
 /// How many frames all groups have sent; none where they are more than can be counted.
-pub(crate) fn count_frames(works: &[GroupWork]) -> Option<usize>
-    ensures { (n : ℕ) → result ≡ Some n → n ≡ length (frames_by works.now) }
+pub(crate) fn count_frames(groups: &[Group]) -> Option<usize>
+    ensures { (n : ℕ) → result ≡ Some n → n ≡ length (frames_by groups.now) }
 {
     let mut count = 0usize;
-    for work in works {
-        count = count.checked_add(work.frames.len())?;
+    for group in groups {
+        count = count.checked_add(group.work.frames.len())?;
     }
     Some(count)
 }
@@ -143,45 +173,45 @@ pub(crate) fn count_frames(works: &[GroupWork]) -> Option<usize>
 /// Passes the frames of all groups through the lanes, one group after another, and keeps the fates that they meet.
 pub(crate) fn pass_all(
     tick: u32,
-    works: &[GroupWork],
+    groups: &[Group],
     fates: &mut Vec<Fate>,
     rack: &mut Rack,
 ) -> Result<(), AllocError>
-    requires posts { length (frames_by works.now) ≤ spare_of rack.old }
-    requires few { length (posts_of rack.old) + length (frames_by works.now) < 2 ^ 32 }
+    requires posts { length (frames_by groups.now) ≤ spare_of rack.old }
+    requires few { length (posts_of rack.old) + length (frames_by groups.now) < 2 ^ 32 }
     requires room { HasRoom (λ b. meaning (b.vtable, b.value)) rack.old }
-    ensures passes { OnOk result (Passes tick (frames_by works.now) (slots (λ b. meaning (b.vtable, b.value)) rack.old) (slots (λ b. meaning (b.vtable, b.value)) rack.new) (posts_of rack.old) (posts_of rack.new) fates.new.items) }
+    ensures passes { OnOk result (Passes tick (frames_by groups.now) (slots (λ b. meaning (b.vtable, b.value)) rack.old) (slots (λ b. meaning (b.vtable, b.value)) rack.new) (posts_of rack.old) (posts_of rack.new) fates.new.items) }
     ensures room { HasRoom (λ b. meaning (b.vtable, b.value)) rack.new }
 {
     fates.clear();
-    for work in works {
-        pass_frames(tick, &work.frames, fates, rack)?;
+    for group in groups {
+        pass_frames(tick, &group.work.frames, fates, rack)?;
     }
     Ok(())
 }
 
 /// Gives a group the fates that its frames have met.
-fn give_fates(work: &mut GroupWork, fates: &[Fate]) -> Result<(), AllocError>
-    ensures same { OnOk result (IsButFates work.old work.new) }
-    ensures fates { OnOk result (work.new.fates.items ≡ fates.now) }
+fn give_fates(group: &mut Group, fates: &[Fate]) -> Result<(), AllocError>
+    ensures same { OnOk result (IsButFates group.old group.new) }
+    ensures fates { OnOk result (group.new.work.fates.items ≡ fates.now) }
 {
-    work.fates.clear();
-    work.fates.extend_from_slice(fates)
+    group.work.fates.clear();
+    group.work.fates.extend_from_slice(fates)
 }
 
 /// Gives each group the fates that its frames have met, of those that the frames of all groups have met, one group after another.
-pub(crate) fn give_all_fates(works: &mut [GroupWork], fates: &[Fate]) -> Result<(), AllocError>
-    requires long { length fates.now ≡ length (frames_by works.old) }
+pub(crate) fn give_all_fates(groups: &mut [Group], fates: &[Fate]) -> Result<(), AllocError>
+    requires long { length fates.now ≡ length (frames_by groups.old) }
     requires delays { All (All IsDelay) fates.now }
-    ensures same { OnOk result (AllZip IsButFates works.old works.new) }
-    ensures fated { OnOk result (All Fated works.new) }
-    ensures fates { OnOk result (fates_by works.new ≡ fates.now) }
+    ensures same { OnOk result (AllZip IsButFates groups.old groups.new) }
+    ensures fated { OnOk result (All Fated groups.new) }
+    ensures fates { OnOk result (fates_by groups.new ≡ fates.now) }
 {
     let mut from = 0;
-    for at in 0..works.len() {
-        let work = &mut works[at];
-        let to = from + work.frames.len();
-        give_fates(work, &fates[from..to])?;
+    for at in 0..groups.len() {
+        let group = &mut groups[at];
+        let to = from + group.work.frames.len();
+        give_fates(group, &fates[from..to])?;
         from = to;
     }
     Ok(())

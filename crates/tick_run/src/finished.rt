@@ -1,15 +1,17 @@
 //! What a run that is over has made.
 
-ghost use Rattle.std.specs.Prelude.{◌≡◌, map, IfOk};
+ghost use Rattle.std.specs.Prelude.{◌≡◌, ◌<◌, ℕ, length, slice_index_or};
 ghost use Rattle.group_plan.specs.Plans.{IsWithinLimits};
 ghost use Rattle.group_plan.specs.Tables.{IsPresenceTable, IsReadingTable};
-ghost use Rattle.group_book.specs.Replay.{AreReplayed};
+ghost use Rattle.shared_book.specs.Ends.{opening, view, IsPassOf};
+ghost use Rattle.tick_run.specs.declared.running.Group.{Group as GroupValue};
+ghost use Rattle.tick_run.specs.Sharing.{leading, IsSplit, JoinsGroups, HaveMade};
 
-use crate::group_tick::GroupWork;
-use crate::running::Running;
-use group_book::{Book, GroupPages, Parts};
+use crate::running::{Group, Running};
+use group_book::{Book, Parts};
 use group_plan::{Presence, Readings};
-use std::alloc::{AllocError, Global};
+use shared_book::{Pass, SharedBook};
+use std::alloc::Global;
 use transcript_log::Draft;
 
 /// What a run that is over has made: its book, and its transcript, of which the lines stand in the book's journal.
@@ -34,32 +36,41 @@ pub(crate) fn presence_is_of_members(presence: &Presence)
     let _plan = presence.plan();
 }
 
-/// The pages of all groups.
-fn pages_of(alloc: Global, works: Vec<GroupWork>) -> Result<Vec<GroupPages>, AllocError>
-    ensures { IfOk result (λ pages. pages.items ≡ map (λ work. work.pages) works.items) }
+/// Takes the passes of all groups back.
+fn join_all(shared: &SharedBook, first: &mut Pass, groups: Vec<Group>)
+    requires pass { IsPassOf shared.now first.old }
+    requires leads { view first.old ≡ leading (length groups.items) }
+    requires groups { (g : ℕ) (d : GroupValue) → g < length groups.items → IsSplit shared.now g (slice_index_or groups.items g d).pass }
+    ensures pass { IsPassOf shared.now first.new }
+    ensures joins { JoinsGroups (length groups.items) groups.items (view first.new) }
 {
-    let mut groups = Vec::with_capacity(alloc, works.len())?;
-    for work in works {
-        groups.push(work.pages)?;
+    for group in groups {
+        let Group { pass, .. } = group;
+        shared.join(first, pass);
     }
-    Ok(groups)
 }
 
-/// What a run has made, once it is over: the book is put together again.
-pub(crate) fn make_finished(alloc: Global, run: Running) -> Result<Finished, AllocError>
-    requires { AreReplayed run.presence run.journal.items (map (λ work. work.pages) run.works.items) }
-    ensures presence { IfOk result (λ f. f.book.presence ≡ run.presence) }
-    ensures journal { IfOk result (λ f. f.book.journal ≡ run.journal.items) }
-    ensures transcript { IfOk result (λ f. f.transcript ≡ run.transcript) }
+/// What a run has made, once it is over: the passes are joined, the shared book is shut, and its pages make a book with the journal.
+pub(crate) fn make_finished(alloc: Global, run: Running) -> Finished
+    requires { HaveMade run.shared run.first run.groups.items run.journal.items }
+    ensures presence { result.book.presence ≡ (opening run.shared).presence }
+    ensures journal { result.book.journal ≡ run.journal.items }
+    ensures transcript { result.transcript ≡ run.transcript }
 {
     let Running {
-        presence,
-        works,
+        shared,
+        mut first,
+        groups,
         journal,
         transcript,
         fates: _,
     } = run;
-    let groups = pages_of(alloc, works)?;
+    join_all(&shared, &mut first, groups);
+    let Parts {
+        presence,
+        groups,
+        journal: _,
+    } = shared.shut(first);
     let book = Book::of_parts(
         alloc,
         Parts {
@@ -68,5 +79,5 @@ pub(crate) fn make_finished(alloc: Global, run: Running) -> Result<Finished, All
             journal,
         },
     );
-    Ok(Finished { book, transcript })
+    Finished { book, transcript }
 }

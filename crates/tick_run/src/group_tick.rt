@@ -31,18 +31,19 @@ use plan_meters::{GroupMeters, Known, add_answer_frames, add_reading_frames};
 use std::alloc::{AllocError, Global};
 use transcript_log::{Lines, members};
 
-/// A group between ticks: its pages of the book, its meters, its copies on their way, the frames that it sent last with the fates
-/// that they met, and the lines of its last tick: of Takes, of Closes and Ends, and of Sends.
+/// What a group has between ticks beside its pages of the book: its meters, its copies on their way, the frames that it sent last with
+/// the fates that they met, and the lines of its last tick.
 #[derive(Drop)]
 pub(crate) struct GroupWork {
-    pub pages: GroupPages,
     pub meters: GroupMeters,
     pub link: Link,
     pub frames: Vec<Frame>,
     pub fates: Vec<Fate>,
-    pub taken: Lines,
-    pub closed: Lines,
-    pub sent: Lines,
+    /// Lines of Takes, then of Closes and Ends, then of Sends.
+    pub lines: Lines,
+    /// Where the lines of Closes and Ends begin, and where those of Sends begin.
+    pub closed_from: usize,
+    pub sent_from: usize,
     /// Whether there was no memory for its last tick.
     pub failed: bool,
 }
@@ -88,23 +89,23 @@ fn frames_of(alloc: Global, copies: &[[u8; 52]]) -> Result<Vec<Frame>, AllocErro
 // ---- the head end
 
 /// Takes a frame that stands posted under its tag.
-fn take_one(pages: &mut GroupPages, frame: &Frame, taken: &mut Lines)
+fn take_one(pages: &mut GroupPages, frame: &Frame, lines: &mut Lines)
     requires can { CanTakeAll pages.old (frame.now ∷ []) }
-    requires spare { 0 < taken.old.spare }
-    ensures takes { (p : PresenceView) (j : List LineView) → Replays p j pages.old → IsTakeable p pages.old.group j frame.now → Calls p j (takes_of (frame.now ∷ [])) taken.old pages.old.group pages.new taken.new }
-    ensures spare { taken.old.spare ≤ taken.new.spare + 1 }
+    requires spare { 0 < lines.old.spare }
+    ensures takes { (p : PresenceView) (j : List LineView) → Replays p j pages.old → IsTakeable p pages.old.group j frame.now → Calls p j (takes_of (frame.now ∷ [])) lines.old pages.old.group pages.new lines.new }
+    ensures spare { lines.old.spare ≤ lines.new.spare + 1 }
 {
-    let _verdict = pages.take(frame, taken);
+    let _verdict = pages.take(frame, lines);
 }
 
 /// Takes frames in order.
-fn take_all(pages: &mut GroupPages, came: &[Frame], taken: &mut Lines)
+fn take_all(pages: &mut GroupPages, came: &[Frame], lines: &mut Lines)
     requires can { CanTakeAll pages.old came.now }
-    requires spare { length came.now ≤ taken.old.spare }
-    ensures { (p : PresenceView) (j : List LineView) → Replays p j pages.old → All (IsTakeable p pages.old.group j) came.now → Calls p j (takes_of came.now) taken.old pages.old.group pages.new taken.new }
+    requires spare { length came.now ≤ lines.old.spare }
+    ensures { (p : PresenceView) (j : List LineView) → Replays p j pages.old → All (IsTakeable p pages.old.group j) came.now → Calls p j (takes_of came.now) lines.old pages.old.group pages.new lines.new }
 {
     for frame in came {
-        take_one(pages, frame, taken);
+        take_one(pages, frame, lines);
     }
 }
 
@@ -120,27 +121,27 @@ fn due_round(rounds: u32, window: u32, tick: u32) -> Option<u32>
 }
 
 /// Closes a round, where there is one.
-fn close_one(pages: &mut GroupPages, round: Option<u32>, closed: &mut Lines)
+fn close_one(pages: &mut GroupPages, round: Option<u32>, lines: &mut Lines)
     requires can { CanCall pages.old }
     requires round { (r : ℕ) → round ≡ Some r → r < pages.old.rounds }
-    requires spare { 0 < closed.old.spare }
-    ensures calls { (p : PresenceView) (j : List LineView) → Replays p j pages.old → Calls p j (close_of pages.old.group round) closed.old pages.old.group pages.new closed.new }
-    ensures spare { closed.old.spare ≤ closed.new.spare + 1 }
+    requires spare { 0 < lines.old.spare }
+    ensures calls { (p : PresenceView) (j : List LineView) → Replays p j pages.old → Calls p j (close_of pages.old.group round) lines.old pages.old.group pages.new lines.new }
+    ensures spare { lines.old.spare ≤ lines.new.spare + 1 }
 {
     if let Some(round) = round {
-        let _closing = pages.close(round, closed);
+        let _closing = pages.close(round, lines);
     }
 }
 
 /// Ends a round, where there is one.
-fn end_one(pages: &mut GroupPages, round: Option<u32>, closed: &mut Lines)
+fn end_one(pages: &mut GroupPages, round: Option<u32>, lines: &mut Lines)
     requires can { CanCall pages.old }
     requires round { (r : ℕ) → round ≡ Some r → r < pages.old.rounds }
-    requires spare { 0 < closed.old.spare }
-    ensures { (p : PresenceView) (j : List LineView) → Replays p j pages.old → Calls p j (end_of pages.old.group round) closed.old pages.old.group pages.new closed.new }
+    requires spare { 0 < lines.old.spare }
+    ensures { (p : PresenceView) (j : List LineView) → Replays p j pages.old → Calls p j (end_of pages.old.group round) lines.old pages.old.group pages.new lines.new }
 {
     if let Some(round) = round {
-        let _ending = pages.end(round, closed);
+        let _ending = pages.end(round, lines);
     }
 }
 
@@ -149,18 +150,18 @@ fn close_and_end(
     plan: &Plan,
     pages: &mut GroupPages,
     tick: u32,
-    closed: &mut Lines,
+    lines: &mut Lines,
 ) -> Result<(), AllocError>
     requires can { CanCall pages.old }
     requires rounds { pages.old.rounds ≡ plan.now.rounds }
-    ensures { (p : PresenceView) (j : List LineView) → Replays p j pages.old → OnOk result (Calls p j (calls_of (clock_of plan.now) tick pages.old.group) closed.old pages.old.group pages.new closed.new) }
+    ensures { (p : PresenceView) (j : List LineView) → Replays p j pages.old → OnOk result (Calls p j (calls_of (clock_of plan.now) tick pages.old.group) lines.old pages.old.group pages.new lines.new) }
 {
-    closed.reserve(2)?;
+    lines.reserve(2)?;
     let rounds = plan.rounds();
     let closes = plan.w1();
     let ends = closes + plan.w2();
-    close_one(pages, due_round(rounds, closes, tick), closed);
-    end_one(pages, due_round(rounds, ends, tick), closed);
+    close_one(pages, due_round(rounds, closes, tick), lines);
+    end_one(pages, due_round(rounds, ends, tick), lines);
     Ok(())
 }
 
@@ -266,24 +267,24 @@ fn frame_is(frame: &Frame)
 }
 
 /// Sends a frame.
-fn send_one(presence: &Presence, pages: &mut GroupPages, frame: &Frame, sent: &mut Lines)
+fn send_one(presence: &Presence, pages: &mut GroupPages, frame: &Frame, lines: &mut Lines)
     requires can { CanSendFrames presence.now pages.old (frame.now ∷ []) }
-    requires spare { 0 < sent.old.spare }
-    ensures sends { (j : List LineView) → Replays presence.now j pages.old → AreSendable presence.now pages.old.group j (frame.now ∷ []) → SendsAll presence.now j (frame.now ∷ []) sent.old pages.old.group pages.new sent.new }
-    ensures spare { sent.old.spare ≤ sent.new.spare + 1 }
+    requires spare { 0 < lines.old.spare }
+    ensures sends { (j : List LineView) → Replays presence.now j pages.old → AreSendable presence.now pages.old.group j (frame.now ∷ []) → SendsAll presence.now j (frame.now ∷ []) lines.old pages.old.group pages.new lines.new }
+    ensures spare { lines.old.spare ≤ lines.new.spare + 1 }
 {
     frame_is(frame);
-    let _answer = pages.send(presence, *frame, sent);
+    let _answer = pages.send(presence, *frame, lines);
 }
 
 /// Sends frames in order.
-fn send_all(presence: &Presence, pages: &mut GroupPages, frames: &[Frame], sent: &mut Lines)
+fn send_all(presence: &Presence, pages: &mut GroupPages, frames: &[Frame], lines: &mut Lines)
     requires can { CanSendFrames presence.now pages.old frames.now }
-    requires spare { length frames.now ≤ sent.old.spare }
-    ensures { (j : List LineView) → Replays presence.now j pages.old → AreSendable presence.now pages.old.group j frames.now → SendsAll presence.now j frames.now sent.old pages.old.group pages.new sent.new }
+    requires spare { length frames.now ≤ lines.old.spare }
+    ensures { (j : List LineView) → Replays presence.now j pages.old → AreSendable presence.now pages.old.group j frames.now → SendsAll presence.now j frames.now lines.old pages.old.group pages.new lines.new }
 {
     for frame in frames {
-        send_one(presence, pages, frame, sent);
+        send_one(presence, pages, frame, lines);
     }
 }
 
@@ -294,18 +295,19 @@ fn send_all(presence: &Presence, pages: &mut GroupPages, frames: &[Frame], sent:
 pub(crate) fn group_tick<M: Masks>(
     known: &Known<M>,
     presence: &Presence,
+    pages: &mut GroupPages,
     work: &mut GroupWork,
     tick: u32,
 ) -> Result<(), AllocError>
     requires known { IsOfOnePlan M.plan M.table known.now }
     requires presence { presence.now ≡ presence_of known.now.readings.now }
-    requires can { CanTick known.now.readings.now (M.table known.now.masks.now) tick work.old }
+    requires can { CanTick known.now.readings.now (M.table known.now.masks.now) tick pages.old work.old }
     requires tick { tick < 2 ^ 31 }
-    ensures { (entries : List EntryView) → IsGroupAt known.now.readings.now (M.table known.now.masks.now) tick entries work.old.fates.items work.old →
-        OnOk result (GroupTicks known.now.readings.now (M.table known.now.masks.now) tick entries work.old.pages.group work.new) }
+    ensures { (entries : List EntryView) → IsGroupAt known.now.readings.now (M.table known.now.masks.now) tick entries work.old.fates.items pages.old work.old →
+        OnOk result (GroupTicks known.now.readings.now (M.table known.now.masks.now) tick entries pages.old.group pages.new work.new) }
 {
     let alloc = *work.frames.allocator();
-    let group = work.pages.group();
+    let group = pages.group();
     post_all(
         &mut work.link,
         &work.frames,
@@ -314,22 +316,17 @@ pub(crate) fn group_tick<M: Masks>(
     )?;
     let copies = work.link.due(tick)?;
     let came = frames_of(alloc, &copies)?;
-    work.taken = Lines::new(alloc);
-    work.taken.reserve(came.len() as u64)?;
-    take_all(&mut work.pages, &came, &mut work.taken);
-    work.closed = Lines::new(alloc);
-    close_and_end(
-        known.readings.plan(),
-        &mut work.pages,
-        tick,
-        &mut work.closed,
-    )?;
+    work.lines.clear();
+    work.lines.reserve(came.len() as u64)?;
+    take_all(pages, &came, &mut work.lines);
+    work.closed_from = work.lines.len();
+    close_and_end(known.readings.plan(), pages, tick, &mut work.lines)?;
+    work.sent_from = work.lines.len();
     work.meters.read(known.readings, group, tick);
     let heard = hear_all(alloc, &mut work.meters, &came)?;
     work.frames.clear();
-    add_due(known, &work.pages, &heard, tick, &mut work.frames)?;
-    work.sent = Lines::new(alloc);
-    work.sent.reserve(work.frames.len() as u64)?;
-    send_all(presence, &mut work.pages, &work.frames, &mut work.sent);
+    add_due(known, pages, &heard, tick, &mut work.frames)?;
+    work.lines.reserve(work.frames.len() as u64)?;
+    send_all(presence, pages, &work.frames, &mut work.lines);
     Ok(())
 }

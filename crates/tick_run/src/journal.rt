@@ -1,48 +1,69 @@
 //! What all groups made of a tick, in the journal and in the transcript: their Takes, then their Closes and Ends, then their Sends.
 
-ghost use Rattle.std.specs.Prelude.{◌≡◌, ◌+◌, ◌≤◌, ◌++◌, ◌∷◌, [], All, Some, length, OnOk};
+ghost use Rattle.std.specs.Prelude.{◌≡◌, ◌+◌, ◌-◌, ◌≤◌, ◌++◌, ◌∷◌, [], All, Some, length, take, drop, OnOk};
 ghost use Rattle.transcript_log.specs.declared.Line.TheVariants.{Send};
 ghost use Rattle.transcript_log.specs.Drafts.{Begins};
 ghost use Rattle.transcript_log.specs.Events.{lines_of};
+ghost use Rattle.transcript_log.specs.Lines.{HasOwnTag};
 ghost use Rattle.transcript_log.specs.Transcripts.{last_tick_from};
-ghost use Rattle.tick_run.specs.ByGroups.{taken_by, closed_by, sends_by, sent_by, quiet_then, Fated};
+ghost use Rattle.tick_run.specs.ByGroups.{AllInParts, taken_by, closed_by, sends_by, sent_by, quiet_then, Fated};
 ghost use Rattle.tick_run.specs.GroupRuns.{sent_with};
 ghost use Rattle.tick_run.specs.Progress.{sending};
 ghost use Rattle.tick_run.specs.Sending.{IsOfPlan};
 ghost use Rattle.tick_run.specs.Written.{Fits};
 
-use crate::group_tick::GroupWork;
+use crate::running::Group;
 use link_lanes::Fate;
 use meter_frames::Frame;
 use std::alloc::AllocError;
 use transcript_log::{Draft, Entry, Line, Lines};
 
-/// Adds the Takes of all groups to the journal.
-fn add_taken(works: &[GroupWork], journal: &mut Lines) -> Result<(), AllocError>
-    ensures { OnOk result (journal.new.items ≡ journal.old.items ++ taken_by works.now) }
+/// Adds some lines of a list to the journal: those from a place on, up to another.
+fn append_part(lines: &Lines, from: usize, to: usize, journal: &mut Lines) -> Result<(), AllocError>
+    requires order { from ≤ to }
+    requires within { to ≤ length lines.now.items }
+    requires own { All HasOwnTag lines.now.items }
+    ensures { OnOk result (journal.new.items ≡ journal.old.items ++ take (to - from) (drop from lines.now.items)) }
 {
-    for work in works {
-        journal.append(&work.taken)?;
+    journal.reserve((to - from) as u64)?;
+    for at in from..to {
+        journal.push_reserved(&lines.at(at));
+    }
+    Ok(())
+}
+
+/// Adds the Takes of all groups to the journal.
+fn add_taken(groups: &[Group], journal: &mut Lines) -> Result<(), AllocError>
+    requires { AllInParts groups.now }
+    ensures { OnOk result (journal.new.items ≡ journal.old.items ++ taken_by groups.now) }
+{
+    for group in groups {
+        let work = &group.work;
+        append_part(&work.lines, 0, work.closed_from, journal)?;
     }
     Ok(())
 }
 
 /// Adds the Closes and Ends of all groups to the journal.
-fn add_closed(works: &[GroupWork], journal: &mut Lines) -> Result<(), AllocError>
-    ensures { OnOk result (journal.new.items ≡ journal.old.items ++ closed_by works.now) }
+fn add_closed(groups: &[Group], journal: &mut Lines) -> Result<(), AllocError>
+    requires { AllInParts groups.now }
+    ensures { OnOk result (journal.new.items ≡ journal.old.items ++ closed_by groups.now) }
 {
-    for work in works {
-        journal.append(&work.closed)?;
+    for group in groups {
+        let work = &group.work;
+        append_part(&work.lines, work.closed_from, work.sent_from, journal)?;
     }
     Ok(())
 }
 
 /// Adds the Sends of all groups to the journal.
-fn add_sent(works: &[GroupWork], journal: &mut Lines) -> Result<(), AllocError>
-    ensures { OnOk result (journal.new.items ≡ journal.old.items ++ sends_by works.now) }
+fn add_sent(groups: &[Group], journal: &mut Lines) -> Result<(), AllocError>
+    requires { AllInParts groups.now }
+    ensures { OnOk result (journal.new.items ≡ journal.old.items ++ sends_by groups.now) }
 {
-    for work in works {
-        journal.append(&work.sent)?;
+    for group in groups {
+        let work = &group.work;
+        append_part(&work.lines, work.sent_from, work.lines.len(), journal)?;
     }
     Ok(())
 }
@@ -51,20 +72,20 @@ fn add_sent(works: &[GroupWork], journal: &mut Lines) -> Result<(), AllocError>
 /// for when their frames have met their fates.
 pub(crate) fn write_lines(
     tick: u32,
-    works: &[GroupWork],
+    groups: &[Group],
     journal: &mut Lines,
     transcript: &mut Draft,
 ) -> Result<(), AllocError>
     requires later { last_tick_from 0 transcript.old.entries ≤ tick }
     requires journal { journal.old.items ≡ lines_of transcript.old.entries }
-    requires fits { All (Fits transcript.old.plan) works.now }
-    ensures transcript { OnOk result (transcript.new ≡ record transcript.old { entries = quiet_then tick transcript.old.entries works.now }) }
-    ensures journal { OnOk result (journal.new.items ≡ lines_of transcript.new.entries ++ sends_by works.now) }
+    requires fits { All (Fits transcript.old.plan) groups.now }
+    ensures transcript { OnOk result (transcript.new ≡ record transcript.old { entries = quiet_then tick transcript.old.entries groups.now }) }
+    ensures journal { OnOk result (journal.new.items ≡ lines_of transcript.new.entries ++ sends_by groups.now) }
 {
-    add_taken(works, journal)?;
-    add_closed(works, journal)?;
+    add_taken(groups, journal)?;
+    add_closed(groups, journal)?;
     transcript.push_all(tick, journal)?;
-    add_sent(works, journal)
+    add_sent(groups, journal)
 }
 
 /// Adds the entry of a Send to the transcript. Its line is the journal's next one.
@@ -111,17 +132,18 @@ fn stamp_group(
 /// Adds the entries of all groups' Sends to the transcript, one group after another. Their lines are the journal's last ones.
 pub(crate) fn stamp_all(
     tick: u32,
-    works: &[GroupWork],
+    groups: &[Group],
     transcript: &mut Draft,
     journal: &Lines,
 ) -> Result<(), AllocError>
     requires later { last_tick_from 0 transcript.old.entries ≤ tick }
-    requires fits { All (Fits transcript.old.plan) works.now }
-    requires fated { All Fated works.now }
-    requires lines { journal.now.items ≡ lines_of (transcript.old.entries ++ sent_by tick works.now) }
-    ensures { OnOk result (transcript.new ≡ record transcript.old { entries = transcript.old.entries ++ sent_by tick works.now }) }
+    requires fits { All (Fits transcript.old.plan) groups.now }
+    requires fated { All Fated groups.now }
+    requires lines { journal.now.items ≡ lines_of (transcript.old.entries ++ sent_by tick groups.now) }
+    ensures { OnOk result (transcript.new ≡ record transcript.old { entries = transcript.old.entries ++ sent_by tick groups.now }) }
 {
-    for work in works {
+    for group in groups {
+        let work = &group.work;
         stamp_group(tick, &work.frames, &work.fates, transcript, journal)?;
     }
     Ok(())

@@ -22,7 +22,7 @@ use std::sync::Wait;
 use std::thread::Threads;
 
 /// Makes all ticks that are left.
-fn to_end<'a, R: Threads + Sync, M: Masks + Sync, G: Gate>(
+fn to_end<'a, R: Threads + Wait + Sync, M: Masks + Sync, G: Gate>(
     run: Run<'a, R, M, G>,
     rack: &mut Rack,
 ) -> Result<Run<'a, R, M, G>, AllocError>

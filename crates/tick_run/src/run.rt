@@ -20,6 +20,7 @@ use mask_stream::Masks;
 use plan_meters::{HiddenReadings, Known};
 use std::alloc::AllocError;
 use std::marker::Model;
+use std::sync::Wait;
 use std::thread::Threads;
 use transcript_log::Transcript;
 
@@ -75,29 +76,6 @@ impl<'a, R: Threads + Sync, M: Masks + Sync, G: Gate> Run<'a, R, M, G> {
         })
     }
 
-    /// Makes the next tick. Where there is no memory for it, the run is lost.
-    pub fn tick(self, rack: &mut Rack) -> Result<Run<'a, R, M, G>, AllocError>
-        requires left { self.tick ≤ last_tick self.readings.plan }
-        requires room { HasRoom (λ b. meaning (b.vtable, b.value)) rack.old }
-        ensures makes { IfOk result (MakesTicks 1 self.entry) }
-        ensures met { (first : List Slot) → HaveMet first self.entry (slots (λ b. meaning (b.vtable, b.value)) rack.old) (posts_of rack.old)
-            → IfOk result (λ run. HaveMet first run (slots (λ b. meaning (b.vtable, b.value)) rack.new) (posts_of rack.new)) }
-        ensures room { HasRoom (λ b. meaning (b.vtable, b.value)) rack.new }
-    {
-        readings_are_limited(self.context.known.readings);
-        let Run {
-            context,
-            mut running,
-            tick,
-        } = self;
-        run_tick(&context, &mut running, rack, tick)?;
-        Ok(Run {
-            context,
-            running,
-            tick: tick + 1,
-        })
-    }
-
     /// How many ticks are still to be made.
     pub fn ticks_left(&self) -> u32
         ensures { self.now.tick + result ≡ last_tick self.now.readings.plan + 1 }
@@ -137,7 +115,32 @@ impl<'a, R: Threads + Sync, M: Masks + Sync, G: Gate> Run<'a, R, M, G> {
             running,
             tick: _,
         } = self;
-        presence_is_of_members(&running.presence);
-        make_finished(context.crew.alloc, running)
+        presence_is_of_members(running.shared.presence());
+        Ok(make_finished(context.crew.alloc, running))
+    }
+}
+
+impl<'a, R: Threads + Wait + Sync, M: Masks + Sync, G: Gate> Run<'a, R, M, G> {
+    /// Makes the next tick. Where there is no memory for it, the run is lost.
+    pub fn tick(self, rack: &mut Rack) -> Result<Run<'a, R, M, G>, AllocError>
+        requires left { self.tick ≤ last_tick self.readings.plan }
+        requires room { HasRoom (λ b. meaning (b.vtable, b.value)) rack.old }
+        ensures makes { IfOk result (MakesTicks 1 self.entry) }
+        ensures met { (first : List Slot) → HaveMet first self.entry (slots (λ b. meaning (b.vtable, b.value)) rack.old) (posts_of rack.old)
+            → IfOk result (λ run. HaveMet first run (slots (λ b. meaning (b.vtable, b.value)) rack.new) (posts_of rack.new)) }
+        ensures room { HasRoom (λ b. meaning (b.vtable, b.value)) rack.new }
+    {
+        readings_are_limited(self.context.known.readings);
+        let Run {
+            context,
+            mut running,
+            tick,
+        } = self;
+        run_tick(&context, &mut running, rack, tick)?;
+        Ok(Run {
+            context,
+            running,
+            tick: tick + 1,
+        })
     }
 }

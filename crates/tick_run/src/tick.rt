@@ -13,26 +13,26 @@ ghost use Rattle.tick_run.specs.Written.{Fits};
 
 use crate::by_groups::{count_frames, give_all_fates, pass_all, tick_all};
 use crate::context::Context;
-use crate::group_tick::GroupWork;
 use crate::journal::{stamp_all, write_lines};
-use crate::running::Running;
+use crate::running::{Group, Running};
 use collector_workers::Gate;
 use link_lanes::{Lane, Rack};
 use mask_stream::Masks;
 use std::alloc::AllocError;
+use std::sync::Wait;
 use std::thread;
 use std::thread::Threads;
 
 /// Makes room for the posts of all frames that the groups have sent.
-fn reserve_posts(works: &[GroupWork], rack: &mut Rack) -> Result<(), AllocError>
+fn reserve_posts(groups: &[Group], rack: &mut Rack) -> Result<(), AllocError>
     requires room { HasRoom (λ b. meaning (b.vtable, b.value)) rack.old }
-    ensures posts { OnOk result (length (frames_by works.now) ≤ spare_of rack.new) }
-    ensures few { OnOk result (length (posts_of rack.new) + length (frames_by works.now) < 2 ^ 32) }
+    ensures posts { OnOk result (length (frames_by groups.now) ≤ spare_of rack.new) }
+    ensures few { OnOk result (length (posts_of rack.new) + length (frames_by groups.now) < 2 ^ 32) }
     ensures posts_same { posts_of rack.new ≡ posts_of rack.old }
     ensures lanes { slots (λ b. meaning (b.vtable, b.value)) rack.new ≡ slots (λ b. meaning (b.vtable, b.value)) rack.old }
     ensures room { HasRoom (λ b. meaning (b.vtable, b.value)) rack.new }
 {
-    let Some(frames) = count_frames(works) else {
+    let Some(frames) = count_frames(groups) else {
         return Err(AllocError);
     };
     rack.reserve(frames as u64)?;
@@ -67,20 +67,20 @@ fn pass_and_write<R: Threads + Sync, M: Masks + Sync, G: Gate>(
     rack: &mut Rack,
     tick: u32,
 ) -> Result<(), AllocError>
-    requires posts { length (frames_by run.old.works.items) ≤ spare_of rack.old }
-    requires few { length (posts_of rack.old) + length (frames_by run.old.works.items) < 2 ^ 32 }
+    requires posts { length (frames_by run.old.groups.items) ≤ spare_of rack.old }
+    requires few { length (posts_of rack.old) + length (frames_by run.old.groups.items) < 2 ^ 32 }
     requires room { HasRoom (λ b. meaning (b.vtable, b.value)) rack.old }
     requires later { last_tick_from 0 run.old.transcript.entries ≤ tick }
     requires journal { run.old.journal.items ≡ lines_of run.old.transcript.entries }
-    requires fits { All (Fits run.old.transcript.plan) run.old.works.items }
-    ensures passes { OnOk result (Passes tick (frames_by run.old.works.items) (slots (λ b. meaning (b.vtable, b.value)) rack.old) (slots (λ b. meaning (b.vtable, b.value)) rack.new) (posts_of rack.old) (posts_of rack.new) run.new.fates.items) }
-    ensures transcript { OnOk result (run.new.transcript ≡ record run.old.transcript { entries = quiet_then tick run.old.transcript.entries run.old.works.items }) }
-    ensures journal { OnOk result (run.new.journal.items ≡ lines_of run.new.transcript.entries ++ sends_by run.old.works.items) }
-    ensures works { run.new.works ≡ run.old.works }
-    ensures presence { run.new.presence ≡ run.old.presence }
+    requires fits { All (Fits run.old.transcript.plan) run.old.groups.items }
+    ensures passes { OnOk result (Passes tick (frames_by run.old.groups.items) (slots (λ b. meaning (b.vtable, b.value)) rack.old) (slots (λ b. meaning (b.vtable, b.value)) rack.new) (posts_of rack.old) (posts_of rack.new) run.new.fates.items) }
+    ensures transcript { OnOk result (run.new.transcript ≡ record run.old.transcript { entries = quiet_then tick run.old.transcript.entries run.old.groups.items }) }
+    ensures journal { OnOk result (run.new.journal.items ≡ lines_of run.new.transcript.entries ++ sends_by run.old.groups.items) }
+    ensures groups { run.new.groups ≡ run.old.groups }
+    ensures shared { (run.new.shared ≡ run.old.shared) × (run.new.first ≡ run.old.first) }
     ensures room { HasRoom (λ b. meaning (b.vtable, b.value)) rack.new }
 {
-    let works = run.works.as_slice();
+    let groups = run.groups.as_slice();
     let fates = &mut run.fates;
     let journal = &mut run.journal;
     let transcript = &mut run.transcript;
@@ -90,17 +90,17 @@ fn pass_and_write<R: Threads + Sync, M: Masks + Sync, G: Gate>(
         &mut || -> Result<(), AllocError>
             requires later { last_tick_from 0 transcript.now.entries ≤ tick }
             requires journal { journal.now.items ≡ lines_of transcript.now.entries }
-            requires fits { All (Fits transcript.now.plan) works.now }
-            ensures transcript { OnOk result (transcript.exit.now ≡ record transcript.entry.now { entries = quiet_then tick transcript.entry.now.entries works.entry.now }) }
-            ensures journal { OnOk result (journal.exit.now.items ≡ lines_of transcript.exit.now.entries ++ sends_by works.entry.now) }
-        { write_lines(tick, works, journal, transcript) },
+            requires fits { All (Fits transcript.now.plan) groups.now }
+            ensures transcript { OnOk result (transcript.exit.now ≡ record transcript.entry.now { entries = quiet_then tick transcript.entry.now.entries groups.entry.now }) }
+            ensures journal { OnOk result (journal.exit.now.items ≡ lines_of transcript.exit.now.entries ++ sends_by groups.entry.now) }
+        { write_lines(tick, groups, journal, transcript) },
         &mut || -> Result<(), AllocError>
-            requires posts { length (frames_by works.now) ≤ spare_of rack.now }
-            requires few { length (posts_of rack.now) + length (frames_by works.now) < 2 ^ 32 }
+            requires posts { length (frames_by groups.now) ≤ spare_of rack.now }
+            requires few { length (posts_of rack.now) + length (frames_by groups.now) < 2 ^ 32 }
             requires room { HasRoom (λ b. meaning (b.vtable, b.value)) rack.now }
-            ensures passes { OnOk result (Passes tick (frames_by works.entry.now) (slots (λ b. meaning (b.vtable, b.value)) rack.entry.now) (slots (λ b. meaning (b.vtable, b.value)) rack.exit.now) (posts_of rack.entry.now) (posts_of rack.exit.now) fates.exit.now.items) }
+            ensures passes { OnOk result (Passes tick (frames_by groups.entry.now) (slots (λ b. meaning (b.vtable, b.value)) rack.entry.now) (slots (λ b. meaning (b.vtable, b.value)) rack.exit.now) (posts_of rack.entry.now) (posts_of rack.exit.now) fates.exit.now.items) }
             ensures room { HasRoom (λ b. meaning (b.vtable, b.value)) rack.exit.now }
-        { pass_all(tick, works, fates, rack) },
+        { pass_all(tick, groups, fates, rack) },
     );
     written?;
     passed
@@ -108,7 +108,7 @@ fn pass_and_write<R: Threads + Sync, M: Masks + Sync, G: Gate>(
 
 /// Makes one tick: lanes are let go whose span ended; each group takes, closes, hears and sends; what it sent passes the lanes, one group
 /// after another, while the lines of all of it are written down; and last the Sends get their entries, with the fates.
-pub(crate) fn run_tick<R: Threads + Sync, M: Masks + Sync, G: Gate>(
+pub(crate) fn run_tick<R: Threads + Wait + Sync, M: Masks + Sync, G: Gate>(
     context: &Context<R, M, G>,
     run: &mut Running,
     rack: &mut Rack,
@@ -125,9 +125,9 @@ pub(crate) fn run_tick<R: Threads + Sync, M: Masks + Sync, G: Gate>(
     ensures room { HasRoom (λ b. meaning (b.vtable, b.value)) rack.new }
 {
     rack.retire(tick);
-    tick_all(context, &run.presence, &mut run.works, tick)?;
-    reserve_posts(&run.works, rack)?;
+    tick_all(context, &run.shared, &mut run.groups, tick)?;
+    reserve_posts(&run.groups, rack)?;
     pass_and_write(context, run, rack, tick)?;
-    give_all_fates(&mut run.works, &run.fates)?;
-    stamp_all(tick, &run.works, &mut run.transcript, &run.journal)
+    give_all_fates(&mut run.groups, &run.fates)?;
+    stamp_all(tick, &run.groups, &mut run.transcript, &run.journal)
 }

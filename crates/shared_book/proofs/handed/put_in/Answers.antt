@@ -1,11 +1,12 @@
-use Rattle.std.proofs.Common.{◌+◌, List, ◌++◌, ◌∷◌, [], ap, sym, subst, refl, ◌∙◌, arith}
-use Rattle.std.specs.Prelude.{Option}
+use Rattle.std.proofs.Common.{◌≡◌, ◌+◌, List, ◌++◌, ◌∷◌, [], ap, sym, subst, refl, ◌∙◌, arith}
+use Rattle.std.specs.Prelude.{Option, None}
 use Rattle.std.proofs.lemmas.List.{length-append}
+use Rattle.std.proofs.lemmas.List.Elements.{All-push}
 use Rattle.std.proofs.lemmas.Iterator.Adapters.{YieldsList-from_vec}
 use Rattle.std.proofs.lemmas.Iterator.Consumers.{YieldsList-turn, YieldsList-end}
 use Rattle.group_book.specs.Groups.{GroupView}
 use Rattle.shared_book.specs.declared.handed.Handed.{Handed}
-use Rattle.shared_book.specs.Slots.{HavePages}
+use Rattle.shared_book.specs.Slots.{HavePages, last_in, AreNew}
 use Rattle.shared_book.proofs.Slots.{map-same, have_more}
 use Rattle.shared_book.proofs.handed.put_in.Goals as goal
 
@@ -29,12 +30,13 @@ loop-pages-preserved c =
       can_next = tt;
       finite = tt;
       made = subst (λ (xs : List (Option Handed)). HavePages xs (c.loop-pages.yielded ++ c.in-Some.pages ∷ [])) (sym e.items) (have_more c.loop-pages.slots.items c.loop-pages.yielded _ c.in-Some.pages refl c.loop-pages.invariant.made);
+      new = subst AreNew (sym e.items) (All-push (λ slot. last_in slot ≡ None) c.loop-pages.slots.items _ c.loop-pages.invariant.new refl);
       long = len ∙ ap (λ n. n + 1) long ∙ sym (length-append c.loop-pages.yielded (c.in-Some.pages ∷ []));
       room = omega arith;
     }
 
-pub returns : goal.returns
-returns c =
+pub returns-clause-pages : goal.returns-clause-pages
+returns-clause-pages c =
     let groups = c.args.groups.items in
     let at = c.into_iter-pages-iterator.ensures.into_iter_gives in
     let end = YieldsList-end (YieldsList-from_vec {s = c.into_iter-pages-iterator.result} groups at.0 (at.1 ∙ c.args.groups.ok.0)) c.loop-pages.yielded c.loop-pages.pages-iterator c.loop-pages.yielded_by c.next.result c.next.new.self c.in-None.is c.next.ensures.steps in

@@ -16,5 +16,5 @@ returns c = λ p j rep.
     let two : c.due_round-2.result ≡ due plan.rounds (plan.w1 + plan.w2)
     = c.due_round-2.ensures ∙ ap (λ n. due n (c.w1-closes.result + c.w2.result)) c.rounds-rounds.ensures.rounds
     ∙ ap (λ w. due plan.rounds (w + c.w2.result)) c.w1-closes.ensures ∙ ap (λ w. due plan.rounds (plan.w1 + w)) c.w2.ensures in
-    closed-and-ended p j (clock_of plan) t g c.due_round.result c.due_round-2.result c.args.closed.now c.reserve.new.self c.close_one.new.closed c.end_one.new.closed c.close_one.new.pages c.end_one.new.pages
+    closed-and-ended p j (clock_of plan) t g c.due_round.result c.due_round-2.result c.args.lines.now c.reserve.new.self c.close_one.new.lines c.end_one.new.lines c.close_one.new.pages c.end_one.new.pages
     c.in_ok-reserve.ensures.items one two first (c.end_one.ensures p _ first.pages)

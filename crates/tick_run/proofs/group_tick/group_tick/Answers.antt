@@ -1,4 +1,4 @@
-use Rattle.std.proofs.Common.{◌≡◌, ◌+◌, ◌-◌, ◌++◌, ℕ, List, map, refl, sym, ap, ◌∙◌, subst}
+use Rattle.std.proofs.Common.{◌≡◌, ◌+◌, ◌-◌, ◌++◌, ℕ, List, length, map, refl, sym, ap, ◌∙◌, subst}
 use Rattle.std.specs.Prelude.{All}
 use Rattle.group_plan.specs.Plans.{PlanView}
 use Rattle.group_plan.specs.Tables.{PresenceView, presence_of}
@@ -22,7 +22,8 @@ frames_of-requires g c =
     let m = g.M.Masks.table c.args.known.now.masks.now in
     let t = c.args.tick in
     let work = c.args.work.now in
-    let group = work.pages.group in
+    let kept = c.args.pages.now in
+    let group = kept.group in
     let fates = work.fates.items in
     let entries = c.requires.can.entries in
     let at = c.requires.can.stands in
@@ -31,7 +32,7 @@ frames_of-requires g c =
     ∙ ap (λ (fs : List Frame). posted_all (t - 1) fs c.deref-2.result.now work.link) c.deref.ensures.value ∙ ap (λ (es : List (List ℕ)). posted_all (t - 1) work.frames.items es work.link) c.deref-2.ensures.value in
     let left = c.due.new.self in
     let copies = c.deref-3.result.now in
-    let begun = group-begun readings m t entries fates work c.post_all.new.link left copies at posted c.in_ok-copies.ensures.1 (c.deref-3.ensures.value ∙ c.in_ok-copies.ensures.0) in
+    let begun = group-begun readings m t entries fates kept work c.post_all.new.link left copies at posted c.in_ok-copies.ensures.1 (c.deref-3.ensures.value ∙ c.in_ok-copies.ensures.0) in
     all-spelled entries copies begun.1.spelled
 
 pub take_all-requires-clause-can : goal.take_all-requires-clause-can
@@ -40,7 +41,8 @@ take_all-requires-clause-can g c =
     let m = g.M.Masks.table c.args.known.now.masks.now in
     let t = c.args.tick in
     let work = c.args.work.now in
-    let group = work.pages.group in
+    let kept = c.args.pages.now in
+    let group = kept.group in
     let fates = work.fates.items in
     let entries = c.requires.can.entries in
     let at = c.requires.can.stands in
@@ -49,7 +51,7 @@ take_all-requires-clause-can g c =
     ∙ ap (λ (fs : List Frame). posted_all (t - 1) fs c.deref-2.result.now work.link) c.deref.ensures.value ∙ ap (λ (es : List (List ℕ)). posted_all (t - 1) work.frames.items es work.link) c.deref-2.ensures.value in
     let left = c.due.new.self in
     let copies = c.deref-3.result.now in
-    let begun = group-begun readings m t entries fates work c.post_all.new.link left copies at posted c.in_ok-copies.ensures.1 (c.deref-3.ensures.value ∙ c.in_ok-copies.ensures.0) in
+    let begun = group-begun readings m t entries fates kept work c.post_all.new.link left copies at posted c.in_ok-copies.ensures.1 (c.deref-3.ensures.value ∙ c.in_ok-copies.ensures.0) in
     let came = c.deref-4.result.now in
     record {
       presence = presence_of readings;
@@ -64,7 +66,8 @@ close_and_end-requires-clause-can g c =
     let m = g.M.Masks.table c.args.known.now.masks.now in
     let t = c.args.tick in
     let work = c.args.work.now in
-    let group = work.pages.group in
+    let kept = c.args.pages.now in
+    let group = kept.group in
     let fates = work.fates.items in
     let entries = c.requires.can.entries in
     let at = c.requires.can.stands in
@@ -73,10 +76,10 @@ close_and_end-requires-clause-can g c =
     ∙ ap (λ (fs : List Frame). posted_all (t - 1) fs c.deref-2.result.now work.link) c.deref.ensures.value ∙ ap (λ (es : List (List ℕ)). posted_all (t - 1) work.frames.items es work.link) c.deref-2.ensures.value in
     let left = c.due.new.self in
     let copies = c.deref-3.result.now in
-    let begun = group-begun readings m t entries fates work c.post_all.new.link left copies at posted c.in_ok-copies.ensures.1 (c.deref-3.ensures.value ∙ c.in_ok-copies.ensures.0) in
+    let begun = group-begun readings m t entries fates kept work c.post_all.new.link left copies at posted c.in_ok-copies.ensures.1 (c.deref-3.ensures.value ∙ c.in_ok-copies.ensures.0) in
     let came = c.deref-4.result.now in
     let came_is : came ≡ frames_in copies = c.deref-4.ensures.value ∙ c.in_ok-came.ensures in
-    let took = group-took readings m t group entries work.pages left copies came c.reserve.new.self c.take_all.new.pages c.take_all.new.taken at.own refl at.pages begun.0 begun.1 came_is c.take_all.ensures in
+    let took = group-took readings m t group entries kept left copies came c.reserve.new.self c.take_all.new.pages c.take_all.new.lines at.own refl at.pages begun.0 begun.1 came_is c.take_all.ensures in
     let one = entries ++ map (quiet t) took.takes.added in
     record { presence = presence_of readings; journal = lines_of one; replays = took.pages }
 
@@ -86,7 +89,8 @@ close_and_end-requires-clause-rounds g c =
     let m = g.M.Masks.table c.args.known.now.masks.now in
     let t = c.args.tick in
     let work = c.args.work.now in
-    let group = work.pages.group in
+    let kept = c.args.pages.now in
+    let group = kept.group in
     let fates = work.fates.items in
     let entries = c.requires.can.entries in
     let at = c.requires.can.stands in
@@ -95,10 +99,10 @@ close_and_end-requires-clause-rounds g c =
     ∙ ap (λ (fs : List Frame). posted_all (t - 1) fs c.deref-2.result.now work.link) c.deref.ensures.value ∙ ap (λ (es : List (List ℕ)). posted_all (t - 1) work.frames.items es work.link) c.deref-2.ensures.value in
     let left = c.due.new.self in
     let copies = c.deref-3.result.now in
-    let begun = group-begun readings m t entries fates work c.post_all.new.link left copies at posted c.in_ok-copies.ensures.1 (c.deref-3.ensures.value ∙ c.in_ok-copies.ensures.0) in
+    let begun = group-begun readings m t entries fates kept work c.post_all.new.link left copies at posted c.in_ok-copies.ensures.1 (c.deref-3.ensures.value ∙ c.in_ok-copies.ensures.0) in
     let came = c.deref-4.result.now in
     let came_is : came ≡ frames_in copies = c.deref-4.ensures.value ∙ c.in_ok-came.ensures in
-    let took = group-took readings m t group entries work.pages left copies came c.reserve.new.self c.take_all.new.pages c.take_all.new.taken at.own refl at.pages begun.0 begun.1 came_is c.take_all.ensures in
+    let took = group-took readings m t group entries kept left copies came c.reserve.new.self c.take_all.new.pages c.take_all.new.lines at.own refl at.pages begun.0 begun.1 came_is c.take_all.ensures in
     let one = entries ++ map (quiet t) took.takes.added in
     took.pages.rounds ∙ ap (λ (p : PlanView). p.rounds) (sym c.plan.ensures.plan)
 
@@ -108,7 +112,8 @@ read-requires-clause-can g c =
     let m = g.M.Masks.table c.args.known.now.masks.now in
     let t = c.args.tick in
     let work = c.args.work.now in
-    let group = work.pages.group in
+    let kept = c.args.pages.now in
+    let group = kept.group in
     let fates = work.fates.items in
     let entries = c.requires.can.entries in
     let at = c.requires.can.stands in
@@ -120,7 +125,8 @@ hear_all-requires g c =
     let m = g.M.Masks.table c.args.known.now.masks.now in
     let t = c.args.tick in
     let work = c.args.work.now in
-    let group = work.pages.group in
+    let kept = c.args.pages.now in
+    let group = kept.group in
     let fates = work.fates.items in
     let entries = c.requires.can.entries in
     let at = c.requires.can.stands in
@@ -129,12 +135,12 @@ hear_all-requires g c =
     ∙ ap (λ (fs : List Frame). posted_all (t - 1) fs c.deref-2.result.now work.link) c.deref.ensures.value ∙ ap (λ (es : List (List ℕ)). posted_all (t - 1) work.frames.items es work.link) c.deref-2.ensures.value in
     let left = c.due.new.self in
     let copies = c.deref-3.result.now in
-    let begun = group-begun readings m t entries fates work c.post_all.new.link left copies at posted c.in_ok-copies.ensures.1 (c.deref-3.ensures.value ∙ c.in_ok-copies.ensures.0) in
+    let begun = group-begun readings m t entries fates kept work c.post_all.new.link left copies at posted c.in_ok-copies.ensures.1 (c.deref-3.ensures.value ∙ c.in_ok-copies.ensures.0) in
     let came = c.deref-4.result.now in
     let came_is : came ≡ frames_in copies = c.deref-4.ensures.value ∙ c.in_ok-came.ensures in
-    let took = group-took readings m t group entries work.pages left copies came c.reserve.new.self c.take_all.new.pages c.take_all.new.taken at.own refl at.pages begun.0 begun.1 came_is c.take_all.ensures in
+    let took = group-took readings m t group entries kept left copies came c.reserve.new.self c.take_all.new.pages c.take_all.new.lines at.own refl at.pages begun.0 begun.1 came_is c.take_all.ensures in
     let one = entries ++ map (quiet t) took.takes.added in
-    let shut = group-shut readings m t group one c.plan.result.now c.take_all.new.pages left copies c.new-2.result c.close_and_end.new.pages c.close_and_end.new.closed c.plan.ensures.plan took.takes.group took.pages took.running took.come c.in_ok-close_and_end.ensures in
+    let shut = group-shut readings m t group one c.plan.result.now c.take_all.new.pages left copies c.take_all.new.lines c.close_and_end.new.pages c.close_and_end.new.lines c.plan.ensures.plan took.takes.group took.pages took.running took.come c.in_ok-close_and_end.ensures in
     let es = one ++ map (quiet t) shut.closes.added in
     let heard_from = c.deref-5.result.now in
     let heard_is : heard_from ≡ frames_in copies = c.deref-5.ensures.value ∙ c.in_ok-came.ensures in
@@ -151,7 +157,8 @@ add_due-requires-clause-can g c =
     let m = g.M.Masks.table c.args.known.now.masks.now in
     let t = c.args.tick in
     let work = c.args.work.now in
-    let group = work.pages.group in
+    let kept = c.args.pages.now in
+    let group = kept.group in
     let fates = work.fates.items in
     let entries = c.requires.can.entries in
     let at = c.requires.can.stands in
@@ -160,12 +167,12 @@ add_due-requires-clause-can g c =
     ∙ ap (λ (fs : List Frame). posted_all (t - 1) fs c.deref-2.result.now work.link) c.deref.ensures.value ∙ ap (λ (es : List (List ℕ)). posted_all (t - 1) work.frames.items es work.link) c.deref-2.ensures.value in
     let left = c.due.new.self in
     let copies = c.deref-3.result.now in
-    let begun = group-begun readings m t entries fates work c.post_all.new.link left copies at posted c.in_ok-copies.ensures.1 (c.deref-3.ensures.value ∙ c.in_ok-copies.ensures.0) in
+    let begun = group-begun readings m t entries fates kept work c.post_all.new.link left copies at posted c.in_ok-copies.ensures.1 (c.deref-3.ensures.value ∙ c.in_ok-copies.ensures.0) in
     let came = c.deref-4.result.now in
     let came_is : came ≡ frames_in copies = c.deref-4.ensures.value ∙ c.in_ok-came.ensures in
-    let took = group-took readings m t group entries work.pages left copies came c.reserve.new.self c.take_all.new.pages c.take_all.new.taken at.own refl at.pages begun.0 begun.1 came_is c.take_all.ensures in
+    let took = group-took readings m t group entries kept left copies came c.reserve.new.self c.take_all.new.pages c.take_all.new.lines at.own refl at.pages begun.0 begun.1 came_is c.take_all.ensures in
     let one = entries ++ map (quiet t) took.takes.added in
-    let shut = group-shut readings m t group one c.plan.result.now c.take_all.new.pages left copies c.new-2.result c.close_and_end.new.pages c.close_and_end.new.closed c.plan.ensures.plan took.takes.group took.pages took.running took.come c.in_ok-close_and_end.ensures in
+    let shut = group-shut readings m t group one c.plan.result.now c.take_all.new.pages left copies c.take_all.new.lines c.close_and_end.new.pages c.close_and_end.new.lines c.plan.ensures.plan took.takes.group took.pages took.running took.come c.in_ok-close_and_end.ensures in
     let es = one ++ map (quiet t) shut.closes.added in
     record { presence = presence_of readings; journal = lines_of es; replays = shut.pages }
 
@@ -175,7 +182,8 @@ add_due-requires-clause-rounds g c =
     let m = g.M.Masks.table c.args.known.now.masks.now in
     let t = c.args.tick in
     let work = c.args.work.now in
-    let group = work.pages.group in
+    let kept = c.args.pages.now in
+    let group = kept.group in
     let fates = work.fates.items in
     let entries = c.requires.can.entries in
     let at = c.requires.can.stands in
@@ -184,12 +192,12 @@ add_due-requires-clause-rounds g c =
     ∙ ap (λ (fs : List Frame). posted_all (t - 1) fs c.deref-2.result.now work.link) c.deref.ensures.value ∙ ap (λ (es : List (List ℕ)). posted_all (t - 1) work.frames.items es work.link) c.deref-2.ensures.value in
     let left = c.due.new.self in
     let copies = c.deref-3.result.now in
-    let begun = group-begun readings m t entries fates work c.post_all.new.link left copies at posted c.in_ok-copies.ensures.1 (c.deref-3.ensures.value ∙ c.in_ok-copies.ensures.0) in
+    let begun = group-begun readings m t entries fates kept work c.post_all.new.link left copies at posted c.in_ok-copies.ensures.1 (c.deref-3.ensures.value ∙ c.in_ok-copies.ensures.0) in
     let came = c.deref-4.result.now in
     let came_is : came ≡ frames_in copies = c.deref-4.ensures.value ∙ c.in_ok-came.ensures in
-    let took = group-took readings m t group entries work.pages left copies came c.reserve.new.self c.take_all.new.pages c.take_all.new.taken at.own refl at.pages begun.0 begun.1 came_is c.take_all.ensures in
+    let took = group-took readings m t group entries kept left copies came c.reserve.new.self c.take_all.new.pages c.take_all.new.lines at.own refl at.pages begun.0 begun.1 came_is c.take_all.ensures in
     let one = entries ++ map (quiet t) took.takes.added in
-    let shut = group-shut readings m t group one c.plan.result.now c.take_all.new.pages left copies c.new-2.result c.close_and_end.new.pages c.close_and_end.new.closed c.plan.ensures.plan took.takes.group took.pages took.running took.come c.in_ok-close_and_end.ensures in
+    let shut = group-shut readings m t group one c.plan.result.now c.take_all.new.pages left copies c.take_all.new.lines c.close_and_end.new.pages c.close_and_end.new.lines c.plan.ensures.plan took.takes.group took.pages took.running took.come c.in_ok-close_and_end.ensures in
     let es = one ++ map (quiet t) shut.closes.added in
     shut.pages.rounds
 
@@ -199,7 +207,8 @@ add_due-requires-clause-group g c =
     let m = g.M.Masks.table c.args.known.now.masks.now in
     let t = c.args.tick in
     let work = c.args.work.now in
-    let group = work.pages.group in
+    let kept = c.args.pages.now in
+    let group = kept.group in
     let fates = work.fates.items in
     let entries = c.requires.can.entries in
     let at = c.requires.can.stands in
@@ -208,12 +217,12 @@ add_due-requires-clause-group g c =
     ∙ ap (λ (fs : List Frame). posted_all (t - 1) fs c.deref-2.result.now work.link) c.deref.ensures.value ∙ ap (λ (es : List (List ℕ)). posted_all (t - 1) work.frames.items es work.link) c.deref-2.ensures.value in
     let left = c.due.new.self in
     let copies = c.deref-3.result.now in
-    let begun = group-begun readings m t entries fates work c.post_all.new.link left copies at posted c.in_ok-copies.ensures.1 (c.deref-3.ensures.value ∙ c.in_ok-copies.ensures.0) in
+    let begun = group-begun readings m t entries fates kept work c.post_all.new.link left copies at posted c.in_ok-copies.ensures.1 (c.deref-3.ensures.value ∙ c.in_ok-copies.ensures.0) in
     let came = c.deref-4.result.now in
     let came_is : came ≡ frames_in copies = c.deref-4.ensures.value ∙ c.in_ok-came.ensures in
-    let took = group-took readings m t group entries work.pages left copies came c.reserve.new.self c.take_all.new.pages c.take_all.new.taken at.own refl at.pages begun.0 begun.1 came_is c.take_all.ensures in
+    let took = group-took readings m t group entries kept left copies came c.reserve.new.self c.take_all.new.pages c.take_all.new.lines at.own refl at.pages begun.0 begun.1 came_is c.take_all.ensures in
     let one = entries ++ map (quiet t) took.takes.added in
-    let shut = group-shut readings m t group one c.plan.result.now c.take_all.new.pages left copies c.new-2.result c.close_and_end.new.pages c.close_and_end.new.closed c.plan.ensures.plan took.takes.group took.pages took.running took.come c.in_ok-close_and_end.ensures in
+    let shut = group-shut readings m t group one c.plan.result.now c.take_all.new.pages left copies c.take_all.new.lines c.close_and_end.new.pages c.close_and_end.new.lines c.plan.ensures.plan took.takes.group took.pages took.running took.come c.in_ok-close_and_end.ensures in
     let es = one ++ map (quiet t) shut.closes.added in
     shut.pages.inside
 
@@ -223,7 +232,8 @@ add_due-requires-clause-heard g c =
     let m = g.M.Masks.table c.args.known.now.masks.now in
     let t = c.args.tick in
     let work = c.args.work.now in
-    let group = work.pages.group in
+    let kept = c.args.pages.now in
+    let group = kept.group in
     let fates = work.fates.items in
     let entries = c.requires.can.entries in
     let at = c.requires.can.stands in
@@ -232,12 +242,12 @@ add_due-requires-clause-heard g c =
     ∙ ap (λ (fs : List Frame). posted_all (t - 1) fs c.deref-2.result.now work.link) c.deref.ensures.value ∙ ap (λ (es : List (List ℕ)). posted_all (t - 1) work.frames.items es work.link) c.deref-2.ensures.value in
     let left = c.due.new.self in
     let copies = c.deref-3.result.now in
-    let begun = group-begun readings m t entries fates work c.post_all.new.link left copies at posted c.in_ok-copies.ensures.1 (c.deref-3.ensures.value ∙ c.in_ok-copies.ensures.0) in
+    let begun = group-begun readings m t entries fates kept work c.post_all.new.link left copies at posted c.in_ok-copies.ensures.1 (c.deref-3.ensures.value ∙ c.in_ok-copies.ensures.0) in
     let came = c.deref-4.result.now in
     let came_is : came ≡ frames_in copies = c.deref-4.ensures.value ∙ c.in_ok-came.ensures in
-    let took = group-took readings m t group entries work.pages left copies came c.reserve.new.self c.take_all.new.pages c.take_all.new.taken at.own refl at.pages begun.0 begun.1 came_is c.take_all.ensures in
+    let took = group-took readings m t group entries kept left copies came c.reserve.new.self c.take_all.new.pages c.take_all.new.lines at.own refl at.pages begun.0 begun.1 came_is c.take_all.ensures in
     let one = entries ++ map (quiet t) took.takes.added in
-    let shut = group-shut readings m t group one c.plan.result.now c.take_all.new.pages left copies c.new-2.result c.close_and_end.new.pages c.close_and_end.new.closed c.plan.ensures.plan took.takes.group took.pages took.running took.come c.in_ok-close_and_end.ensures in
+    let shut = group-shut readings m t group one c.plan.result.now c.take_all.new.pages left copies c.take_all.new.lines c.close_and_end.new.pages c.close_and_end.new.lines c.plan.ensures.plan took.takes.group took.pages took.running took.come c.in_ok-close_and_end.ensures in
     let es = one ++ map (quiet t) shut.closes.added in
     let heard_from = c.deref-5.result.now in
     let heard_is : heard_from ≡ frames_in copies = c.deref-5.ensures.value ∙ c.in_ok-came.ensures in
@@ -249,7 +259,8 @@ send_all-requires-clause-can g c =
     let m = g.M.Masks.table c.args.known.now.masks.now in
     let t = c.args.tick in
     let work = c.args.work.now in
-    let group = work.pages.group in
+    let kept = c.args.pages.now in
+    let group = kept.group in
     let fates = work.fates.items in
     let entries = c.requires.can.entries in
     let at = c.requires.can.stands in
@@ -258,12 +269,12 @@ send_all-requires-clause-can g c =
     ∙ ap (λ (fs : List Frame). posted_all (t - 1) fs c.deref-2.result.now work.link) c.deref.ensures.value ∙ ap (λ (es : List (List ℕ)). posted_all (t - 1) work.frames.items es work.link) c.deref-2.ensures.value in
     let left = c.due.new.self in
     let copies = c.deref-3.result.now in
-    let begun = group-begun readings m t entries fates work c.post_all.new.link left copies at posted c.in_ok-copies.ensures.1 (c.deref-3.ensures.value ∙ c.in_ok-copies.ensures.0) in
+    let begun = group-begun readings m t entries fates kept work c.post_all.new.link left copies at posted c.in_ok-copies.ensures.1 (c.deref-3.ensures.value ∙ c.in_ok-copies.ensures.0) in
     let came = c.deref-4.result.now in
     let came_is : came ≡ frames_in copies = c.deref-4.ensures.value ∙ c.in_ok-came.ensures in
-    let took = group-took readings m t group entries work.pages left copies came c.reserve.new.self c.take_all.new.pages c.take_all.new.taken at.own refl at.pages begun.0 begun.1 came_is c.take_all.ensures in
+    let took = group-took readings m t group entries kept left copies came c.reserve.new.self c.take_all.new.pages c.take_all.new.lines at.own refl at.pages begun.0 begun.1 came_is c.take_all.ensures in
     let one = entries ++ map (quiet t) took.takes.added in
-    let shut = group-shut readings m t group one c.plan.result.now c.take_all.new.pages left copies c.new-2.result c.close_and_end.new.pages c.close_and_end.new.closed c.plan.ensures.plan took.takes.group took.pages took.running took.come c.in_ok-close_and_end.ensures in
+    let shut = group-shut readings m t group one c.plan.result.now c.take_all.new.pages left copies c.take_all.new.lines c.close_and_end.new.pages c.close_and_end.new.lines c.plan.ensures.plan took.takes.group took.pages took.running took.come c.in_ok-close_and_end.ensures in
     let es = one ++ map (quiet t) shut.closes.added in
     let heard_from = c.deref-5.result.now in
     let heard_is : heard_from ≡ frames_in copies = c.deref-5.ensures.value ∙ c.in_ok-came.ensures in
@@ -275,7 +286,7 @@ send_all-requires-clause-can g c =
     let a = announcements_due (book_with readings es) t in
     let s = answers_at readings.plan m heard in
     let made : c.add_due.new.frames.items ≡ r group ++ a group ++ s group
-    = c.in_ok-add_due.ensures (presence_of readings) (lines_of es) shut.pages refl ∙ ap (λ (l : List Frame). l ++ r w.group ++ a w.group ++ s w.group) c.clear.ensures.items
+    = c.in_ok-add_due.ensures (presence_of readings) (lines_of es) shut.pages refl ∙ ap (λ (l : List Frame). l ++ r w.group ++ a w.group ++ s w.group) c.clear-2.ensures.items
     ∙ ap (λ (h : ℕ). r h ++ a h ++ s h) shut.closes.group in
     let due = group-frames readings m t group es left copies heard_from heard frames shut.running shut.come heard_is some (c.deref-7.ensures.value ∙ made) in
     let can = group-can_send readings m t group es left copies frames shut.running shut.come due in
@@ -288,19 +299,20 @@ returns g c = λ entries at.
     let m = g.M.Masks.table c.args.known.now.masks.now in
     let t = c.args.tick in
     let work = c.args.work.now in
-    let group = work.pages.group in
+    let kept = c.args.pages.now in
+    let group = kept.group in
     let fates = work.fates.items in
     let posted : c.post_all.new.link ≡ posted_all (t - 1) work.frames.items fates work.link
     = c.in_ok-post_all.ensures ∙ ap (λ (u : ℕ). posted_all u c.deref.result.now c.deref-2.result.now work.link) c.saturating_sub.ensures
     ∙ ap (λ (fs : List Frame). posted_all (t - 1) fs c.deref-2.result.now work.link) c.deref.ensures.value ∙ ap (λ (es : List (List ℕ)). posted_all (t - 1) work.frames.items es work.link) c.deref-2.ensures.value in
     let left = c.due.new.self in
     let copies = c.deref-3.result.now in
-    let begun = group-begun readings m t entries fates work c.post_all.new.link left copies at posted c.in_ok-copies.ensures.1 (c.deref-3.ensures.value ∙ c.in_ok-copies.ensures.0) in
+    let begun = group-begun readings m t entries fates kept work c.post_all.new.link left copies at posted c.in_ok-copies.ensures.1 (c.deref-3.ensures.value ∙ c.in_ok-copies.ensures.0) in
     let came = c.deref-4.result.now in
     let came_is : came ≡ frames_in copies = c.deref-4.ensures.value ∙ c.in_ok-came.ensures in
-    let took = group-took readings m t group entries work.pages left copies came c.reserve.new.self c.take_all.new.pages c.take_all.new.taken at.own refl at.pages begun.0 begun.1 came_is c.take_all.ensures in
+    let took = group-took readings m t group entries kept left copies came c.reserve.new.self c.take_all.new.pages c.take_all.new.lines at.own refl at.pages begun.0 begun.1 came_is c.take_all.ensures in
     let one = entries ++ map (quiet t) took.takes.added in
-    let shut = group-shut readings m t group one c.plan.result.now c.take_all.new.pages left copies c.new-2.result c.close_and_end.new.pages c.close_and_end.new.closed c.plan.ensures.plan took.takes.group took.pages took.running took.come c.in_ok-close_and_end.ensures in
+    let shut = group-shut readings m t group one c.plan.result.now c.take_all.new.pages left copies c.take_all.new.lines c.close_and_end.new.pages c.close_and_end.new.lines c.plan.ensures.plan took.takes.group took.pages took.running took.come c.in_ok-close_and_end.ensures in
     let es = one ++ map (quiet t) shut.closes.added in
     let heard_from = c.deref-5.result.now in
     let heard_is : heard_from ≡ frames_in copies = c.deref-5.ensures.value ∙ c.in_ok-came.ensures in
@@ -317,16 +329,18 @@ returns g c = λ entries at.
     let a = announcements_due (book_with readings es) t in
     let s = answers_at readings.plan m heard in
     let made : c.add_due.new.frames.items ≡ r group ++ a group ++ s group
-    = c.in_ok-add_due.ensures (presence_of readings) (lines_of es) shut.pages refl ∙ ap (λ (l : List Frame). l ++ r w.group ++ a w.group ++ s w.group) c.clear.ensures.items
+    = c.in_ok-add_due.ensures (presence_of readings) (lines_of es) shut.pages refl ∙ ap (λ (l : List Frame). l ++ r w.group ++ a w.group ++ s w.group) c.clear-2.ensures.items
     ∙ ap (λ (h : ℕ). r h ++ a h ++ s h) shut.closes.group in
     let due = group-frames readings m t group es left copies heard_from heard frames shut.running shut.come heard_is some (c.deref-7.ensures.value ∙ made) in
     let can = group-can_send readings m t group es left copies frames shut.running shut.come due in
-    let call = subst (λ (p : PresenceView). (j : List Line) → Replays p j w → AreSendable p w.group j frames → SendsAll p j frames c.reserve-2.new.self w.group c.send_all.new.pages c.send_all.new.sent) c.requires.presence c.send_all.ensures in
+    let call = subst (λ (p : PresenceView). (j : List Line) → Replays p j w → AreSendable p w.group j frames → SendsAll p j frames c.reserve-2.new.self w.group c.send_all.new.pages c.send_all.new.lines) c.requires.presence c.send_all.ensures in
     let sent = call (lines_of es) shut.pages (subst (λ (h : ℕ). AreSendable (presence_of readings) h (lines_of es) frames) (sym shut.closes.group) can) in
-    let sends = subst (λ (fs : List Frame). SendsAll (presence_of readings) (lines_of es) fs c.reserve-2.new.self group c.send_all.new.pages c.send_all.new.sent) c.deref-7.ensures.value
-    (subst (λ (h : ℕ). SendsAll (presence_of readings) (lines_of es) frames c.reserve-2.new.self h c.send_all.new.pages c.send_all.new.sent) shut.closes.group sent) in
-    group-ticks readings m t group entries left copies came heard _ c.reserve.new.self c.take_all.new.taken c.new-2.result c.close_and_end.new.closed c.reserve-2.new.self c.send_all.new.sent c.take_all.new.pages w
+    let sends = subst (λ (fs : List Frame). SendsAll (presence_of readings) (lines_of es) fs c.reserve-2.new.self group c.send_all.new.pages c.send_all.new.lines) c.deref-7.ensures.value
+    (subst (λ (h : ℕ). SendsAll (presence_of readings) (lines_of es) frames c.reserve-2.new.self h c.send_all.new.pages c.send_all.new.lines) shut.closes.group sent) in
+    let takes_lines : c.take_all.new.lines.items ≡ took.takes.added = took.takes.lines ∙ ap (λ (l : List Line). l ++ took.takes.added) (c.in_ok-reserve.ensures.items ∙ c.clear.ensures) in
+    let closes_lines : c.close_and_end.new.lines.items ≡ took.takes.added ++ shut.closes.added = shut.closes.lines ∙ ap (λ (l : List Line). l ++ shut.closes.added) takes_lines in
+    group-ticks readings m t group entries left copies came heard c.send_all.new.pages _ c.reserve.new.self c.take_all.new.lines c.take_all.new.lines c.close_and_end.new.lines c.reserve-2.new.self c.send_all.new.lines c.take_all.new.pages w
     at.own begun.0 begun.1 came_is took.takes shut.closes (some ∙ ap announcements (sym same_came))
     (c.in_ok-heard.ensures.meters (book_with readings es) (t + 1) group own read told) made sends refl
-    (took.takes.lines ∙ ap (λ (l : List Line). l ++ took.takes.added) (c.in_ok-reserve.ensures.items ∙ c.new.ensures)) (shut.closes.lines ∙ ap (λ (l : List Line). l ++ shut.closes.added) c.new-2.ensures)
-    (sends.lines ∙ ap (λ (l : List Line). l ++ map send_line c.add_due.new.frames.items) (c.in_ok-reserve-2.ensures.items ∙ c.new-3.ensures))
+    (sends.lines ∙ ap (λ (l : List Line). l ++ map send_line c.add_due.new.frames.items) (c.in_ok-reserve-2.ensures.items ∙ closes_lines))
+    (c.len-work.ensures.len ∙ ap length takes_lines) (c.len-work-2.ensures.len ∙ ap length closes_lines)

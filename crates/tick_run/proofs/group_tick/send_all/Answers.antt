@@ -11,7 +11,7 @@ send_one-requires-clause-can c =
     record {
       journal = j ++ map send_line (take c.loop-frame.frame-index c.args.frames.now);
       replays = upto.first.pages;
-      sendable = sends-next c.args.presence.now j c.loop-frame.frame-index c.args.frames.now c.frame-item.result c.args.sent.now c.args.pages.now.group c.loop-frame.pages c.loop-frame.sent
+      sendable = sends-next c.args.presence.now j c.loop-frame.frame-index c.args.frames.now c.frame-item.result c.args.lines.now c.args.pages.now.group c.loop-frame.pages c.loop-frame.lines
           c.loop-frame-test.true (sym c.frame-item.is) upto;
     }
 
@@ -20,10 +20,10 @@ loop-frame-preserved c = record {
   sends = λ j rep can.
       let k = c.loop-frame.frame-index in
       let upto = c.loop-frame.invariant.sends j rep can in
-      sends-more c.args.presence.now j k c.args.frames.now c.frame-item.result c.args.sent.now c.loop-frame.sent c.send_one.new.sent c.args.pages.now.group c.loop-frame.pages c.send_one.new.pages
+      sends-more c.args.presence.now j k c.args.frames.now c.frame-item.result c.args.lines.now c.loop-frame.lines c.send_one.new.lines c.args.pages.now.group c.loop-frame.pages c.send_one.new.pages
       c.loop-frame-test.true (sym c.frame-item.is) upto
       (c.send_one.ensures.sends (j ++ map send_line (take k c.args.frames.now)) upto.first.pages
-      (sends-next c.args.presence.now j k c.args.frames.now c.frame-item.result c.args.sent.now c.args.pages.now.group c.loop-frame.pages c.loop-frame.sent c.loop-frame-test.true (sym c.frame-item.is) upto));
+      (sends-next c.args.presence.now j k c.args.frames.now c.frame-item.result c.args.lines.now c.args.pages.now.group c.loop-frame.pages c.loop-frame.lines c.loop-frame-test.true (sym c.frame-item.is) upto));
   spare = let room = c.loop-frame.invariant.spare in let more = c.send_one.ensures.spare in omega (arith, room, more);
 }
 
@@ -31,4 +31,4 @@ pub returns : goal.returns
 returns c = λ j rep can.
     let over = c.loop-frame-test.false in
     let upto = c.loop-frame.invariant.sends j rep can in
-    subst (λ fs. SendsAll c.args.presence.now j fs c.args.sent.now c.args.pages.now.group c.loop-frame.pages c.loop-frame.sent) (take_all c.loop-frame.frame-index c.args.frames.now over) upto.first
+    subst (λ fs. SendsAll c.args.presence.now j fs c.args.lines.now c.args.pages.now.group c.loop-frame.pages c.loop-frame.lines) (take_all c.loop-frame.frame-index c.args.frames.now over) upto.first

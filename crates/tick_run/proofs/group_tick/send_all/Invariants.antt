@@ -8,6 +8,6 @@ use Rattle.tick_run.proofs.group_tick.send_all.Given as goal
 
 abbrev pub invariant-loop-frame : goal.invariant-loop-frame
 invariant-loop-frame l = record {
-  sends : (j : List Line) → Replays l.presence j l.fn.pages → AreSendable l.presence l.fn.pages.group j l.frames → SendsUpto l.presence j l.frame-index l.frames l.fn.sent l.fn.pages.group l.pages l.sent;
-  spare : length l.frames ≤ l.sent.spare + l.frame-index;
+  sends : (j : List Line) → Replays l.presence j l.fn.pages → AreSendable l.presence l.fn.pages.group j l.frames → SendsUpto l.presence j l.frame-index l.frames l.fn.lines l.fn.pages.group l.pages l.lines;
+  spare : length l.frames ≤ l.lines.spare + l.frame-index;
 }

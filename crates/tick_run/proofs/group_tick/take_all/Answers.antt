@@ -9,7 +9,7 @@ use Rattle.tick_run.proofs.group_tick.take_all.Goals as goal
 
 -- the frame that comes next can be taken
 next : (c : goal.After-take_one-arg-in-loop-frame-1) (p : PresenceView) (j : List Line) (all : All (IsTakeable p c.args.pages.now.group j) c.args.came.now)
-    → (first : Calls p j (takes_of (take c.loop-frame.frame-index c.args.came.now)) c.args.taken.now c.args.pages.now.group c.loop-frame.pages c.loop-frame.taken)
+    → (first : Calls p j (takes_of (take c.loop-frame.frame-index c.args.came.now)) c.args.lines.now c.args.pages.now.group c.loop-frame.pages c.loop-frame.lines)
     → IsTakeable p c.loop-frame.pages.group (j ++ first.added) c.frame-item.result
 next c p j all first =
     subst (λ g. IsTakeable p g (j ++ first.added) c.frame-item.result) (sym first.group)
@@ -30,7 +30,7 @@ take_one-requires-clause-can c =
     }
 
 next_at : (c : goal.After-take_one) (p : PresenceView) (j : List Line) (all : All (IsTakeable p c.args.pages.now.group j) c.args.came.now)
-    → (first : Calls p j (takes_of (take c.loop-frame.frame-index c.args.came.now)) c.args.taken.now c.args.pages.now.group c.loop-frame.pages c.loop-frame.taken)
+    → (first : Calls p j (takes_of (take c.loop-frame.frame-index c.args.came.now)) c.args.lines.now c.args.pages.now.group c.loop-frame.pages c.loop-frame.lines)
     → IsTakeable p c.loop-frame.pages.group (j ++ first.added) c.frame-item.result
 next_at c p j all first =
     subst (λ g. IsTakeable p g (j ++ first.added) c.frame-item.result) (sym first.group)
@@ -42,8 +42,8 @@ loop-frame-preserved c = record {
   takes = λ p j rep all.
       let first = c.loop-frame.invariant.takes p j rep all in
       let one = c.take_one.ensures.takes p (j ++ first.added) first.pages (next_at c p j all first) in
-      takes-more p j c.args.came.now c.loop-frame.frame-index c.frame-item.result c.args.taken.now c.loop-frame.taken c.take_one.new.taken c.args.pages.now.group c.loop-frame.pages c.take_one.new.pages
+      takes-more p j c.args.came.now c.loop-frame.frame-index c.frame-item.result c.args.lines.now c.loop-frame.lines c.take_one.new.lines c.args.pages.now.group c.loop-frame.pages c.take_one.new.pages
       c.loop-frame-test.true (sym c.frame-item.is) first
-      (subst (λ g. Calls p (j ++ first.added) (takes_of (c.frame-item.result ∷ [])) c.loop-frame.taken g c.take_one.new.pages c.take_one.new.taken) first.group one);
+      (subst (λ g. Calls p (j ++ first.added) (takes_of (c.frame-item.result ∷ [])) c.loop-frame.lines g c.take_one.new.pages c.take_one.new.lines) first.group one);
   spare = let room = c.loop-frame.invariant.spare in let more = c.take_one.ensures.spare in omega (arith, room, more);
 }

@@ -8,6 +8,6 @@ use Rattle.tick_run.proofs.group_tick.take_all.Given as goal
 
 abbrev pub invariant-loop-frame : goal.invariant-loop-frame
 invariant-loop-frame l = record {
-  takes : (p : PresenceView) (j : List Line) → Replays p j l.fn.pages → All (IsTakeable p l.fn.pages.group j) l.came → Calls p j (takes_of (take l.frame-index l.came)) l.fn.taken l.fn.pages.group l.pages l.taken;
-  spare : length l.came ≤ l.taken.spare + l.frame-index;
+  takes : (p : PresenceView) (j : List Line) → Replays p j l.fn.pages → All (IsTakeable p l.fn.pages.group j) l.came → Calls p j (takes_of (take l.frame-index l.came)) l.fn.lines l.fn.pages.group l.pages l.lines;
+  spare : length l.came ≤ l.lines.spare + l.frame-index;
 }
