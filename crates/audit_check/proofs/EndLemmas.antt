@@ -13,10 +13,10 @@ use Rattle.transcript_log.specs.declared.Entry.{Entry}
 use Rattle.transcript_log.specs.declared.Line.{Line}
 use Rattle.transcript_log.specs.Events.{once, lines_of}
 use Rattle.transcript_log.specs.Transcript.{lines_after}
-use Rattle.transcript_log.specs.Frames.{shape_of_lines, contents_of_lines, IsPossible, IsPossibleUpTo}
+use Rattle.transcript_log.specs.Frames.{shape_of_lines, contents_of_lines, IsPossible}
 use Rattle.transcript_log.specs.Journal.{past_of}
 use Rattle.transcript_log.specs.Transcripts.{TranscriptView, IsTranscript}
-use Rattle.group_book.specs.Books.{BookView, shape_of, past}
+use Rattle.group_book.specs.Books.{BookView, past}
 use Rattle.run_rows.specs.Report.{Row, outcome_row}
 use Rattle.totals_report.specs.declared.row.ReportRow.{ReportRow}
 use Rattle.totals_report.specs.Books.{row_in}

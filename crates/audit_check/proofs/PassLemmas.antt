@@ -1,6 +1,6 @@
 -- The pass over the text of a transcript, one entry after another.
-use Rattle.std.proofs.Common.{◌≡◌, ℕ, suc, ◌+◌, ◌<◌, List, [], ◌∷◌, ◌++◌, length, map, take, refl, sym, ap, ◌∙◌, subst, arith, length-append, append_assoc}
-use Rattle.std.specs.Prelude.{Option, Some, None, Result, Ok, Err}
+use Rattle.std.proofs.Common.{◌≡◌, ℕ, ◌+◌, ◌<◌, List, [], ◌∷◌, ◌++◌, length, take, refl, sym, ap, ◌∙◌, subst, arith, length-append}
+use Rattle.std.specs.Prelude.{Option, Some, None, Result, Ok}
 use Rattle.std.proofs.lemmas.Bool.{and_from, lt-ltb}
 use Rattle.std.proofs.lemmas.List.{take-append-le, take_all}
 use Rattle.group_plan.specs.Plans.{PlanView}
@@ -12,21 +12,19 @@ use Rattle.transcript_log.specs.Events.{lines_of}
 use Rattle.transcript_log.specs.Frames.{IsPossible, shape_of_lines}
 use Rattle.transcript_log.specs.Transcripts.{TranscriptView, IsTranscript, FitsLine}
 use Rattle.transcript_text.specs.declared.fault.ReadError.{ReadError}
-use Rattle.transcript_text.specs.declared.fault.ReadError.TheVariants as fault
 use Rattle.transcript_text.specs.declared.version.Version.TheVariants.{Two}
-use Rattle.transcript_text.specs.EntryLines.{entry_line}
 use Rattle.transcript_text.specs.Heads.{read_of}
-use Rattle.transcript_text.specs.Spelling.{transcript_text}
-use Rattle.transcript_text.specs.Reading.{Fails, before}
-use Rattle.transcript_text.specs.Readers.{ReaderView, IsBegun, IsRead, IsTextOfWhatIsRead, with_entries}
-use Rattle.audit_check.proofs.ReadLemmas.{one_more, none_left, fault_left, fails_on, failed, nothing_before}
+use Rattle.transcript_text.specs.Reading.{before}
+use Rattle.transcript_text.specs.Readers.{IsTextOfWhatIsRead, with_entries}
+use Rattle.transcript_text.specs.Ahead.{AheadView, IsAheadBegun, IsNext}
+use Rattle.audit_check.proofs.ReadLemmas.{one_more, nothing_before}
 use Rattle.group_book.specs.Books.{BookView}
 use Rattle.audit_check.specs.Steps.{MayFollow}
 use Rattle.audit_check.specs.Ends.{LinesEnd}
 use Rattle.audit_check.specs.Replays.{FitsPlan}
 use Rattle.audit_check.specs.Following.{IsReplay, Follows}
 use Rattle.audit_check.specs.Passes.{HasRead, ReadsOn, PassEnds, IsLineOf, IsReplayOf, ReadsAs}
-use Rattle.audit_check.proofs.EndLemmas.{none_possible, lines_long, more_possible, not_possible, holds, first_found, all_replayed}
+use Rattle.audit_check.proofs.EndLemmas.{none_possible, lines_long, more_possible, not_possible, first_found, all_replayed}
 
 -- ---- an entry's line
 
@@ -41,15 +39,9 @@ lines_more : (xs ys : List Entry) → lines_of (xs ++ ys) ≡ lines_of xs ++ lin
 lines_more [] ys = refl
 lines_more (x ∷ xs) ys = ap (λ ls. x.line ∷ ls) (lines_more xs ys)
 
--- ---- reading
-
--- want of memory may be answered
-pub no_memory : {Y : Type 0} (f : ReadError) (read : Result Y ReadError) → f ≡ fault.Memory → Fails f read
-no_memory f read is = subst (λ x. Fails x read) (sym is) tt
-
 -- ---- judging
 
-pub has_begun : (r : ReaderView) (b : BookView) (seen : PresenceView) (sets : List (List ℕ)) → b.presence.plan ≡ r.plan → b.journal ≡ [] → IsReplay b.presence b.journal seen sets → HasRead r.plan r.left 0 r b seen sets
+pub has_begun : (r : AheadView) (b : BookView) (seen : PresenceView) (sets : List (List ℕ)) → b.presence.plan ≡ r.plan → b.journal ≡ [] → IsReplay b.presence b.journal seen sets → HasRead r.plan r.left 0 r b seen sets
 has_begun r b seen sets plan journal is = record {
   front = [];
   so_far = nothing_before r.left;
@@ -61,25 +53,16 @@ has_begun r b seen sets plan journal is = record {
   possible = none_possible r.plan.groups;
 }
 
-module _ (plan : PlanView) (all : Result (List Entry) ReadError) (at : ℕ) (r : ReaderView) (b : BookView) (seen : PresenceView) (sets : List (List ℕ)) (has : HasRead plan all at r b seen sets) where
+module _ (plan : PlanView) (all : Result (List Entry) ReadError) (at : ℕ) (r : AheadView) (b : BookView) (seen : PresenceView) (sets : List (List ℕ)) (has : HasRead plan all at r b seen sets) where
   front_long : length (lines_of has.front) ≡ at
   front_long = lines_long has.front ∙ has.count
 
-  pub all_read : r.left ≡ Ok [] → PassEnds plan all (Ok None) b
-  all_read is = (has.front, none_left has.front r.left all has.so_far is, (holds plan (lines_of has.front) b seen sets has.plan has.journal has.replay, has.possible))
-
-  pub fault_read : (f : ReadError) → r.left ≡ Err f → PassEnds plan all (Err f) b
-  fault_read f is = failed f all (fault_left has.front r.left all has.so_far f is)
-
-  module _ (e : Entry) (s : ReaderView) (read : IsRead r e s) where
+  module _ (e : Entry) (s : AheadView) (read : IsNext r e s) where
     so_now : before (has.front ++ e ∷ []) s.left ≡ all
     so_now = one_more has.front r.left all has.so_far e s.left read.left
 
     now_long : length (lines_of has.front ++ e.line ∷ []) ≡ at + 1
     now_long = length-append (lines_of has.front) (e.line ∷ []) ∙ ap (λ n. n + 1) front_long
-
-    pub fits_read : FitsPlan b.presence.plan e.line
-    fits_read = subst (λ q. FitsPlan q e.line) (has.reads ∙ sym has.plan) (fits_plan r.plan e.fate e.line read.fits)
 
     pub has_more : (c : BookView) (now : PresenceView) (new : List (List ℕ)) → Follows b.presence b.journal e.line c now new → HasRead plan all (at + 1) s c now new
     has_more c now new follows = record {
@@ -126,12 +109,9 @@ module _ (plan : PlanView) (all : Result (List Entry) ReadError) (at : ℕ) (r :
             ap (take at) split ∙ take-append-le at (lines_of has.front ++ e.line ∷ []) (lines_of rest) (omega (arith, now))
             ∙ take-append-le at (lines_of has.front) (e.line ∷ []) (omega (arith, front)) ∙ take_all at (lines_of has.front) (omega (arith, front))
 
-    pub stopped_fault : (c : BookView) (f : ReadError) → Fails f s.left → PassEnds plan all (Err f) c
-    stopped_fault c f is = fails_on (has.front ++ e ∷ []) s.left all so_now f is
-
 -- ---- the whole text
 
-pub text_replayed : (text : List ℕ) (r : ReaderView) (found number : Option ℕ) (b : BookView) → IsBegun Two text r → IsTextOfWhatIsRead Two text → PassEnds r.plan r.left (Ok found) b
+pub text_replayed : (text : List ℕ) (r : AheadView) (found number : Option ℕ) (b : BookView) → IsAheadBegun Two text r → IsTextOfWhatIsRead Two text → PassEnds r.plan r.left (Ok found) b
     → IsLineOf r.plan found number → ReadsAs text (record { rounds = b; impossible = number })
 unfolding IsTextOfWhatIsRead
 text_replayed text r found number b begun is ends line =

@@ -1,5 +1,5 @@
 -- Entries that are read, and those that are left.
-use Rattle.std.proofs.Common.{◌≡◌, ℕ, List, [], ◌∷◌, ◌++◌, refl, sym, ap, ◌∙◌, append-nil, append_assoc}
+use Rattle.std.proofs.Common.{◌≡◌, List, [], ◌∷◌, ◌++◌, refl, sym, ap, ◌∙◌, append-nil, append_assoc}
 use Rattle.std.specs.Prelude.{Result, Ok, Err}
 use Rattle.transcript_log.specs.declared.Entry.{Entry}
 use Rattle.transcript_text.specs.declared.fault.ReadError.{ReadError}
@@ -35,13 +35,3 @@ module _ (front : List Entry) (left all : Result (List Entry) ReadError) (so : b
 
   pub fault_left : (f : ReadError) → left ≡ Err f → all ≡ Err f
   fault_left f is = sym so ∙ ap (before front) is
-
-  -- the fault of what is left is that of all
-  pub fails_on : (f : ReadError) → Fails f left → Fails f all
-  fails_on (fault.Head n) is = fault_left (fault.Head n) is
-  fails_on (fault.Line n) is = fault_left (fault.Line n) is
-  fails_on (fault.Field n k) is = fault_left (fault.Field n k) is
-  fails_on (fault.NoEnd n) is = fault_left (fault.NoEnd n) is
-  fails_on (fault.Count n) is = fault_left (fault.Count n) is
-  fails_on (fault.After n) is = fault_left (fault.After n) is
-  fails_on fault.Memory is = tt

@@ -12,14 +12,14 @@ use Rattle.transcript_text.specs.EntryLines.{entry_line}
 use Rattle.transcript_text.specs.Heads.{read_of}
 use Rattle.transcript_text.specs.Spelling.{transcript_text}
 use Rattle.transcript_text.specs.Reading.{Fails, before}
-use Rattle.transcript_text.specs.Readers.{ReaderView}
+use Rattle.transcript_text.specs.Ahead.{AheadView}
 use Rattle.group_book.specs.Books.{BookView}
 use Rattle.audit_check.specs.Audits.{IsFirstImpossible}
 use Rattle.audit_check.specs.Ends.{LinesEnd, IsReplayed}
 use Rattle.audit_check.specs.Following.{IsReplay}
 
 -- so many entries are read, and their lines are possible and replayed
-pub record HasRead (head : PlanView) (all : Result (List Entry) ReadError) (at : ℕ) (r : ReaderView) (b : BookView) (seen : PresenceView) (sets : List (List ℕ)) : Type 0 where
+pub record HasRead (head : PlanView) (all : Result (List Entry) ReadError) (at : ℕ) (r : AheadView) (b : BookView) (seen : PresenceView) (sets : List (List ℕ)) : Type 0 where
   pub front : List Entry
   pub so_far : before front r.left ≡ all
   pub reads : r.plan ≡ head

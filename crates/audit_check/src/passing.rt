@@ -9,10 +9,14 @@ use crate::auditing::Replayed;
 use crate::replay::Replay;
 use group_plan::Plan;
 use std::alloc::Global;
-use transcript_text::{EntryReader, ReadError, Version, entry_line};
+use std::thread::Threads;
+use transcript_text::{EntriesAhead, ReadError, Version, entry_line};
+
+// As many bytes of a text as are read by a thread at a time, so that the entries of all that are read ahead take about 3 MB.
+const BYTES_A_PIECE: usize = 64 * 1024;
 
 // Reads what is left of a text.
-fn read_on(reader: &mut EntryReader) -> Result<(), ReadError>
+fn read_on<R: Threads + Sync>(reader: &mut EntriesAhead<R>) -> Result<(), ReadError>
     ensures ends { ReadsOn reader.old.left result }
     ensures plan { reader.new.plan ≡ reader.old.plan }
 {
@@ -37,7 +41,10 @@ fn next_place(at: u32) -> Result<u32, ReadError>
 }
 
 // The first of the entries that are left to read whose line is not possible, where there is one. All are read.
-fn first_impossible(reader: &mut EntryReader, replay: &mut Replay) -> Result<Option<u32>, ReadError>
+fn first_impossible<R: Threads + Sync>(
+    reader: &mut EntriesAhead<R>,
+    replay: &mut Replay,
+) -> Result<Option<u32>, ReadError>
     requires plan { replay.old.rounds.presence.plan ≡ reader.old.plan }
     requires journal { replay.old.rounds.journal ≡ [] }
     requires replay { IsReplay replay.old.rounds.presence replay.old.rounds.journal replay.old.seen replay.old.answered.items }
@@ -71,11 +78,16 @@ fn line_of(plan: &Plan, entry: Option<u32>) -> Option<u64>
     }
 }
 
-/// Reads the text of a transcript of version 2, and judges its lines. Memory grows with the plan alone.
-pub fn replay_text(alloc: Global, bytes: &[u8]) -> Result<Replayed, ReadError>
+/// Reads the text of a transcript of version 2, in pieces side by side, and judges its lines one after another. Memory grows
+/// with the plan alone.
+pub fn replay_text<R: Threads + Sync>(
+    rt: &R,
+    alloc: Global,
+    bytes: &[u8],
+) -> Result<Replayed, ReadError>
     ensures { ReplayedText bytes.now result }
 {
-    let mut reader = match EntryReader::new(alloc, Version::Two, bytes) {
+    let mut reader = match EntriesAhead::new(rt, alloc, Version::Two, bytes, BYTES_A_PIECE) {
         Ok(reader) => reader,
         Err(fault) => return Err(fault),
     };

@@ -19,7 +19,8 @@ use Rattle.transcript_text.proofs.EntryLoop.{opens}
 use Rattle.transcript_text.proofs.EntryAgain.{IsSmall}
 use Rattle.transcript_text.proofs.LineAgain.{row_again}
 use Rattle.transcript_text.proofs.CleanFields.{clean_fields, comma, newline}
-use Rattle.transcript_text.proofs.EntriesBack.{Follow, text_cons}
+use Rattle.transcript_text.specs.Ahead.{Follow}
+use Rattle.transcript_text.proofs.EntriesBack.{text_cons}
 
 pub cut_entry : (version : Version) (e : Entry) (rest : List ℕ) → AllClean 44 (fields_of version e) → AllClean 10 (fields_of version e)
     → (parts 10 (entry_text version e ++ 10 ∷ rest) ≡ entry_text version e ∷ parts 10 rest) × (parts 44 (entry_text version e) ≡ fields_of version e)

@@ -17,6 +17,7 @@ use Rattle.field_texts.specs.Parts.{parts}
 use Rattle.transcript_log.specs.Transcripts.{Fits, IsEntry, NeverFalls}
 use Rattle.transcript_text.specs.Spelling.{ended, entries_text, entry_text, fields_of}
 use Rattle.transcript_text.specs.Reading.{after_row, before, entries_from, is_done, row_of}
+use Rattle.transcript_text.specs.Ahead.{Follow}
 use Rattle.field_texts.proofs.TextLaws.{joined_parts}
 use Rattle.transcript_text.proofs.EntryBack.{end_back, row_back}
 
@@ -27,11 +28,6 @@ text_cons version count e es =
     let end = λ (k : ℕ). ended (codes "end," ++ decimal k) in
     let k : count + suc (length es) ≡ count + 1 + length es = omega arith in
     rw k (append_assoc (ended (entry_text version e)) tail (end (count + 1 + length es)) ∙ append_assoc (entry_text version e) (10 ∷ []) (tail ++ end (count + 1 + length es)))
-
--- entries that fit the plan, from a tick on
-abbrev pub Follow : PlanView → ℕ → List Entry → Type 0
-Follow plan last [] = Unit {0}
-Follow plan last (e ∷ es) = (last ≤ e.tick) × Fits plan e × IsEntry e × Follow plan e.tick es
 
 pub follow_fit : (plan : PlanView) (last : ℕ) (es : List Entry) → Follow plan last es → All (Fits plan) es
 follow_fit plan last [] f = All-nil (Fits plan)
@@ -56,7 +52,7 @@ done_back ([] ∷ p ∷ ps) f es h = absurd cc
 done_back ((c ∷ cs) ∷ []) f es h = absurd cc
 done_back ((c ∷ cs) ∷ p ∷ ps) f es h = absurd cc
 
-line_back : (version : Version) (e : Entry) (line : List ℕ) → parts 44 line ≡ fields_of version e → line ≡ entry_text version e
+pub line_back : (version : Version) (e : Entry) (line : List ℕ) → parts 44 line ≡ fields_of version e → line ≡ entry_text version e
 unfolding entry_text
 line_back version e line h = joined_parts 44 line (fields_of version e) h
 

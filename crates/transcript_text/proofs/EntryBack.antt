@@ -157,7 +157,7 @@ fitting_back n tag (Some f) sent h = elim (pick (is_tag tag.group tag.round tag.
   | inr w ↦ absurd (let o = w.1 in cc)
 ]
 
-sent_back : (version : Version) (n : ℕ) (tag : Tag) (fate text : List ℕ) (sent : Option Frame) → sent_of version n tag fate text ≡ Some sent → IsSent version n tag fate text sent
+pub sent_back : (version : Version) (n : ℕ) (tag : Tag) (fate text : List ℕ) (sent : Option Frame) → sent_of version n tag fate text ≡ Some sent → IsSent version n tag fate text sent
 unfolding sent_of
 sent_back version n tag fate text sent h =
     elim (pick (bytes_eq text (codes "void")) (if length fate == 0 then Some None else None) (fitting n tag (frame_of version text)) (Some sent) h) [
@@ -171,15 +171,15 @@ sent_back version n tag fate text sent h =
           subst (λ (s : Option Frame). IsSent version n tag fate text s) (sym f.2) (t.0, t.1, f.3, f.4)
     ]
 
-sent_spelled : (version : Version) (n : ℕ) (tag : Tag) (fate text : List ℕ) (sent : Option Frame) → IsSent version n tag fate text sent → numbers_text fate ∷ text ∷ [] ≡ sent_fields version fate sent
+pub sent_spelled : (version : Version) (n : ℕ) (tag : Tag) (fate text : List ℕ) (sent : Option Frame) → IsSent version n tag fate text sent → numbers_text fate ∷ text ∷ [] ≡ sent_fields version fate sent
 sent_spelled version n tag fate text None s = pair (ap numbers_text s.1) s.0
 sent_spelled version n tag fate text (Some frame) s = pair refl s.0
 
-sent_fits : (version : Version) (plan : PlanView) (tag : Tag) (fate text : List ℕ) (sent : Option Frame) → HasPlace plan tag → IsSent version (size plan.groups tag.group) tag fate text sent → FitsLine plan fate (Send tag sent)
+pub sent_fits : (version : Version) (plan : PlanView) (tag : Tag) (fate text : List ℕ) (sent : Option Frame) → HasPlace plan tag → IsSent version (size plan.groups tag.group) tag fate text sent → FitsLine plan fate (Send tag sent)
 sent_fits version plan tag fate text None p s = (p, s.1)
 sent_fits version plan tag fate text (Some frame) p s = (p, record { same = s.2; fits = s.1.fits; set = s.3 })
 
-sent_line : (version : Version) (n : ℕ) (tag : Tag) (fate text : List ℕ) (sent : Option Frame) → IsSent version n tag fate text sent → IsLine (Send tag sent)
+pub sent_line : (version : Version) (n : ℕ) (tag : Tag) (fate text : List ℕ) (sent : Option Frame) → IsSent version n tag fate text sent → IsLine (Send tag sent)
 sent_line version n tag fate text None s = tt
 sent_line version n tag fate text (Some frame) s = (s.1.set, s.1.word)
 
@@ -249,7 +249,7 @@ ending_back n word text g r e few h = elim (pick (bytes_eq word (codes "total"))
 
 -- ---- lines
 
-no_copies : IsFate []
+pub no_copies : IsFate []
 no_copies = delays_fate [] tt
 
 send_back : (version : Version) (plan : PlanView) (last : ℕ) (fs : List (List ℕ)) (e : Entry) → length fs ≡ 8 → at fs 1 ≡ codes "s" → send_of version plan last fs ≡ Ok e → IsRead version plan last fs e

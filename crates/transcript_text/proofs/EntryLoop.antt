@@ -26,7 +26,7 @@ more_parts true c (p ∷ ps) h = refl
 more_parts false c (p ∷ ps) h = refl
 
 -- entries and then more entries
-before_before : (xs ys : List Entry) (z : Result (List Entry) ReadError) → before xs (before ys z) ≡ before (xs ++ ys) z
+pub before_before : (xs ys : List Entry) (z : Result (List Entry) ReadError) → before xs (before ys z) ≡ before (xs ++ ys) z
 before_before xs ys (Ok zs) = ap Ok (sym (append_assoc xs ys zs))
 before_before xs ys (Err f) = refl
 

@@ -33,6 +33,9 @@ mod EntriesAgain
 mod SpanAgain
 mod HeadAgain
 mod HexLemmas
+mod WrittenFields
+mod WrittenLines
+mod AheadLemmas
 pub mod BegunText
 pub mod ReadAgain
 pub mod WholeLines

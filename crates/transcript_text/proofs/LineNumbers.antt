@@ -20,7 +20,8 @@ use Rattle.transcript_text.specs.EntryLines.{head_lines, entry_line, EntriesHave
 use Rattle.transcript_text.proofs.CleanFields.{clean_fields, comma, newline}
 use Rattle.transcript_text.proofs.EntryAgain.{IsSmall, small}
 use Rattle.transcript_text.proofs.EntriesAgain.{cut_entry, follows}
-use Rattle.transcript_text.proofs.EntriesBack.{Follow, text_cons}
+use Rattle.transcript_text.specs.Ahead.{Follow}
+use Rattle.transcript_text.proofs.EntriesBack.{text_cons}
 use Rattle.transcript_text.proofs.HeadAgain.{AreHeadGroups, AreHeadSpans, cut_begin, cut_group, cut_member, cut_rounds, cut_title, cut_windows, groups_fit, head_flat, spans_fit}
 use Rattle.transcript_log.proofs.RoundMembers.{range_last}
 use Rattle.transcript_text.proofs.SpanAgain.{stated_fit}

@@ -10,3 +10,5 @@ pub mod Faults
 pub mod EntryLines
 pub mod HexDigits
 pub mod Readers
+pub mod Written
+pub mod Ahead

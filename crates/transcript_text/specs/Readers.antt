@@ -12,6 +12,7 @@ use Rattle.transcript_text.specs.ReadBack.{HasHead}
 
 -- a text of which some entries are read
 pub record ReaderView : Type 0 where
+  pub version : Version
   pub plan : PlanView
   -- the number of the next line
   pub line : ℕ
@@ -19,7 +20,9 @@ pub record ReaderView : Type 0 where
   pub last : ℕ
   -- the entries that are left to read, or the first fault
   pub left : Result (List Entry) ReadError
-  -- how many bytes are left to read
+  -- the text from the next line on
+  pub text : List ℕ
+  -- how many bytes it has
   pub bytes : ℕ
 
 -- the transcript of a plan and these entries, or the fault

@@ -1,17 +1,20 @@
 //! The entries of a text, read one after another.
 
-ghost use Rattle.std.specs.Prelude.{◌≡◌};
+ghost use Rattle.std.specs.Prelude.{◌≡◌, All, IfOk};
+ghost use Rattle.transcript_text.specs.Ahead.{IsPieceOf, SkipEnds};
 ghost use Rattle.transcript_text.specs.Reading.{in_line};
 ghost use Rattle.transcript_text.specs.Readers.{ReaderView, Begins, NextEnds, IsTextOfWhatIsRead};
 
 use crate::fault::{ReadError, Row, RowFault};
 use crate::head::read_head;
+use crate::piece::{Piece, pieces};
 use crate::rows::row;
 use crate::version::Version;
 use field_texts::cut_far;
 use group_plan::Plan;
-use std::alloc::Global;
+use std::alloc::{AllocError, Global};
 use std::marker::Model;
+use std::thread::Threads;
 use transcript_log::Entry;
 
 /// A text of which the head is read, and some of the entries.
@@ -33,13 +36,14 @@ impl<'a> Model for EntryReader<'a> {
     ghost use Rattle.std.specs.Prelude.{◌<◌, ◌≤◌, ◌+◌, ◌-◌, ◌^◌, length};
     ghost use Rattle.field_texts.specs.Parts.{parts};
     ghost use Rattle.transcript_text.specs.Reading.{entries_from};
+    ghost use Rattle.transcript_text.specs.ReadBack.{HasHead};
     ghost use Rattle.transcript_text.specs.Readers.{ReaderView};
 
     ghost Value = { ReaderView };
 
-    ghost view = { λ r. record { plan = r.plan; line = r.line; last = r.last; left = entries_from r.version r.plan r.line r.last r.count (parts 10 r.rest.now); bytes = length r.rest.now } };
+    ghost view = { λ r. record { version = r.version; plan = r.plan; line = r.line; last = r.last; left = entries_from r.version r.plan r.line r.last r.count (parts 10 r.rest.now); text = r.rest.now; bytes = length r.rest.now } };
 
-    ghost invariant = { λ r. (r.line + length r.rest.now < 2 ^ 64 - 1) × (r.count ≤ r.line) };
+    ghost invariant = { λ r. (r.line + length r.rest.now < 2 ^ 64 - 1) × (r.count ≤ r.line) × HasHead r.version r.plan };
 }
 
 /// The fault of a row, as one of line `n`.
@@ -125,5 +129,37 @@ impl<'a> EntryReader<'a> {
             }
             Err(fault) => Err(in_line(self.line, fault)),
         }
+    }
+
+    /// The first pieces of the text that is left, where each has so many bytes, read side by side.
+    pub(crate) fn pieces(
+        &self,
+        rt: &(impl Threads + Sync),
+        alloc: Global,
+        size: usize,
+    ) -> Result<Vec<Piece>, AllocError>
+        ensures { IfOk result (λ ps. All (IsPieceOf self.now.version self.now.plan self.now.text) ps.items) }
+    {
+        pieces(rt, alloc, self.version, &self.plan, self.rest, size)
+    }
+
+    /// Goes on behind the entries of a piece, where they come next.
+    pub(crate) fn skip(&mut self, piece: &Piece) -> bool
+        requires { IsPieceOf self.old.version self.old.plan self.old.text piece.now }
+        ensures { SkipEnds self.old piece.now result self.new }
+    {
+        let _groups = self.plan.groups();
+        let Some(first) = piece.entries.first() else {
+            return false;
+        };
+        if piece.from != self.rest.len() || first.tick < self.last {
+            return false;
+        }
+        let entries = piece.entries.len() as u64;
+        self.line += entries;
+        self.last = piece.last;
+        self.count += entries;
+        self.rest = &self.rest[self.rest.len() - piece.until..];
+        true
     }
 }

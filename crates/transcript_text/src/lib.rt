@@ -1,6 +1,7 @@
 //! The texts of transcripts.
 #![tactic(auto)]
 
+mod ahead;
 mod batch;
 mod cut;
 mod entry_lines;
@@ -12,13 +13,16 @@ mod head_writing;
 mod hex_digits;
 mod lines;
 mod made;
+mod piece;
 mod pieces;
 mod reader;
 mod rows;
 mod version;
 mod writer;
 mod writing;
+mod written;
 
+pub use ahead::EntriesAhead;
 pub use entry_lines::entry_line;
 pub use entry_reader::EntryReader;
 pub use fault::ReadError;

@@ -4,6 +4,7 @@ ghost use Rattle.std.specs.Option.{ok_or, option_map};
 ghost use Rattle.group_plan.specs.Plans.{size};
 ghost use Rattle.field_texts.specs.Numbers.{number_of};
 ghost use Rattle.field_texts.specs.Parts.{parts};
+ghost use Rattle.transcript_text.specs.ReadBack.{HasHead};
 ghost use Rattle.transcript_text.specs.Parts.{at, view, AreFields};
 ghost use Rattle.transcript_text.specs.declared.fault.Row.TheVariants as row;
 ghost use Rattle.transcript_text.specs.declared.fault.RowFault.TheVariants as row_fault;
@@ -13,6 +14,7 @@ use crate::Version;
 use crate::cut::{Fields, split_fields};
 use crate::fault::{Row, RowFault};
 use crate::fields::{closing, ending, fate, kind, sent, verdict};
+use crate::written::written;
 use field_texts::{read_number, read_number_within};
 use group_plan::{Plan, Tag};
 use link_lanes::Fate;
@@ -67,7 +69,7 @@ fn tag(plan: &Plan, fields: &Fields) -> Result<Tag, RowFault>
 }
 
 /// The fate of a line without copies.
-fn no_fate() -> Fate
+pub(crate) fn no_fate() -> Fate
     ensures { result ≡ [] }
 {
     match Fate::new(&[]) {
@@ -190,11 +192,16 @@ fn row_of_fields(version: Version, plan: &Plan, last: u32, fields: &Fields) -> R
     }
 }
 
-/// A line after an entry with the tick `last`.
-#[tactic(auto, using(crate::proofs::LineFields::row_many))]
+/// A line after an entry with the tick `last`. One as it is written is read at once, and any other by its fields.
+#[tactic(auto, using(crate::proofs::LineFields::row_many, crate::proofs::WrittenLines::row_written))]
 pub(crate) fn row(version: Version, plan: &Plan, last: u32, line: &[u8]) -> Result<Row, RowFault>
+    requires { HasHead version plan.now }
     ensures { result ≡ row_of version plan.now last (parts 44 line.now) }
 {
+    let _groups = plan.groups();
+    if let Some(entry) = written(version, plan, last, line) {
+        return Ok(Row::Entry(entry));
+    }
     let Some(fields) = split_fields(line) else {
         return Err(RowFault::Form);
     };

@@ -4,7 +4,7 @@ use Rattle.audit_check.proofs.PassLemmas.{text_replayed}
 use Rattle.audit_check.proofs.passing.replay_text.Goals as goal
 
 pub returns : goal.returns
-returns c =
+returns g c =
     let reader = c.in-Ok.reader in
     let found = c.in-Ok-first_impossible.impossible in
     let is = c.in-Ok-first_impossible.ensures in

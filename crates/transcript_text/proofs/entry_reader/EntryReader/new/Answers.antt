@@ -1,4 +1,4 @@
-use Rattle.std.proofs.Common.{refl}
+use Rattle.std.proofs.Common.{arith, refl}
 use Rattle.field_texts.specs.Parts.{parts}
 use Rattle.transcript_text.specs.Heads.{HeadRead}
 use Rattle.transcript_text.proofs.HeadText.{head_is}
@@ -18,3 +18,9 @@ returns-clause-begins c =
       plan = is.plan;
       head = is.has;
     }
+
+pub invariant_of-result : goal.invariant_of-result
+invariant_of-result c =
+    let h : HeadRead = record { plan = c.in-Ok.head.plan; line = c.in-Ok.head.line; rest = parts 10 c.in-Ok.head.rest.now } in
+    let few = c.in-Ok.ensures.few in
+    (omega (arith, few), omega arith, (head_is c.args.version (parts 10 c.args.bytes.now) h c.in-Ok.ensures.given).has)
