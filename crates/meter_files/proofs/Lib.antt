@@ -4,3 +4,4 @@ pub mod PartLemmas
 pub mod PartRowsRead
 pub mod PartKeysPut
 pub mod SpelledParts
+pub mod WholeLemmas

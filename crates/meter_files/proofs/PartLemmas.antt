@@ -14,13 +14,12 @@ use Rattle.group_plan.specs.declared.plan.members.SpanError.{SpanError}
 use Rattle.plan_files.specs.Faults.{◌>>=◌, ButMemory, in_row}
 use Rattle.plan_files.specs.Gathering.{Settles, settled}
 use Rattle.plan_files.specs.PlanFiles.{stated_plan}
-use Rattle.plan_files.specs.PlanForms.{first_due}
+use Rattle.plan_files.specs.PlanForms.{after, first_due}
 use Rattle.plan_files.specs.PlanRows.{rounds_row}
 use Rattle.plan_files.specs.declared.fault.FileCause.TheVariants as cause
 use Rattle.plan_files.specs.declared.head.Head.{Head}
 use Rattle.plan_files.specs.declared.fault.FileCause.{FileCause}
 use Rattle.plan_files.specs.declared.fault.FileError.{FileError}
-use Rattle.plan_files.proofs.FormLemmas.{after}
 use Rattle.meter_files.specs.PartRows.{entries_from, entry_in, head_of, home_in, self_in, title_in}
 use Rattle.meter_files.specs.PartFiles.{Gathered, MeterFileView, OwnerView, PartEnds, StatesHome, completed, filled_in, gather, lacks, missing_pair, nothing, spans_of, stated_home, take_entry, with_entries}
 use Rattle.meter_files.specs.Spelling.{pair_of}

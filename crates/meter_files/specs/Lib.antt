@@ -4,3 +4,4 @@ pub mod Putting
 pub mod PartRows
 pub mod PartFiles
 pub mod SpelledParts
+pub mod Whole

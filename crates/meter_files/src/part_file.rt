@@ -8,7 +8,8 @@ ghost use Rattle.pair_keys.specs.declared.KeyError.{KeyError};
 ghost use Rattle.pair_keys.specs.declared.KeyId.{KeyId};
 ghost use Rattle.plan_files.specs.declared.fault.FileCause.{FileCause};
 ghost use Rattle.meter_files.specs.Spelling.{pair_of};
-ghost use Rattle.meter_files.specs.PartFiles.{PartEnds, StatesHome, TakesKey, completed, gather, gathered_by, is_other, lacks, missing_pair, nothing, owner_view, part_from, part_of, put_member, put_own, put_pair, spans_of, take_entry, with_entries};
+ghost use Rattle.meter_files.specs.PartFiles.{PartEnds, StatesHome, TakesKey, completed, gather, gathered_by, is_other, lacks, missing_pair, nothing, owner_view, part_from, part_of, put_member, put_own, put_pair, spans_of, take_entry, view_of, with_entries};
+ghost use Rattle.meter_files.specs.Whole.{IsWhole};
 
 use crate::part_row::{
     HomeGroup, PartEntry, due_home, due_rounds, due_self, due_title, read_entry,
@@ -423,7 +424,8 @@ fn part_from(alloc: Global, rows: &mut RowReader<'_>) -> Result<MeterFile, FileE
 #[tactic(auto, unfolding(crate::specs::PartFiles::part_of))]
 pub fn read_meter(alloc: Global, bytes: &[u8]) -> Result<MeterFile, FileError>
     requires { length bytes.now ≤ 2 ^ 28 }
-    ensures { PartEnds (part_of bytes.now) result }
+    ensures file { PartEnds (part_of bytes.now) result }
+    ensures whole { IfOk result (λ file. IsWhole (view_of file)) }
 {
     let mut rows = RowReader::new(alloc, bytes)?;
     part_from(alloc, &mut rows)

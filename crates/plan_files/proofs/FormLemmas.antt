@@ -10,7 +10,7 @@ use Rattle.link_lanes.specs.Args.{MakesArg}
 use Rattle.link_lanes.specs.declared.row.ArgError.{ArgError}
 use Rattle.link_lanes.specs.declared.row.ArgError.TheVariants.{Byte, Memory}
 use Rattle.plan_files.specs.Faults.{◌>>=◌, ButMemory, at_row, in_row}
-use Rattle.plan_files.specs.PlanForms.{entries_from, first_due, groups_from, head_of, row_due}
+use Rattle.plan_files.specs.PlanForms.{after, entries_from, first_due, groups_from, head_of, row_due}
 use Rattle.plan_files.specs.PlanRows.{entry_of, group_row, rounds_row, starts_with, version_row, windows_row}
 use Rattle.plan_files.specs.declared.entry.Entry.{Entry}
 use Rattle.plan_files.specs.declared.fault.FileCause.{FileCause}
@@ -31,11 +31,6 @@ no_argument text (Byte other) at is found =
 no_argument text Memory at is found = cc
 
 -- ---- rows in turn
-
--- some values before those that the rest says
-abbrev pub after : {A : Type 0} → List A → Result (List A) FileError → Result (List A) FileError
-after xs (Ok more) = Ok (xs ++ more)
-after xs (Err fault) = Err fault
 
 after_one : {A : Type 0} (xs : List A) (x : A) (rest : Result (List A) FileError)
     → after xs (rest >>= (λ more. Ok (x ∷ more))) ≡ after (xs ++ x ∷ []) rest

@@ -22,4 +22,5 @@ pub mod SpelledPlan
 pub mod SpelledReadings
 pub mod SpelledSpans
 pub mod TableLemmas
+pub mod WrittenKeys
 pub mod WrittenRows

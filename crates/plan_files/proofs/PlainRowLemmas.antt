@@ -79,7 +79,8 @@ reads_written : (first : List ℕ) (rest : List (List ℕ)) (tail : List ℕ)
 reads_written first [] tail = read-write-one first tail
 reads_written first (second ∷ rest) tail = read-write-many first second rest tail
 
-reads_row : (row : List (List ℕ)) (tail : List ℕ) → is_plain_row row ≡ true → next_record default_config st.StartRecord [] [] (row_text row ++ tail) ≡ Some (row, st.StartRecord, tail)
+-- the text of a plain row is read as this row
+pub reads_row : (row : List (List ℕ)) (tail : List ℕ) → is_plain_row row ≡ true → next_record default_config st.StartRecord [] [] (row_text row ++ tail) ≡ Some (row, st.StartRecord, tail)
 reads_row [] tail plain = cc
 reads_row (first ∷ rest) tail plain =
     let both = and_parts (not (length first == 0)) (list_all is_plain (first ∷ rest)) plain in

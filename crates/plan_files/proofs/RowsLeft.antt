@@ -90,3 +90,8 @@ rows_same a b same = by (next_row b) same refl
     by (Some read) p q =
         (one_row (length a + 1) (length read.2 + 1) st.StartRecord a read refl (omega arith) (omega arith) p).1
         ∙ sym (one_row (length b + 1) (length read.2 + 1) st.StartRecord b read refl (omega arith) (omega arith) q).1
+
+-- no bytes hold no row
+pub none_in_nothing : rows_in [] ≡ []
+unfolding next_record
+none_in_nothing = row_none [] refl

@@ -18,7 +18,7 @@ use Rattle.pair_keys.specs.Keys.{Keys}
 use Rattle.pair_keys.specs.declared.KeyId.{KeyId}
 use Rattle.pair_keys.specs.declared.KeyId.TheVariants.{Own, Pair}
 use Rattle.plan_files.specs.Faults.{◌>>=◌}
-use Rattle.plan_files.specs.PlanForms.{entries_from, groups_from, head_of, row_due}
+use Rattle.plan_files.specs.PlanForms.{after, entries_from, groups_from, head_of, row_due}
 use Rattle.plan_files.specs.PlanRows.{arg_in, entry_of, group_row, has_fields, key_in, key_or_lane, lane_row, member_row, name_in, number_in, or_cause, own_row, pair_row, rounds_row, starts_with, text, title, version_row, windows_row}
 use Rattle.plan_files.specs.SpelledFiles.{AreInRows, IsKey, IsLaneOf}
 use Rattle.plan_files.specs.Spelling.{first_rows, group_fields, key_fields, lane_fields, member_fields}
@@ -29,7 +29,6 @@ use Rattle.plan_files.specs.declared.fault.FileError.{FileError}
 use Rattle.plan_files.specs.declared.form.PlanForm.{PlanForm}
 use Rattle.plan_files.specs.declared.form.PlanForm.TheVariants.{Whole, Public}
 use Rattle.plan_files.specs.declared.head.Head.{Head}
-use Rattle.plan_files.proofs.FormLemmas.{after}
 
 -- ---- fields
 

@@ -20,7 +20,7 @@ use Rattle.plan_files.specs.Gathering.{Gathered, gather, nothing, settled, spans
 use Rattle.plan_files.specs.MissingKeys.{first_missing, plan_keys}
 use Rattle.plan_files.specs.PlainRows.{file_text, is_plain, is_plain_row}
 use Rattle.plan_files.specs.PlanFiles.{PlanFileView, completed, filled_in, opened_from, plan_from, plan_of, public_from, public_of, stated_plan, with_entries, with_members}
-use Rattle.plan_files.specs.PlanForms.{entries_from}
+use Rattle.plan_files.specs.PlanForms.{after, entries_from}
 use Rattle.plan_files.specs.PlanRows.{title}
 use Rattle.plan_files.specs.Rows.{file_rows}
 use Rattle.plan_files.specs.SpelledFiles.{AreInRows, IsLaneOf, IsPlanFile, PlanFileIsRead, PublicPlanIsRead, first_lane_row}
@@ -30,7 +30,6 @@ use Rattle.plan_files.specs.declared.entry.Entry.TheVariants as entry
 use Rattle.plan_files.specs.declared.form.PlanForm.{PlanForm}
 use Rattle.plan_files.specs.declared.form.PlanForm.TheVariants.{Whole, Public}
 use Rattle.plan_files.proofs.DistinctLemmas.{all_append, both_true}
-use Rattle.plan_files.proofs.FormLemmas.{after}
 use Rattle.plan_files.proofs.KeyOrder.{keys_only}
 use Rattle.plan_files.proofs.MissingLemmas.{none_missing}
 use Rattle.plan_files.proofs.PlainRowLemmas.{plain_rows}

@@ -17,3 +17,4 @@ pub mod Rows
 pub mod RowsLeft
 pub mod SpelledFiles
 pub mod Spelling
+pub mod WrittenKeys

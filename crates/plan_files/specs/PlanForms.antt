@@ -1,5 +1,5 @@
 -- The form of a plan's file: its first rows, its group rows, and the rows after them, up to the first fault.
-use Rattle.std.specs.Prelude.{ℕ, ◌+◌, nat_lt, if◌then◌else◌, List, [], ◌∷◌, codes, length, slice_index_or, Result, Ok, Err}
+use Rattle.std.specs.Prelude.{ℕ, ◌+◌, ◌++◌, nat_lt, if◌then◌else◌, List, [], ◌∷◌, codes, length, slice_index_or, Result, Ok, Err}
 use Rattle.group_plan.specs.declared.plan.GroupPlan.{GroupPlan}
 use Rattle.plan_files.specs.Faults.{◌>>=◌, at_row, in_row}
 use Rattle.plan_files.specs.PlanRows.{entry_of, group_row, rounds_row, starts_with, version_row, windows_row}
@@ -45,3 +45,8 @@ entries_from form n (row ∷ rows) = do
   entry ← at_row n (entry_of form n row)
   entries ← entries_from form (n + 1) rows
   Ok (entry ∷ entries)
+
+-- some values before those that the rest says
+abbrev pub after : {A : Type 0} → List A → Result (List A) FileError → Result (List A) FileError
+after xs (Ok more) = Ok (xs ++ more)
+after xs (Err fault) = Err fault

@@ -1,15 +1,17 @@
 //! The rows of a plan file after the groups: keys, lanes and members.
-ghost use Rattle.std.specs.Prelude.{◌≡◌, ◌<◌, ◌≤◌, ◌+◌, ◌^◌, ◌∷◌, [], IfErr, IfOk, Ok, Err, length};
-ghost use Rattle.plan_files.specs.Faults.{Answers, ButMemory};
+ghost use Rattle.std.specs.Prelude.{◌≡◌, ◌<◌, ◌≤◌, ◌+◌, ◌^◌, ◌∷◌, [], IfErr, IfOk, OnOk, Ok, Err, length};
+ghost use Rattle.plan_files.specs.Faults.{Answers, ButMemory, IsWantOfMemory};
 ghost use Rattle.plan_files.specs.KeptRows.{IsKept, fields_in};
 ghost use Rattle.plan_files.specs.PlanForms.{entries_from};
 ghost use Rattle.plan_files.specs.PlanRows.{arg_in, entry_of, key_or_lane, lane_row, member_row, own_row, pair_row};
 ghost use Rattle.plan_files.specs.RowsLeft.{IsSound, rows_left};
+ghost use Rattle.plan_files.specs.WrittenKeys.{AddsRows};
 
 use crate::fault::{FileCause, FileError, NO_MEMORY};
 use crate::fields::{is_quoted, plain_end, read_quoted};
 use crate::form::PlanForm;
 use crate::kept_row::Row;
+use crate::key_row::take_keys;
 use crate::row::{check_fields, is_word, key_field, name_field, number_field};
 use crate::row_reader::RowReader;
 use group_plan::Span;
@@ -175,6 +177,32 @@ pub fn read_entry(
     }
 }
 
+/// Adds what the rows of keys say that come next and stand as they are written.
+fn add_keys(
+    form: PlanForm,
+    rows: &mut RowReader<'_>,
+    entries: &mut Vec<Entry>,
+) -> Result<(), FileError>
+    requires sound { IsSound rows.old }
+    ensures added { OnOk result (AddsRows form (rows_left rows.old) (rows_left rows.new) entries.old.items entries.new.items) }
+    ensures sound { OnOk result (IsSound rows.new) }
+    ensures fault { IfErr result (λ fault. IsWantOfMemory fault) }
+{
+    match form {
+        PlanForm::Public => Ok(()),
+        PlanForm::Whole => {
+            let before = entries.len();
+            let Ok(rest) = take_keys(entries, rows.bytes()) else {
+                return Err(NO_MEMORY);
+            };
+            if entries.len() == before {
+                return Ok(());
+            }
+            rows.read(rest)
+        }
+    }
+}
+
 /// What the rows that are left say, up to the first fault of form. The first of them is row `first` of the file.
 pub fn read_entries(
     alloc: Global,
@@ -189,8 +217,9 @@ pub fn read_entries(
     ensures fault { IfErr result (λ fault. ButMemory fault.cause (entries_from form first (rows_left rows.old) ≡ Err fault)) }
 {
     let mut entries = Vec::new(alloc);
-    let mut number = first;
+    add_keys(form, rows, &mut entries)?;
     while let Some(row) = rows.current() {
+        let number = first + entries.len() as u32;
         match read_entry(alloc, form, number, row) {
             Ok(entry) => {
                 if entries.push(entry).is_err() {
@@ -199,8 +228,8 @@ pub fn read_entries(
             }
             Err(cause) => return Err(FileError { row: number, cause }),
         }
-        number += 1;
         rows.advance()?;
+        add_keys(form, rows, &mut entries)?;
     }
     Ok(entries)
 }

@@ -52,7 +52,7 @@ fn keep(kept: &mut ByteRecord, text: &[u8]) -> Result<(), AllocError>
 }
 
 /// The bytes from a place on.
-fn rest_from(bytes: &[u8], place: usize) -> &[u8]
+pub fn rest_from(bytes: &[u8], place: usize) -> &[u8]
     requires { place ≤ length bytes.now }
     ensures { result.now ≡ drop place bytes.now }
 {

@@ -9,6 +9,7 @@ mod gathering;
 mod head;
 mod kept_row;
 mod key;
+mod key_row;
 pub mod laws;
 mod plan;
 mod readings;

@@ -50,7 +50,7 @@ impl<'b> RowReader<'b> {
     }
 
     /// Reads the first row of the bytes, if they hold any.
-    fn read(&mut self, bytes: &'b [u8]) -> Result<(), FileError>
+    pub(crate) fn read(&mut self, bytes: &'b [u8]) -> Result<(), FileError>
         ensures rows { OnOk result (rows_left self.new ≡ rows_in bytes.now) }
         ensures sound { OnOk result (IsSound self.new) }
         ensures fault { IfErr result (λ fault. IsWantOfMemory fault) }
@@ -75,6 +75,14 @@ impl<'b> RowReader<'b> {
         ensures { MatchOption result (rows_left self.now ≡ []) (λ row. IsCurrent self.now row.now) }
     {
         if self.has_row { Some(&self.row) } else { None }
+    }
+
+    /// The bytes of the file from the current row on, where any is left.
+    #[tactic(auto, using(crate::proofs::RowsLeft::none_in_nothing))]
+    pub(crate) fn bytes(&self) -> &'b [u8]
+        ensures { rows_in result.now ≡ rows_left self.now }
+    {
+        if self.has_row { self.row.start } else { &[] }
     }
 
     /// Leaves the current row for the one behind it.

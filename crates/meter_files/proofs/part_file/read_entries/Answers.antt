@@ -2,7 +2,8 @@ use Rattle.std.proofs.Common.{◌≡◌, ◌∙◌, ◌+◌, ℕ, List, [], ◌�
 use Rattle.std.specs.Result.{is_ok}
 use Rattle.plan_files.specs.KeptRows.{fields_in}
 use Rattle.plan_files.specs.RowsLeft.{rows_left}
-use Rattle.plan_files.proofs.FormLemmas.{after, always}
+use Rattle.plan_files.specs.PlanForms.{after}
+use Rattle.plan_files.proofs.FormLemmas.{always}
 use Rattle.meter_files.specs.PartRows.{entries_from}
 use Rattle.meter_files.proofs.PartLemmas.{entries_end, entries_fault, entries_more}
 use Rattle.meter_files.proofs.part_file.read_entries.Goals as goal

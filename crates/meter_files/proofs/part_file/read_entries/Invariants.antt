@@ -1,5 +1,5 @@
 use Rattle.std.proofs.Common.{◌≡◌, ◌+◌, length}
-use Rattle.plan_files.proofs.FormLemmas.{after}
+use Rattle.plan_files.specs.PlanForms.{after}
 use Rattle.plan_files.specs.RowsLeft.{IsSound, rows_left}
 use Rattle.meter_files.specs.PartRows.{entries_from}
 use Rattle.meter_files.proofs.part_file.read_entries.Given as goal

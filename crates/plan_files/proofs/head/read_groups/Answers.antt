@@ -1,9 +1,9 @@
 use Rattle.std.proofs.Common.{◌≡◌, ◌∙◌, ◌+◌, ℕ, List, [], ◌∷◌, ◌++◌, true, length, drop, ap, sym, arith, rules, length-append, drop-drop}
 use Rattle.std.specs.Result.{is_ok}
 use Rattle.plan_files.specs.KeptRows.{fields_in}
-use Rattle.plan_files.specs.PlanForms.{groups_from}
+use Rattle.plan_files.specs.PlanForms.{after, groups_from}
 use Rattle.plan_files.specs.RowsLeft.{rows_left}
-use Rattle.plan_files.proofs.FormLemmas.{after, always, groups_end, groups_fault, groups_more, groups_stop}
+use Rattle.plan_files.proofs.FormLemmas.{always, groups_end, groups_fault, groups_more, groups_stop}
 use Rattle.plan_files.proofs.head.read_groups.Goals as goal
 
 pub returns-then-not-is_word-clause-read : goal.returns-then-not-is_word-clause-read

@@ -1,6 +1,5 @@
 use Rattle.std.proofs.Common.{◌≡◌, ◌+◌, length, drop}
-use Rattle.plan_files.proofs.FormLemmas.{after}
-use Rattle.plan_files.specs.PlanForms.{groups_from}
+use Rattle.plan_files.specs.PlanForms.{after, groups_from}
 use Rattle.plan_files.specs.RowsLeft.{IsSound, rows_left}
 use Rattle.plan_files.proofs.head.read_groups.Given as goal
 
