@@ -4,3 +4,4 @@ pub mod JournalLemmas
 pub mod SaidLemmas
 pub mod HeadLemmas
 pub mod LawLemmas
+mod NumberLemmas

@@ -1,16 +1,24 @@
 -- What a line says to a head end, and what it says to a meter.
-use Rattle.std.specs.Prelude.{ℕ, Bool, ◌||◌, List, [], ◌∷◌, codes, Option, Some, None, Result, Ok, if◌then◌else◌}
+use Rattle.std.specs.Prelude.{ℕ, ◌^◌, ◌-◌, min, Bool, ◌||◌, List, [], ◌∷◌, codes, Option, Some, None, Result, Ok, if◌then◌else◌}
 use Rattle.std.specs.Str.{bytes_eq}
+use Rattle.std.specs.Str.Parse.{digits_value}
 use Rattle.meter_frames.specs.declared.Frame.{Frame}
 use Rattle.meter_frames.specs.declared.FrameError.{FrameError}
 use Rattle.meter_frames.specs.Frames.{IsFrame}
-use Rattle.field_texts.specs.Numbers.{number_of}
+use Rattle.field_texts.specs.Numbers.{is_numeral}
 use Rattle.field_texts.specs.Parts.{parts}
 use Rattle.apart_lines.specs.declared.heard.ToHeadEnd.{ToHeadEnd}
 use Rattle.apart_lines.specs.declared.heard.ToHeadEnd.TheVariants as head
 use Rattle.apart_lines.specs.declared.heard.ToMeter.{ToMeter}
 use Rattle.apart_lines.specs.declared.heard.ToMeter.TheVariants as meter
 use Rattle.apart_lines.specs.Frames.{frame_in}
+
+-- ---- numbers
+
+-- the number that a text writes in decimal digits without leading zeros, whatever its length; one of 2^64 or more, which is beyond all that a plan
+-- has, stands as 2^64 - 1, which is so too
+unfoldable pub told_number : List ℕ → Option ℕ
+told_number text = if is_numeral text then Some (min (digits_value 10 text) (2 ^ 64 - 1)) else None
 
 -- ---- answers
 
@@ -46,7 +54,7 @@ tick_to_head_end None = head.Unknown
 abbrev pub to_head_end_pair : List ℕ → List ℕ → ToHeadEnd
 to_head_end_pair word rest =
     if bytes_eq word (codes "frame") then frame_to_head_end (frame_in rest)
-    else if bytes_eq word (codes "tick") then tick_to_head_end (number_of rest) else to_head_end_other word
+    else if bytes_eq word (codes "tick") then tick_to_head_end (told_number rest) else to_head_end_other word
 
 abbrev pub to_head_end_by : List (List ℕ) → ToHeadEnd
 to_head_end_by [] = head.Unknown
@@ -84,7 +92,7 @@ reading_to_meter (Some r) None = meter.Unknown
 reading_to_meter None reading = meter.Unknown
 
 abbrev pub to_meter_three : List ℕ → List ℕ → List ℕ → ToMeter
-to_meter_three word second third = if bytes_eq word (codes "reading") then reading_to_meter (number_of second) (number_of third) else to_meter_other word
+to_meter_three word second third = if bytes_eq word (codes "reading") then reading_to_meter (told_number second) (told_number third) else to_meter_other word
 
 abbrev pub to_meter_by : List (List ℕ) → ToMeter
 to_meter_by [] = meter.Unknown

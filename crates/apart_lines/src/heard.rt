@@ -1,9 +1,11 @@
 //! What lines say to a head end and to a meter.
 
 ghost use Rattle.std.specs.Prelude.{◌≡◌};
-ghost use Rattle.field_texts.specs.Numbers.{number_of};
+ghost use Rattle.std.specs.Char.{is_ascii_digit};
+ghost use Rattle.std.specs.List.{list_all};
+ghost use Rattle.field_texts.specs.Numbers.{is_numeral};
 ghost use Rattle.apart_lines.specs.Frames.{frame_in, IsRead};
-ghost use Rattle.apart_lines.specs.Heard.{is_answer, is_verdict, to_head_end, to_head_end_alone, to_head_end_pair, to_head_end_other, frame_to_head_end, tick_to_head_end, IsSoundToHeadEnd, to_meter, to_meter_alone, to_meter_pair, to_meter_three, to_meter_other, reading_to_meter, IsSoundToMeter};
+ghost use Rattle.apart_lines.specs.Heard.{told_number, is_answer, is_verdict, to_head_end, to_head_end_alone, to_head_end_pair, to_head_end_other, frame_to_head_end, tick_to_head_end, IsSoundToHeadEnd, to_meter, to_meter_alone, to_meter_pair, to_meter_three, to_meter_other, reading_to_meter, IsSoundToMeter};
 
 use crate::digits::read_frame;
 use crate::fields::{Fields, split};
@@ -38,6 +40,39 @@ pub enum ToMeter {
     Nothing,
     /// Nothing that a meter knows.
     Unknown,
+}
+
+// Whether all bytes are decimal digits.
+fn are_digits(text: &[u8]) -> bool
+    ensures { result ≡ list_all is_ascii_digit text.now }
+{
+    match text {
+        [] => true,
+        [first, rest @ ..] => first.is_ascii_digit() && are_digits(rest),
+    }
+}
+
+// Whether a text is decimal digits: one, or several of which the first is not `0`.
+fn is_numeral(text: &[u8]) -> bool
+    ensures { result ≡ is_numeral text.now }
+{
+    match text {
+        [] => false,
+        [digit] => digit.is_ascii_digit(),
+        [first, _second, ..] => *first != b'0' && are_digits(text),
+    }
+}
+
+// The number that a text writes, or the greatest that is kept where it is greater.
+#[tactic(auto, using(crate::proofs::NumberLemmas::told_small, crate::proofs::NumberLemmas::told_large, crate::proofs::NumberLemmas::told_none))]
+fn read_told(text: &[u8]) -> Option<u64>
+    ensures { result ≡ told_number text.now }
+{
+    match read_number(text) {
+        Some(number) => Some(number),
+        None if is_numeral(text) => Some(u64::MAX),
+        None => None,
+    }
 }
 
 // Whether an answer of a head end or of a meter begins with the word.
@@ -104,9 +139,9 @@ fn frame_to_head_end(digits: &[u8]) -> ToHeadEnd
 
 // What a tick's number says to a head end.
 fn tick_to_head_end(number: &[u8]) -> ToHeadEnd
-    ensures { result ≡ tick_to_head_end (number_of number.now) }
+    ensures { result ≡ tick_to_head_end (told_number number.now) }
 {
-    match read_number(number) {
+    match read_told(number) {
         Some(tick) => ToHeadEnd::Tick(tick),
         None => ToHeadEnd::Unknown,
     }
@@ -180,12 +215,12 @@ fn to_meter_pair(word: &[u8], digits: &[u8]) -> ToMeter
 
 // What a round and a reading say to a meter.
 fn reading_to_meter(round: &[u8], reading: &[u8]) -> ToMeter
-    ensures { result ≡ reading_to_meter (number_of round.now) (number_of reading.now) }
+    ensures { result ≡ reading_to_meter (told_number round.now) (told_number reading.now) }
 {
-    let Some(round) = read_number(round) else {
+    let Some(round) = read_told(round) else {
         return ToMeter::Unknown;
     };
-    match read_number(reading) {
+    match read_told(reading) {
         Some(reading) => ToMeter::Reading { round, reading },
         None => ToMeter::Unknown,
     }

@@ -1,0 +1,10 @@
+pub mod StepLemmas
+pub mod InputLemmas
+pub mod TurnLemmas
+pub mod RunLemmas
+pub mod StartLemmas
+pub mod HeadEndTurnLemmas
+pub mod HeadEndRunLemmas
+pub mod LawLemmas
+pub mod HeadEndLawLemmas
+pub mod WrittenLemmas

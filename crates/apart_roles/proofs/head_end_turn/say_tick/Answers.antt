@@ -1,0 +1,7 @@
+use Rattle.std.proofs.Common.{◌∙◌}
+use Rattle.apart_roles.proofs.HeadEndTurnLemmas.{tick_can_be_said}
+use Rattle.apart_roles.proofs.head_end_turn.say_tick.Goals as goal
+
+pub tell_all-requires-clause-lines : goal.tell_all-requires-clause-lines
+tell_all-requires-clause-lines g c =
+    tick_can_be_said c.args.head.now c.args.tick c.deref.result.now c.requires (c.deref.ensures.value ∙ c.in-Ok.ensures c.requires.journal c.requires.after)

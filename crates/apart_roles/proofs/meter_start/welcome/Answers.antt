@@ -1,0 +1,13 @@
+use Rattle.std.proofs.Common.{rules, [], ◌∷◌, false}
+use Rattle.desk_outside.specs.declared.wire.WireStep.TheVariants.{Flushed}
+use Rattle.apart_roles.specs.MeterStarts.{greeting}
+use Rattle.apart_roles.proofs.StepLemmas.{does_behind, does_not}
+use Rattle.apart_roles.proofs.meter_start.welcome.Goals as goal
+
+pub returns-in_err-flush : goal.returns-in_err-flush
+returns-in_err-flush g c =
+    does_not (Flushed false ∷ []) greeting (g.W.Wire.view c.args.wire.now) (g.W.Wire.view c.flush.new.wire) c.in_err-flush.field-0.0 c.from_residual.result (search rules) (search rules)
+
+pub returns : goal.returns
+returns g c =
+    does_behind (Flushed false ∷ []) greeting (g.W.Wire.view c.args.wire.now) (g.W.Wire.view c.flush.new.wire) (g.W.Wire.view c.greet.new.wire) c.greet.result (search rules) c.greet.ensures

@@ -1,0 +1,12 @@
+pub mod Backed
+pub mod HeadEndBacked
+pub mod HeadEndRuns
+pub mod HeadEndStarts
+pub mod HeadEndTurns
+pub mod Inputs
+pub mod MeterRuns
+pub mod MeterStarts
+pub mod MeterTurns
+pub mod Starts
+pub mod Steps
+pub mod Written
