@@ -1,0 +1,11 @@
+pub mod FrameLemmas
+pub mod CameLemmas
+pub mod TakeLemmas
+pub mod AnnouncedLemmas
+pub mod HeadLemmas
+pub mod SaysLemmas
+pub mod ReportLemmas
+pub mod NoteLemmas
+pub mod MeterLemmas
+pub mod ReplyLemmas
+pub mod LawLemmas

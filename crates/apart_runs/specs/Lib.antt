@@ -1,0 +1,4 @@
+pub mod Carried
+pub mod HeadRuns
+pub mod MeterRuns
+pub mod Statements

@@ -1,0 +1,9 @@
+use Rattle.role_restarts.proofs.HeadEndLemmas as head
+use Rattle.role_restarts.proofs.MeterLemmas as meter
+use Rattle.role_restarts.proofs.laws.journals_are_settled.Goals as goal
+
+pub returns-clause-head_end : goal.returns-clause-head_end
+returns-clause-head_end c = head.settles
+
+pub returns-clause-meter : goal.returns-clause-meter
+returns-clause-meter c = meter.settles

@@ -1,0 +1,4 @@
+pub mod Restarts
+pub mod HeadEndRestarts
+pub mod MeterRestarts
+pub mod Statements
