@@ -10,7 +10,7 @@ use crate::writing::{Group, Tail, start_writer};
 use crossbeam_channel::Sender;
 use desk_outside::{BegunFile, Desk, DeskError, FetchError, Readers};
 use std::alloc::{AllocError, Global};
-use std::fs::{File, Metadata, OpenOptions, Permissions};
+use std::fs::{File, Metadata, OpenOptions, Permissions, TryLockError};
 use std::io::{ErrorKind, Read};
 use std::os::unix::fs::PermissionsExt;
 use std::path::{Path, PathBuf};
@@ -46,13 +46,15 @@ struct PutFile {
 
 /// The desk over files, standard output and standard error. A commit leaves a whole file: the new one, or where it failed
 /// what was there. It fails on a file that this desk has fetched, by whatever name, on one that it has begun or put under another
-/// name, and on a link that leads nowhere. A name of no regular file, such as a pipe, is written as it is, and so is the file that
-/// standard output goes to.
+/// name, on a journal that a wire has open, and on a link that leads nowhere. A name of no regular file, such as a pipe, is written as
+/// it is, and so is the file that standard output goes to.
 #[derive(Drop)]
 pub struct FileDesk<R> {
     rt: R,
     alloc: Global,
     fetched: Vec<FileId>,
+    // The same files, open, so that no file that is made later gets the number of one that is gone.
+    held: Vec<File>,
     begun: Vec<BegunPath>,
     put: Vec<PutFile>,
     // The way to the thread that writes larger files, where there is one.
@@ -73,6 +75,7 @@ impl<R: AllocGlobal + Threads + Wait + Copy + Send + 'static> FileDesk<R> {
             rt: *rt,
             alloc,
             fetched: Vec::new(alloc),
+            held: Vec::new(alloc),
             begun: Vec::new(alloc),
             put: Vec::new(alloc),
             writer: start_writer(*rt, alloc),
@@ -101,7 +104,9 @@ impl<R: Files<File = File> + Print + Wait + Copy> FileDesk<R> {
         // Room for the whole file at once, so that its bytes need not be moved.
         let room = metadata.len().min(most).saturating_add(1);
         let mut bytes = Vec::with_capacity(alloc, room as usize)?;
-        file.take(most).read_to_end(&mut bytes)?;
+        let mut front = file.take(most);
+        front.read_to_end(&mut bytes)?;
+        self.held.push(front.into_inner())?;
         Ok(bytes)
     }
 
@@ -160,10 +165,14 @@ impl<R: Files<File = File> + Print + Wait + Copy> FileDesk<R> {
         if !found.is_file() {
             return Ok(Place::AsItIs(None));
         }
-        let _writable = OpenOptions::new()
+        let writable = OpenOptions::new()
             .write(true)
             .open(&self.rt, name)
             .map_err(put_error)?;
+        // A journal that a program goes on by is locked, and stays.
+        if let Err(TryLockError::WouldBlock) = writable.try_lock_shared() {
+            return Err(DeskError::Failed);
+        }
         let path = without_link(&self.rt, self.alloc, name).map_err(put_error)?;
         let mode = found.permissions().mode();
         let mode = match readers {

@@ -75,8 +75,10 @@ impl<R: Files<File = File> + Copy> Part<R> {
         Ok(FileId::of(&self.handle.metadata()?))
     }
 
-    /// Has the part in place of what the path names.
+    /// Has the part in place of what the path names. From then on another command may put the path as well, so the part is no longer
+    /// this one's alone.
     pub(crate) fn take_path(self) -> io::Result<()> {
+        let _ = self.handle.try_lock_shared();
         fs::rename(&self.rt, &self.beside, &self.path)?;
         let Part {
             rt: _rt,

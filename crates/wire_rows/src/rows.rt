@@ -1,7 +1,9 @@
 //! The same calls on both wires.
 
-use desk_outside::{Absent, Coming, MemoryWire, Wire, WireError};
-use file_desk::FileWire;
+use desk_outside::{
+    Absent, BegunFile, Coming, Desk, DeskError, MemoryWire, Readers, Slice, Wire, WireError,
+};
+use file_desk::{FileDesk, FileWire};
 use std::alloc::Global;
 use std::fmt::Debug;
 use std::fs;
@@ -132,5 +134,40 @@ fn journal_on_the_disk(rt: HostRuntime) -> Result<(), Fail> {
     let other = fs::read_to_string(&rt, "wire_test/new")?;
     check_same(&rt, &other.as_str(), &"other\n", "the new journal");
     fs::remove_dir_all(&rt, "wire_test")?;
+    Ok(())
+}
+
+// Puts a file under a name.
+fn put<D: Desk>(desk: &mut D, name: &str) -> Result<(), DeskError> {
+    let mut file = desk.begin(name, Readers::Any)?;
+    file.append(&mut Slice { rest: b"new" });
+    desk.commit(file)
+}
+
+// Puts a file under a name that leads to a journal, while the journal is open and once it no longer is.
+fn check_puts(rt: &impl Abort, desk: &mut impl Desk, name: &str, expected: Result<(), DeskError>) {
+    check_same(rt, &put(desk, name), &expected, name);
+}
+
+#[test]
+fn open_journal_is_not_written_over(rt: HostRuntime) -> Result<(), Fail> {
+    let alloc = rt.alloc();
+    let _ = fs::remove_dir_all(&rt, "open_test");
+    fs::create_dir(&rt, "open_test")?;
+    fs::write(&rt, "open_test/journal", "head\n")?;
+    let mut wire = FileWire::new(&rt, Cursor::new(b"".as_slice()))?;
+    let opened = wire.open(alloc, "open_test/journal", Absent::Refused, 5);
+    check_same(&rt, &opened.is_ok(), &true, "the journal");
+    let mut desk = FileDesk::new(&rt);
+    for name in ["open_test/journal", "open_test/../open_test/journal"] {
+        check_puts(&rt, &mut desk, name, Err(DeskError::Failed));
+    }
+    let held = fs::read_to_string(&rt, "open_test/journal")?;
+    check_same(&rt, &held.as_str(), &"head\n", "the journal that is open");
+    drop(wire);
+    check_puts(&rt, &mut FileDesk::new(&rt), "open_test/journal", Ok(()));
+    let put = fs::read_to_string(&rt, "open_test/journal")?;
+    check_same(&rt, &put.as_str(), &"new", "what was put");
+    fs::remove_dir_all(&rt, "open_test")?;
     Ok(())
 }
