@@ -1,8 +1,9 @@
 //! Commands over real files: a name that can't be written is found before the run.
 
-use crate::fixtures::{check_number, check_status};
+use crate::fixtures::{check_number, check_status_over, empty_wire};
 use crate::run_tests::Greatest;
 use collector_workers::Free;
+use commands::Outside;
 use file_desk::FileDesk;
 use std::fs;
 use std::test::Fail;
@@ -44,11 +45,18 @@ static COMMANDS: [(&str, u8, usize); 7] = [
 fn names_that_cannot_be_written_cost_no_run(rt: HostRuntime) -> Result<(), Fail> {
     let alloc = rt.alloc();
     fs::create_dir(&rt, "files")?;
-    check_status(&rt, alloc, MAKE, &mut FileDesk::new(&rt), &Free, 0, MAKE)?;
+    let mut outside = Outside {
+        desk: FileDesk::new(&rt),
+        wire: empty_wire(alloc),
+    };
+    check_status_over(&rt, alloc, MAKE, &mut outside, &Free, 0, MAKE)?;
     for (words, status, worker) in COMMANDS.iter() {
         let gate = Greatest::new();
-        let mut desk = FileDesk::new(&rt);
-        check_status(&rt, alloc, words, &mut desk, &gate, *status, words)?;
+        let mut outside = Outside {
+            desk: FileDesk::new(&rt),
+            wire: empty_wire(alloc),
+        };
+        check_status_over(&rt, alloc, words, &mut outside, &gate, *status, words)?;
         check_number(&rt, gate.number(), *worker, words);
     }
     fs::remove_dir_all(&rt, "files")?;

@@ -1,9 +1,10 @@
-//! Files, desks and calls of the program for tests.
+//! Files, desks, wires and calls of the program for tests.
 
 use collector_workers::{Free, Gate};
-use commands::with_lanes;
-use desk_outside::{Desk, MemoryDesk};
+use commands::{Outside, with_lanes};
+use desk_outside::{Desk, MemoryDesk, MemoryWire, Wire};
 use std::alloc::Global;
+use std::mem;
 use std::process::Abort;
 use std::sync::Wait;
 use std::test::Fail;
@@ -115,33 +116,57 @@ pub fn desk_of(
     Ok(desk)
 }
 
+/// A wire whose input and journal have nothing, and that fails no call.
+pub fn empty_wire(alloc: Global) -> MemoryWire {
+    MemoryWire::new(Vec::new(alloc), Vec::new(alloc), Vec::new(alloc))
+}
+
 /// The status of the program on these words, parted by blanks.
-pub fn status_of<R: Threads + Wait + Sync, D: Desk, G: Gate>(
+pub fn status_of<R: Threads + Wait + Sync, D: Desk, W: Wire, G: Gate>(
     rt: &R,
     alloc: Global,
     line: &str,
-    desk: &mut D,
+    outside: &mut Outside<D, W>,
     gate: &G,
 ) -> Result<u8, Fail> {
     let mut words = Vec::new(alloc);
     for word in line.split(' ') {
         words.push(String::from_str(alloc, word)?)?;
     }
-    Ok(with_lanes(rt, alloc, &words, desk, gate)?)
+    Ok(with_lanes(rt, alloc, &words, outside, gate)?)
 }
 
 /// Runs the program on these words, parted by blanks, and looks for its status.
-pub fn check_status<R: Threads + Wait + Abort + Sync, D: Desk, G: Gate>(
+pub fn check_status_over<R: Threads + Wait + Abort + Sync, D: Desk, W: Wire, G: Gate>(
     rt: &R,
     alloc: Global,
     line: &str,
-    desk: &mut D,
+    outside: &mut Outside<D, W>,
     gate: &G,
     status: u8,
     row: &str,
 ) -> Result<(), Fail> {
-    let answer = status_of(rt, alloc, line, desk, gate)?;
+    let answer = status_of(rt, alloc, line, outside, gate)?;
     assert_eq!(rt; answer, status, "at {row}");
+    Ok(())
+}
+
+/// Runs the program on these words, parted by blanks, over a desk and an empty wire, and looks for its status.
+pub fn check_status<R: Threads + Wait + Abort + Sync, G: Gate>(
+    rt: &R,
+    alloc: Global,
+    line: &str,
+    desk: &mut MemoryDesk,
+    gate: &G,
+    status: u8,
+    row: &str,
+) -> Result<(), Fail> {
+    let mut outside = Outside {
+        desk: mem::replace(desk, MemoryDesk::new(Vec::new(alloc))),
+        wire: empty_wire(alloc),
+    };
+    check_status_over(rt, alloc, line, &mut outside, gate, status, row)?;
+    *desk = outside.desk;
     Ok(())
 }
 

@@ -27,6 +27,8 @@ mod resume_tests;
 #[cfg(test)]
 mod ring_tests;
 #[cfg(test)]
+mod role_tests;
+#[cfg(test)]
 mod run_tests;
 #[cfg(test)]
 mod twin_tests;

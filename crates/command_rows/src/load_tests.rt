@@ -75,10 +75,11 @@ fn run_commits_cross_in_load(rt: HostRuntime) -> Result<(), Fail> {
     Ok(())
 }
 
-// Keeps the greatest number of a worker that came, with the limits of the program's own gate.
+// Keeps the greatest number of a worker that came, with the limits of the program's own gate but for the number of threads.
 #[derive(Drop)]
 struct Counted {
     greatest: Greatest,
+    most: usize,
 }
 
 impl Gate for Counted {
@@ -90,32 +91,52 @@ impl Gate for Counted {
         Free.beside()
     }
 
+    fn most(&self, _processors: usize) -> usize {
+        self.most
+    }
+
     fn part(&self) -> usize {
         Free.part()
     }
 }
 
-// Each row: the words, and the greatest number of a worker that comes to the program's own gate.
-static CREWS: [(&str, usize); 4] = [
-    ("load 7 32 64 2 4", 3),
-    ("load 7 32 64 2 2", 2),
-    ("load 7 1 64 32 4", 1),
-    ("load 7 8 20 4 4", 1),
+// Each row: the words, how many threads the gate allows, and the greatest number of a worker that comes to it.
+static CREWS: [(&str, usize, usize); 8] = [
+    ("load 7 32 64 2 4", usize::MAX, 3),
+    ("load 7 32 64 2 4", 3, 3),
+    ("load 7 32 64 2 4", 2, 2),
+    ("load 7 32 64 2 4", 1, 1),
+    ("load 7 32 64 2 4", 0, 1),
+    ("load 7 32 64 2 2", usize::MAX, 2),
+    ("load 7 1 64 32 4", usize::MAX, 1),
+    ("load 7 8 20 4 4", usize::MAX, 1),
 ];
 
-// A large plan has several workers without any test's gate, and one of a group or of few meters has one.
+// A large plan has several workers without any test's gate, as far as the gate allows, and one of a group or of few meters has one.
 #[test]
 fn large_plans_have_workers(rt: HostRuntime) -> Result<(), Fail> {
     let alloc = rt.alloc();
-    for (words, worker) in CREWS.iter() {
+    for (words, most, worker) in CREWS.iter() {
         let gate = Counted {
             greatest: Greatest::new(),
+            most: *most,
         };
         let mut desk = MemoryDesk::new(Vec::new(alloc));
         check_status(&rt, alloc, words, &mut desk, &gate, 0, words)?;
         check_number(&rt, gate.greatest.number(), *worker, words);
     }
     Ok(())
+}
+
+// Each row: the processors of a machine, and the threads that the program's own gate allows there.
+static PROCESSORS: [(usize, usize); 6] = [(0, 0), (1, 0), (2, 0), (3, 1), (4, 2), (64, 62)];
+
+// Two processors are left to the text of the transcript.
+#[test]
+fn two_processors_are_left_to_text(rt: HostRuntime) {
+    for (processors, threads) in PROCESSORS.iter() {
+        check_number(&rt, Free.most(*processors), *threads, "processors");
+    }
 }
 
 // Each row: the words, with the least and the greatest numbers, and what is said.

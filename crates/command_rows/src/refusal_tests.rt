@@ -331,7 +331,7 @@ fn failing_desk_calls(rt: HostRuntime) -> Result<(), Fail> {
 }
 
 // Words that are no command: too few or too many, names that are equal or empty, numbers outside their ranges.
-static BAD_WORDS: [&str; 93] = [
+static BAD_WORDS: [&str; 101] = [
     "run",
     "run plan.csv readings.csv report.csv",
     "ran plan.csv readings.csv report.csv t.txt",
@@ -420,6 +420,14 @@ static BAD_WORDS: [&str; 93] = [
     "public plan.csv",
     "public plan.csv plan.csv",
     "public plan.csv public.csv 4",
+    "collect public.csv j.txt",
+    "collect public.csv j.txt public.csv",
+    "collect public.csv j.txt ",
+    "collect public.csv j.txt report.csv 4",
+    "collects public.csv j.txt report.csv",
+    "meter m0.csv",
+    "meter m0.csv m0.csv",
+    "meter m0.csv m0.journal 4",
     "inspect public.csv t.txt",
     "inspect public.csv t.txt t.txt",
     "inspect public.csv t.txt report.csv 4",

@@ -10,10 +10,11 @@ use Rattle.command_words.specs.declared.words.RegisterFiles.{RegisterFiles}
 use Rattle.command_words.specs.declared.words.ResumeFiles.{ResumeFiles}
 use Rattle.command_words.specs.declared.words.HideFiles.{HideFiles}
 use Rattle.command_words.specs.declared.words.InspectFiles.{InspectFiles}
+use Rattle.command_words.specs.declared.words.CollectFiles.{CollectFiles}
 use Rattle.command_words.specs.declared.words.Command.{Command as Kept}
 use Rattle.command_words.specs.declared.words.Command.TheVariants as kept
 use Rattle.command_words.specs.Known.{IsKnown, known_in}
-use Rattle.command_words.specs.Words.{TwinNames, Size, Command, Run, Ring, Registers, RegisterNames, Resume, ResumeNames, Audit, Twin, RingTwin, Pooled, Make, Load, Convert, Public, Parts, Help, Version, names_of, Bill, Hide, BillNames, HideNames, Inspect, InspectNames}
+use Rattle.command_words.specs.Words.{TwinNames, Size, Command, Run, Ring, Registers, RegisterNames, Resume, ResumeNames, Audit, Twin, RingTwin, Pooled, Make, Load, Convert, Public, Parts, Help, Version, names_of, Bill, Hide, BillNames, HideNames, Inspect, InspectNames, Collect, CollectNames, Meter}
 
 -- the names of the files of `twin`
 abbrev pub twin_names_of : TwinFiles → TwinNames
@@ -42,6 +43,10 @@ hide_names_of files = record { plan = files.plan.now; readings = files.readings.
 abbrev pub inspect_names_of : InspectFiles → InspectNames
 inspect_names_of files = record { public = files.public.now; transcript = files.transcript.now; report = files.report.now }
 
+-- the names of the files of `collect`
+abbrev pub collect_names_of : CollectFiles → CollectNames
+collect_names_of files = record { public = files.public.now; journal = files.journal.now; report = files.report.now }
+
 -- the size that is meant
 abbrev pub size_in : KeptSize → Size
 size_in size = record { seed = size.seed; groups = size.groups; meters = size.meters; rounds = size.rounds }
@@ -65,6 +70,8 @@ asked (kept.Load words) = Load (size_in words.size) words.workers (name_in words
 asked (kept.Convert files) = Convert files.old.now files.transcript.now
 asked (kept.Public files) = Public files.plan.now files.public.now
 asked (kept.Parts words) = Parts words.plan.now words.group words.prefix.now
+asked (kept.Collect files) = Collect (collect_names_of files)
+asked (kept.Meter files) = Meter files.meter.now files.journal.now
 asked (kept.Inspect files) = Inspect (inspect_names_of files)
 asked (kept.Bill words) = Bill (bill_names_of words.files) words.period
 asked (kept.Hide words) = Hide (hide_names_of words.files) words.period words.place

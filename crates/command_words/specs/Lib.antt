@@ -4,3 +4,4 @@ pub mod Words
 pub mod Commands
 pub mod Causes
 pub mod Outcomes
+pub mod Limits

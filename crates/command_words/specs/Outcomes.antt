@@ -5,7 +5,7 @@ use Rattle.std.specs.List.{flat_map}
 use Rattle.hex.specs.Hex.{encode_lower}
 use Rattle.plan_files.specs.declared.fault.FileError.{FileError}
 use Rattle.command_words.specs.declared.outcome.Outcome.{Outcome}
-use Rattle.command_words.specs.declared.outcome.Outcome.TheVariants.{Done, NoMemory, BadWords, CannotRead, TooLong, CannotWrite, CannotWritePart, CannotPrint, BadPlan, BadReadings, BadTranscript, BadReport, Impossible, NotInTime, NotThisRun, OtherRow, OtherPlan, OtherLine, OtherPresence, OtherKnown, OtherTotal, OtherComponent, BadLane, NoPartner}
+use Rattle.command_words.specs.declared.outcome.Outcome.TheVariants.{Done, NoMemory, BadWords, CannotRead, CannotHear, TooLong, CannotWrite, CannotWritePart, CannotPrint, BadPlan, BadReadings, BadTranscript, BadReport, BadJournalHead, BadJournalLine, Impossible, NotInTime, NotThisRun, OtherRow, OtherPlan, OtherLine, OtherPresence, OtherKnown, OtherTotal, OtherComponent, BadLane, NoPartner}
 use Rattle.meter_files.specs.Names.{part_name}
 use Rattle.command_words.specs.Causes.{cause_text, rack_cause_name, read_error_name}
 use Rattle.transcript_text.specs.Faults.{fault_line}
@@ -20,6 +20,7 @@ status_of Done = 0
 status_of NoMemory = 1
 status_of BadWords = 2
 status_of (CannotRead name) = 3
+status_of CannotHear = 3
 status_of (TooLong name) = 3
 status_of (CannotWrite name) = 4
 status_of (CannotWritePart prefix meter file) = 4
@@ -28,6 +29,8 @@ status_of (BadPlan name fault) = 5
 status_of (BadReadings name fault) = 6
 status_of (BadTranscript name fault) = 7
 status_of (BadReport name line) = 7
+status_of (BadJournalHead name line) = 7
+status_of (BadJournalLine name line) = 7
 status_of (Impossible name line) = 7
 status_of (NotInTime name line) = 7
 status_of (NotThisRun name line) = 7
@@ -79,6 +82,7 @@ complaint_of Done = []
 complaint_of NoMemory = codes "meteragg: no memory\n"
 complaint_of BadWords = codes "meteragg: bad words\n"
 complaint_of (CannotRead name) = codes "meteragg: cannot read " ++ (shown_name name.now ++ codes "\n")
+complaint_of CannotHear = codes "meteragg: cannot read input\n"
 complaint_of (TooLong name) = codes "meteragg: " ++ (shown_name name.now ++ codes " is longer than 268435456 bytes\n")
 complaint_of (CannotWrite name) = codes "meteragg: cannot write " ++ (shown_name name.now ++ codes "\n")
 complaint_of (CannotWritePart prefix meter file) = codes "meteragg: cannot write " ++ (shown_name (part_name prefix.now meter file) ++ codes "\n")
@@ -87,6 +91,8 @@ complaint_of (BadPlan name fault) = file_complaint name.now fault
 complaint_of (BadReadings name fault) = file_complaint name.now fault
 complaint_of (BadTranscript name fault) = line_complaint name.now (fault_line fault) (read_error_name fault)
 complaint_of (BadReport name line) = line_complaint name.now line (codes "Line")
+complaint_of (BadJournalHead name line) = line_complaint name.now line (codes "Head")
+complaint_of (BadJournalLine name line) = line_complaint name.now line (codes "Line")
 complaint_of (Impossible name line) = line_complaint name.now line (codes "impossible")
 complaint_of (NotInTime name line) = line_complaint name.now line (codes "not in time")
 complaint_of (NotThisRun name line) = line_complaint name.now line (codes "not this run")
@@ -110,6 +116,7 @@ abbrev pub IsText : Outcome → Type 0
 IsText Done = ⊤
 IsText NoMemory = ⊤
 IsText BadWords = ⊤
+IsText CannotHear = ⊤
 IsText CannotPrint = ⊤
 IsText (OtherPresence group round meter) = ⊤
 IsText (OtherKnown group round meter) = ⊤
@@ -129,6 +136,8 @@ HasName (BadPlan name fault) = ⊤
 HasName (BadReadings name fault) = ⊤
 HasName (BadTranscript name fault) = ⊤
 HasName (BadReport name line) = ⊤
+HasName (BadJournalHead name line) = ⊤
+HasName (BadJournalLine name line) = ⊤
 HasName (Impossible name line) = ⊤
 HasName (NotInTime name line) = ⊤
 HasName (NotThisRun name line) = ⊤
@@ -140,12 +149,13 @@ abbrev pub HasComplaint : Outcome → Type 0
 HasComplaint (OtherLine name line expected) = IsWritable expected.line
 HasComplaint _ = ⊤
 
--- the ends that come only of a fault of the desk
+-- the ends that come only of a fault of the desk, or of the wire
 abbrev pub IsFault : Outcome → Type 0
 IsFault Done = ⊥
 IsFault NoMemory = ⊥
 IsFault BadWords = ⊥
 IsFault (CannotRead name) = ⊤
+IsFault CannotHear = ⊤
 IsFault (TooLong name) = ⊥
 IsFault (CannotWrite name) = ⊤
 IsFault (CannotWritePart prefix meter file) = ⊤
@@ -154,6 +164,8 @@ IsFault (BadPlan name fault) = ⊥
 IsFault (BadReadings name fault) = ⊥
 IsFault (BadTranscript name fault) = ⊥
 IsFault (BadReport name line) = ⊥
+IsFault (BadJournalHead name line) = ⊥
+IsFault (BadJournalLine name line) = ⊥
 IsFault (Impossible name line) = ⊥
 IsFault (NotInTime name line) = ⊥
 IsFault (NotThisRun name line) = ⊥

@@ -46,6 +46,12 @@ pub record InspectNames : Type 0 where
   pub transcript : List ℕ
   pub report : List ℕ
 
+-- the names of the files of `collect`
+pub record CollectNames : Type 0 where
+  pub public : List ℕ
+  pub journal : List ℕ
+  pub report : List ℕ
+
 -- a size of made files: the seed, and how many groups, meters of each, and rounds
 pub record Size : Type 0 where
   pub seed : ℕ
@@ -81,6 +87,8 @@ pub data Command : Type 0 where
   Convert : (old transcript : List ℕ) → Command
   Public : (plan public : List ℕ) → Command
   Parts : (plan : List ℕ) (group : ℕ) (prefix : List ℕ) → Command
+  Collect : (names : CollectNames) → Command
+  Meter : (meter journal : List ℕ) → Command
   Inspect : (names : InspectNames) → Command
   Bill : (names : BillNames) (period : Period) → Command
   Hide : (names : HideNames) (period : Period) (place : Place) → Command
@@ -296,6 +304,26 @@ abbrev pub parts_of : List (List ℕ) → Option Command
 parts_of (plan ∷ group ∷ prefix ∷ []) = with_number (group_of group) (parts_with plan prefix)
 parts_of _ = None
 
+-- `collect` with these files, where they are names
+unfoldable pub collect_with : (public journal report : List ℕ) → Option Command
+collect_with public journal report =
+    if are_names (public ∷ journal ∷ report ∷ [])
+    then Some (Collect (record { public = public; journal = journal; report = report }))
+    else None
+
+-- `collect PUBLIC JOURNAL REPORT`
+abbrev pub collect_of : List (List ℕ) → Option Command
+collect_of (public ∷ journal ∷ report ∷ []) = collect_with public journal report
+collect_of _ = None
+
+-- `meter METER JOURNAL`
+unfoldable pub meter_with : (meter journal : List ℕ) → Option Command
+meter_with meter journal = if are_names (meter ∷ journal ∷ []) then Some (Meter meter journal) else None
+
+abbrev pub meter_of : List (List ℕ) → Option Command
+meter_of (meter ∷ journal ∷ []) = meter_with meter journal
+meter_of _ = None
+
 -- `inspect` with these files, where they are names
 unfoldable pub inspect_with : (public transcript report : List ℕ) → Option Command
 inspect_with public transcript report =
@@ -388,6 +416,8 @@ command_by verb words =
     else if bytes_eq verb (codes "convert") then convert_of words
     else if bytes_eq verb (codes "public") then public_of words
     else if bytes_eq verb (codes "parts") then parts_of words
+    else if bytes_eq verb (codes "collect") then collect_of words
+    else if bytes_eq verb (codes "meter") then meter_of words
     else if bytes_eq verb (codes "inspect") then inspect_of words
     else if bytes_eq verb (codes "bill") then bill_of words
     else if bytes_eq verb (codes "hide") then hide_of words

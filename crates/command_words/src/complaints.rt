@@ -271,7 +271,10 @@ fn name_complaint(alloc: Global, outcome: &Outcome<'_>) -> Result<Vec<u8>, Alloc
             let cause = read_error_name(alloc, *fault)?;
             line_complaint(alloc, name, fault_line(*fault), &cause)
         }
-        Outcome::BadReport(name, line) => line_complaint(alloc, name, *line, "Line"),
+        Outcome::BadReport(name, line) | Outcome::BadJournalLine(name, line) => {
+            line_complaint(alloc, name, *line, "Line")
+        }
+        Outcome::BadJournalHead(name, line) => line_complaint(alloc, name, *line, "Head"),
         Outcome::Impossible(name, line) => line_complaint(alloc, name, *line, "impossible"),
         Outcome::NotInTime(name, line) => line_complaint(alloc, name, *line, "not in time"),
         Outcome::NotThisRun(name, line) => line_complaint(alloc, name, *line, "not this run"),
@@ -288,6 +291,7 @@ fn text_complaint(alloc: Global, outcome: &Outcome<'_>) -> Result<String, AllocE
     match outcome {
         Outcome::NoMemory => String::from_str(alloc, "meteragg: no memory\n"),
         Outcome::BadWords => String::from_str(alloc, "meteragg: bad words\n"),
+        Outcome::CannotHear => String::from_str(alloc, "meteragg: cannot read input\n"),
         Outcome::CannotPrint => String::from_str(alloc, "meteragg: cannot print\n"),
         Outcome::OtherPresence {
             group,
@@ -346,6 +350,7 @@ pub fn complaint(alloc: Global, outcome: &Outcome<'_>) -> Result<Vec<u8>, AllocE
         Outcome::Done
         | Outcome::NoMemory
         | Outcome::BadWords
+        | Outcome::CannotHear
         | Outcome::CannotPrint
         | Outcome::OtherPresence { .. }
         | Outcome::OtherKnown { .. }

@@ -6,6 +6,7 @@ mod known;
 mod meter_parts;
 mod outcome;
 mod parsing;
+mod role_parts;
 mod usage;
 mod words;
 
@@ -15,8 +16,8 @@ pub use outcome::Outcome;
 pub use parsing::parse;
 pub use usage::{USAGE, VERSION};
 pub use words::{
-    AuditFiles, BillFiles, BillWords, Command, ConvertFiles, HideFiles, HideWords, InspectFiles,
-    LoadWords, MakeWords, PartsWords, Period, Place, PooledWords, PublicFiles, RegisterFiles,
-    RegisterWords, ResumeFiles, ResumeWords, RingTwinWords, RingWords, RunFiles, RunWords, Size,
-    TwinFiles,
+    AuditFiles, BillFiles, BillWords, CollectFiles, Command, ConvertFiles, HideFiles, HideWords,
+    InspectFiles, LoadWords, MakeWords, MeterFiles, PartsWords, Period, Place, PooledWords,
+    PublicFiles, RegisterFiles, RegisterWords, ResumeFiles, ResumeWords, RingTwinWords, RingWords,
+    RunFiles, RunWords, Size, TwinFiles,
 };

@@ -18,6 +18,8 @@ pub enum Outcome<'a> {
     BadWords,
     /// The file can't be read.
     CannotRead(&'a str),
+    /// The input can't be read.
+    CannotHear,
     /// The file is longer than 2^28 bytes.
     TooLong(&'a str),
     /// The file can't be written.
@@ -38,6 +40,10 @@ pub enum Outcome<'a> {
     BadTranscript(&'a str, ReadError),
     /// The report's text is refused at this line, counted from 1.
     BadReport(&'a str, u64),
+    /// This line of the journal, counted from 1, is the first that isn't that of the head.
+    BadJournalHead(&'a str, u64),
+    /// This line of the journal behind its head, counted from 1 with the head's, is the first that has no form or can't have come.
+    BadJournalLine(&'a str, u64),
     /// This line of the transcript, counted from 1, is the first that is not possible.
     Impossible(&'a str, u64),
     /// This row of the report, counted from 1, is the first that is not the one that the frames give; both rows, or none

@@ -7,6 +7,7 @@ ghost use Rattle.command_words.specs.Known.{IsKnown, known_in};
 
 use crate::known::names_meters;
 use crate::meter_parts::parts_words;
+use crate::role_parts::{collect_words, meter_words};
 use crate::words::{
     AuditFiles, BillFiles, BillWords, Command, ConvertFiles, HideFiles, HideWords, InspectFiles,
     LoadWords, MakeWords, Period, Place, PooledWords, PublicFiles, RegisterFiles, RegisterWords,
@@ -42,8 +43,8 @@ fn has_name(names: &[&str], name: &str) -> bool
     }
 }
 
-// Whether each word is a name, and no two are the same.
-fn are_names(names: &[&str]) -> bool
+/// Whether each word is a name, and no two are the same.
+pub(crate) fn are_names(names: &[&str]) -> bool
     ensures { result ≡ are_names (map (λ name. name.now) names.now) }
 {
     match names {
@@ -755,6 +756,10 @@ fn command_by<'a>(verb: &str, words: &'a [String]) -> Option<Command<'a>>
         public_words(words)
     } else if verb == "parts" {
         parts_words(words)
+    } else if verb == "collect" {
+        collect_words(words)
+    } else if verb == "meter" {
+        meter_words(words)
     } else if verb == "inspect" {
         inspect_words(words)
     } else if verb == "bill" {

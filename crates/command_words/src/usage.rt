@@ -40,6 +40,12 @@ Commands
       write for each meter I of group G what it has of the plan, PREFIXI.csv, and
       the head of its journal, PREFIXI.journal, which are to be new; only their
       owner may read them
+  collect PUBLIC JOURNAL REPORT
+      be a head end without keys: answer the frames and ticks that come in as
+      lines, keep them in JOURNAL, and write the report at the end of the input
+  meter METER JOURNAL
+      be one meter: answer readings and announcements that come in as lines, and
+      keep in JOURNAL what it has said
   inspect PUBLIC TRANSCRIPT REPORT
       check that the transcript is one that a run of the public plan can leave, and
       the report against it; count the opened rounds that have no total
@@ -57,8 +63,8 @@ Words
   WIDTH    1 to 128
   K        2 to 8 registers
   WORKERS  1 to 16 threads that make the ticks of the groups, one for about 1000
-           meters, no more than groups, and two fewer than there are processors;
-           4 where it may be left out and is
+           meters, no more than groups, and two fewer than there are processors,
+           but at least one; 4 where it may be left out and is
   KNOWN    - for nobody, or meters joined by +, as 0.1+0.4+2.0: each a group and a
            meter with a point between them, below 256, ascending, each once
   SEED     0 to 18446744073709551615
@@ -76,11 +82,13 @@ Statuses
    0  done
    1  out of memory
    2  the words are not a command
-   3  a file cannot be read, or is longer than 268435456 bytes
+   3  a file or the input cannot be read, or a file is longer than 268435456
+      bytes
    4  a file cannot be written, or the result cannot be printed
    5  the plan has a fault
    6  the readings have a fault
-   7  the transcript or the report has a fault, or is not that of these files
+   7  the transcript, the report or the journal has a fault, or is not that of
+      these files
    8  the two tables of readings differ in a place, in a reading of KNOWN, in an
       opened total, or in the sum over an open piece of a ring
    9  the report says something else than the transcript

@@ -158,6 +158,21 @@ pub struct InspectFiles<'a> {
     pub report: &'a str,
 }
 
+/// The names of the files of `collect`.
+#[derive(Clone, Copy)]
+pub struct CollectFiles<'a> {
+    pub public: &'a str,
+    pub journal: &'a str,
+    pub report: &'a str,
+}
+
+/// The names of the files of `meter`.
+#[derive(Clone, Copy)]
+pub struct MeterFiles<'a> {
+    pub meter: &'a str,
+    pub journal: &'a str,
+}
+
 /// A period of rounds: from `from` up to below `until`.
 #[derive(Clone, Copy)]
 pub struct Period {
@@ -238,6 +253,10 @@ pub enum Command<'a> {
     Public(PublicFiles<'a>),
     /// Writes what each meter of a group has of a plan, and begins its journal.
     Parts(PartsWords<'a>),
+    /// Is a head end without keys, which answers lines and keeps a journal.
+    Collect(CollectFiles<'a>),
+    /// Is one meter, which answers lines and keeps a journal.
+    Meter(MeterFiles<'a>),
     /// Checks a transcript against the public plan, and a report against the transcript.
     Inspect(InspectFiles<'a>),
     /// Writes the bills of a period.

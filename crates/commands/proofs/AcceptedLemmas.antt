@@ -1,55 +1,60 @@
 -- Accepted files are done.
-use Rattle.std.proofs.Common.{◌≡◌, ◌≤◌, ℕ, List, [], ◌∷◌, length, drop, refl, sym, ap, ◌∙◌, subst, inl, inr, arith, Ok, Err}
-use Rattle.std.specs.Prelude.{Option, Some, None, ◌*◌, ◌+◌, ◌-◌, slice_get}
-use Rattle.std.proofs.lemmas.List.{take-append-drop}
-use Rattle.transcript_log.specs.Frames.{IsPossible}
-use Rattle.transcript_text.specs.declared.version.Version.TheVariants.{Two}
+use Rattle.std.specs.Prelude.{◌-◌, ◌+◌, Option, slice_get, ◌*◌, Some, None}
+use Rattle.std.proofs.Common.{◌≡◌, ℕ, List, sym, ap, ◌∙◌, Ok, refl, inr, [], ◌∷◌, inl, Err, subst, ◌≤◌, length, arith}
+use Rattle.desk_outside.specs.Desk.{View, Rose}
+use Rattle.desk_outside.specs.Wire.{WireView}
+use Rattle.link_lanes.specs.Lanes.{Meaning}
+use Rattle.plan_files.specs.PlanFiles.{plan_of}
+use Rattle.command_words.specs.Words.{RunNames, RegisterNames, Size, InspectNames, BillNames, HideNames, Command, Run, Ring, Audit, Twin, RingTwin, Pooled, Make, Load, Convert, Public, Parts, Collect, Meter, Help, Version, Bill, Hide, Inspect, Registers, Resume}
+use Rattle.command_files.specs.Calls.{IsRead, after_fetches, putting}
+use Rattle.commands.specs.Accepted.{RunAccepts, RegistersAccept, AuditAccepts, LoadAccepts, ConvertAccepts, PublicAccepts, InspectAccepts, BillAccepts, HideAccepts, Accepts, AcceptedIsDone}
+use Rattle.commands.proofs.CalmLemmas.{read_is, ok_or_err, ok_same, IsCalm, puts_calm, unwritable_calm, unread_calm, two_are_short, one_is_short, three_are_short}
+use Rattle.link_lanes.specs.Fits.{hung_by}
+use Rattle.link_lanes.specs.declared.cupboard.RackError.{RackError}
+use Rattle.command_texts.specs.Runs.{RefusesLane, RefusesReadings}
+use Rattle.plan_files.specs.declared.fault.FileError.{FileError}
+use Rattle.plan_files.specs.Readings.{readings_of}
+use Rattle.command_words.specs.declared.outcome.Outcome.{Outcome}
+use Rattle.command_words.specs.declared.outcome.Outcome.TheVariants.{NoMemory, BadPlan, BadReadings, BadTranscript, BadReport, Impossible, NotInTime, OtherRow, OtherPlan, BadLane, NoPartner}
+use Rattle.commands.specs.Ends.{RunRefuses, fetched_by, put_by, RunEndsBy, AuditCommandEnds, made_plan_text, made_readings_text, MakeEnds, LoadRefuses, put_where, LoadEnds, ConvertRefuses, ConvertEnds, PublicEnds, Ends}
+use Rattle.command_texts.specs.declared.sharing.Sharing.{Sharing}
+use Rattle.command_texts.specs.Refusals.{RefusesTables, RegistersRefuse, PublicRefuses}
+use Rattle.plan_files.specs.Registers.{tables_of}
+use Rattle.commands.specs.RegisterEnds.{RegistersEnds, registers_fetched, registers_put}
+use Rattle.transcript_text.specs.declared.version.Version.TheVariants.{Two, One}
 use Rattle.transcript_log.specs.Transcripts.{TranscriptView}
 use Rattle.totals_report.specs.declared.row.ReportRow.{ReportRow}
 use Rattle.totals_report.specs.Reading.{rows_of_text}
-use Rattle.audit_check.specs.Audits.{lines_in, rows_by_frames, IsFirstImpossible, DifferFirst}
-use Rattle.audit_check.proofs.PossibleLemmas.{possible_up_to}
-use Rattle.command_words.specs.declared.usage.TheConstants.{USAGE, VERSION}
-use Rattle.commands.specs.Audits.{AreAuditTexts, AuditRefuses}
-use Rattle.desk_outside.specs.Desk.{View, Rose}
-use Rattle.link_lanes.specs.Lanes.{Meaning}
-use Rattle.link_lanes.specs.Fits.{hung_by}
-use Rattle.link_lanes.specs.declared.cupboard.RackError.{RackError}
-use Rattle.plan_files.specs.declared.fault.FileError.{FileError}
-use Rattle.plan_files.specs.PlanFiles.{plan_of}
-use Rattle.plan_files.specs.Spelling.{public_text}
-use Rattle.plan_files.specs.Readings.{readings_of}
-use Rattle.transcript_text.specs.declared.fault.ReadError.{ReadError}
-use Rattle.transcript_text.specs.declared.version.Version.TheVariants.{One}
-use Rattle.transcript_text.specs.ReadBack.{ReadsEach}
+use Rattle.command_texts.specs.Audits.{AreAuditTexts, AuditRefuses}
 use Rattle.transcript_text.specs.Heads.{read_of}
+use Rattle.transcript_text.specs.declared.fault.ReadError.{ReadError}
+use Rattle.transcript_log.specs.Frames.{IsPossible}
+use Rattle.audit_check.specs.Audits.{lines_in, IsFirstImpossible, rows_by_frames, DifferFirst}
+use Rattle.audit_check.proofs.PossibleLemmas.{possible_up_to}
+use Rattle.command_texts.specs.Lines.{audited_line, made_line, converted_line, public_line, line_of, bills_line, hidden_line}
+use Rattle.transcript_text.specs.ReadBack.{ReadsEach}
 use Rattle.transcript_text.proofs.ReadAgain.{reads_each}
-use Rattle.command_words.specs.declared.outcome.Outcome.{Outcome}
-use Rattle.command_words.specs.declared.outcome.Outcome.TheVariants.{Done, NoMemory, BadWords, CannotRead, TooLong, CannotWrite, CannotWritePart, CannotPrint, BadPlan, BadReadings, BadTranscript, BadReport, Impossible, NotInTime, NotThisRun, OtherRow, OtherPlan, OtherLine, OtherPresence, OtherKnown, OtherTotal, OtherComponent, BadLane, NoPartner}
-use Rattle.command_words.specs.Words.{RunNames, Size, Command, Run, Ring, Audit, Twin, RingTwin, Pooled, Make, Load, Convert, Public, Parts, Help, Version, BillNames, HideNames, Bill, Hide, InspectNames, Inspect, Registers, RegisterNames, Resume}
-use Rattle.commands.specs.Calls.{most_bytes, IsRead, after_fetches, putting}
+use Rattle.command_words.specs.Limits.{most_bytes}
 use Rattle.transcript_text.specs.Spelling.{transcript_text}
-use Rattle.commands.specs.Ends.{fetched_by, put_by, converted_line, RefusesReadings, RunRefuses, RunEndsBy, audited_line, AuditCommandEnds, made_plan_text, made_readings_text, made_line, MakeEnds, put_where, LoadRefuses, LoadEnds, ConvertRefuses, ConvertEnds, public_line, PublicRefuses, PublicEnds, Ends}
-use Rattle.commands.specs.Runs.{RefusesLane}
-use Rattle.command_words.specs.Outcomes.{status_of, IsFault}
-use Rattle.commands.specs.Accepted.{RunAccepts, AuditAccepts, LoadAccepts, ConvertAccepts, PublicAccepts, InspectAccepts, Accepts, AcceptedIsDone, BillAccepts, HideAccepts, RegistersAccept}
-use Rattle.commands.specs.RegisterEnds.{RefusesTables, RegistersEnds, RegistersRefuse, registers_fetched, registers_put}
-use Rattle.plan_files.specs.Registers.{tables_of}
-use Rattle.command_words.specs.declared.words.Period.{Period}
-use Rattle.command_words.specs.declared.words.Place.{Place}
+use Rattle.plan_files.specs.Spelling.{public_text, readings_text}
+use Rattle.command_texts.specs.Inspecting.{InspectBytes, PublicTextRefuses, TextsRefuse, JudgeRefuses, InspectRefuses}
+use Rattle.commands.specs.Outside.{OutsideView, FaultsRose, with_wire}
+use Rattle.commands.specs.InspectEnds.{AreInspectBytes, inspected_by, InspectCommandEnds}
 use Rattle.group_plan.specs.Plans.{PlanView}
-use Rattle.group_plan.specs.Tables.{ReadingsView}
-use Rattle.plan_files.specs.Spelling.{readings_text}
-use Rattle.commands.specs.Billing.{Metered, AreMetered, MeteredRefuses, bills_in, bills_text_in, HideBytes, AreHideBytes, TextRefuses, Finds, IsAlone}
-use Rattle.commands.specs.BillingEnds.{billed_by, bills_line, BillEnds, hidden_by, hidden_line, HideRefuses, HideEnds}
 use Rattle.run_course.specs.Beginnings.{IsSomeRun}
-use Rattle.commands.specs.Inspecting.{InspectBytes, AreInspectBytes, PublicTextRefuses, TextsRefuse, IsNotInTime, JudgeRefuses, InspectRefuses, inspected_by, line_of, InspectCommandEnds}
-use Rattle.commands.specs.declared.sharing.Sharing.{Sharing}
-use Rattle.commands.specs.declared.sharing.Sharing.TheVariants.{WithEach, WithNeighbours}
+use Rattle.command_texts.proofs.InspectedRuns.{no_line_late}
+use Rattle.command_texts.specs.Billing.{Metered, AreMetered, MeteredRefuses, bills_in, bills_text_in, HideBytes, TextRefuses, Finds, IsAlone, HideRefuses}
+use Rattle.command_words.specs.declared.words.Period.{Period}
+use Rattle.commands.specs.BillingEnds.{billed_by, BillEnds, AreHideBytes, hidden_by, HideEnds}
+use Rattle.command_words.specs.declared.words.Place.{Place}
+use Rattle.group_plan.specs.Tables.{ReadingsView}
+use Rattle.command_words.specs.declared.usage.TheConstants.{USAGE, VERSION}
+use Rattle.command_texts.specs.declared.sharing.Sharing.TheVariants.{WithEach, WithNeighbours}
+use Rattle.commands.proofs.AcceptedRoles.{collect_calm, meter_calm}
 use Rattle.commands.proofs.PartsLemmas.{parts_calm}
-use Rattle.commands.proofs.CalmLemmas.{read_is, ok_or_err, ok_same, IsCalm, puts_calm, unwritable_calm, unread_calm, one_is_short, two_are_short, three_are_short}
 use Rattle.commands.proofs.AcceptedResume.{resume_calm}
 use Rattle.commands.proofs.AcceptedTwins.{twin_calm, ring_twin_calm, pooled_calm}
+use Rattle.command_words.specs.Outcomes.{status_of, IsFault}
 
 -- ---- `run`
 
@@ -72,30 +77,11 @@ readings_are_right cupboard names v good p r fault plan_read readings_read bad =
 
 nothing_refused : (cupboard : List Meaning) (names : RunNames) (v : View) (p r : List ℕ) (outcome : Outcome) → RunAccepts cupboard names v
     → IsRead (v.held names.plan) p → IsRead (v.held names.readings) r → RunRefuses cupboard names p r outcome → IsCalm outcome
-nothing_refused cupboard names v p r Done good p_read r_read ends = absurd ends
 nothing_refused cupboard names v p r NoMemory good p_read r_read ends = inr (inr refl)
-nothing_refused cupboard names v p r BadWords good p_read r_read ends = absurd ends
-nothing_refused cupboard names v p r (CannotRead name) good p_read r_read ends = absurd ends
-nothing_refused cupboard names v p r (TooLong name) good p_read r_read ends = absurd ends
-nothing_refused cupboard names v p r (CannotWrite name) good p_read r_read ends = absurd ends
-nothing_refused cupboard names v p r (CannotWritePart prefix meter file) good p_read r_read ends = absurd ends
-nothing_refused cupboard names v p r CannotPrint good p_read r_read ends = absurd ends
 nothing_refused cupboard names v p r (BadPlan name fault) good p_read r_read ends = absurd (ok_or_err _ _ _ (plan_is cupboard names v good p p_read) ends.1)
 nothing_refused cupboard names v p r (BadReadings name fault) good p_read r_read ends = absurd (readings_are_right cupboard names v good p r fault p_read r_read ends.1)
-nothing_refused cupboard names v p r (BadTranscript name fault) good p_read r_read ends = absurd ends
-nothing_refused cupboard names v p r (BadReport name line) good p_read r_read ends = absurd ends
-nothing_refused cupboard names v p r (Impossible name line) good p_read r_read ends = absurd ends
-nothing_refused cupboard names v p r (NotInTime name line) good p_read r_read ends = absurd ends
-nothing_refused cupboard names v p r (NotThisRun name line) good p_read r_read ends = absurd ends
-nothing_refused cupboard names v p r (OtherRow at from_frames reported) good p_read r_read ends = absurd ends
-nothing_refused cupboard names v p r (OtherPlan name) good p_read r_read ends = absurd ends
-nothing_refused cupboard names v p r (OtherLine name line expected) good p_read r_read ends = absurd ends
-nothing_refused cupboard names v p r (OtherPresence group round meter) good p_read r_read ends = absurd ends
-nothing_refused cupboard names v p r (OtherKnown group round meter) good p_read r_read ends = absurd ends
-nothing_refused cupboard names v p r (OtherTotal group round first second) good p_read r_read ends = absurd ends
-nothing_refused cupboard names v p r (OtherComponent group round least first second) good p_read r_read ends = absurd ends
 nothing_refused cupboard names v p r (BadLane fault) good p_read r_read ends = absurd (lanes_are_right cupboard names v good p fault p_read ends)
-nothing_refused cupboard names v p r (NoPartner group round meter) good p_read r_read ends = absurd ends
+nothing_refused cupboard names v p r _ good p_read r_read ends = absurd ends
 
 run_calm : (sharing : Sharing) (cupboard : List Meaning) (names : RunNames) (v w : View) (outcome : Outcome) → RunAccepts cupboard names v → RunEndsBy sharing cupboard names v w outcome → IsCalm outcome
 run_calm sharing cupboard names v w outcome good (inl unread) =
@@ -126,30 +112,11 @@ tables_are_right cupboard count names v good p r fault plan_read readings_read b
 
 registers_not_refused : (cupboard : List Meaning) (count : ℕ) (names : RegisterNames) (v : View) (p r : List ℕ) (outcome : Outcome) → RegistersAccept cupboard count names v
     → IsRead (v.held names.plan) p → IsRead (v.held names.readings) r → RegistersRefuse cupboard count names p r outcome → IsCalm outcome
-registers_not_refused cupboard count names v p r Done good p_read r_read ends = absurd ends
 registers_not_refused cupboard count names v p r NoMemory good p_read r_read ends = inr (inr refl)
-registers_not_refused cupboard count names v p r BadWords good p_read r_read ends = absurd ends
-registers_not_refused cupboard count names v p r (CannotRead name) good p_read r_read ends = absurd ends
-registers_not_refused cupboard count names v p r (TooLong name) good p_read r_read ends = absurd ends
-registers_not_refused cupboard count names v p r (CannotWrite name) good p_read r_read ends = absurd ends
-registers_not_refused cupboard count names v p r (CannotWritePart prefix meter file) good p_read r_read ends = absurd ends
-registers_not_refused cupboard count names v p r CannotPrint good p_read r_read ends = absurd ends
 registers_not_refused cupboard count names v p r (BadPlan name fault) good p_read r_read ends = absurd (ok_or_err _ _ _ (registers_plan_is cupboard count names v good p p_read) ends.1)
 registers_not_refused cupboard count names v p r (BadReadings name fault) good p_read r_read ends = absurd (tables_are_right cupboard count names v good p r fault p_read r_read ends.1)
-registers_not_refused cupboard count names v p r (BadTranscript name fault) good p_read r_read ends = absurd ends
-registers_not_refused cupboard count names v p r (BadReport name line) good p_read r_read ends = absurd ends
-registers_not_refused cupboard count names v p r (Impossible name line) good p_read r_read ends = absurd ends
-registers_not_refused cupboard count names v p r (NotInTime name line) good p_read r_read ends = absurd ends
-registers_not_refused cupboard count names v p r (NotThisRun name line) good p_read r_read ends = absurd ends
-registers_not_refused cupboard count names v p r (OtherRow at from_frames reported) good p_read r_read ends = absurd ends
-registers_not_refused cupboard count names v p r (OtherPlan name) good p_read r_read ends = absurd ends
-registers_not_refused cupboard count names v p r (OtherLine name line expected) good p_read r_read ends = absurd ends
-registers_not_refused cupboard count names v p r (OtherPresence group round meter) good p_read r_read ends = absurd ends
-registers_not_refused cupboard count names v p r (OtherKnown group round meter) good p_read r_read ends = absurd ends
-registers_not_refused cupboard count names v p r (OtherTotal group round first second) good p_read r_read ends = absurd ends
-registers_not_refused cupboard count names v p r (OtherComponent group round least first second) good p_read r_read ends = absurd ends
 registers_not_refused cupboard count names v p r (BadLane fault) good p_read r_read ends = absurd (registers_lanes_are_right cupboard count names v good p fault p_read ends)
-registers_not_refused cupboard count names v p r (NoPartner group round meter) good p_read r_read ends = absurd ends
+registers_not_refused cupboard count names v p r _ good p_read r_read ends = absurd ends
 
 registers_calm : (cupboard : List Meaning) (count : ℕ) (names : RegisterNames) (v w : View) (outcome : Outcome) → RegistersAccept cupboard count names v → RegistersEnds cupboard count names v w outcome → IsCalm outcome
 registers_calm cupboard count names v w outcome good (inl unread) =
@@ -190,34 +157,16 @@ no_difference t rows at one other same first = first.differ (sym first.one_is �
 
 audit_not_refused : (transcript report : List ℕ) (v : View) (tb rb : List ℕ) (outcome : Outcome) → AuditAccepts transcript report v
     → IsRead (v.held transcript) tb → IsRead (v.held report) rb → AuditRefuses transcript report tb rb outcome → IsCalm outcome
-audit_not_refused transcript report v tb rb Done good t_read r_read ends = absurd ends
 audit_not_refused transcript report v tb rb NoMemory good t_read r_read ends = inr (inr refl)
-audit_not_refused transcript report v tb rb BadWords good t_read r_read ends = absurd ends
-audit_not_refused transcript report v tb rb (CannotRead name) good t_read r_read ends = absurd ends
-audit_not_refused transcript report v tb rb (TooLong name) good t_read r_read ends = absurd ends
-audit_not_refused transcript report v tb rb (CannotWrite name) good t_read r_read ends = absurd ends
-audit_not_refused transcript report v tb rb (CannotWritePart prefix meter file) good t_read r_read ends = absurd ends
-audit_not_refused transcript report v tb rb CannotPrint good t_read r_read ends = absurd ends
-audit_not_refused transcript report v tb rb (BadPlan name fault) good t_read r_read ends = absurd ends
-audit_not_refused transcript report v tb rb (BadReadings name fault) good t_read r_read ends = absurd ends
 audit_not_refused transcript report v tb rb (BadTranscript name fault) good t_read r_read ends = absurd (transcript_not_refused transcript report v good tb fault t_read ends.1)
 audit_not_refused transcript report v tb rb (BadReport name line) good t_read r_read (named, (t, is, bad)) = absurd (report_not_refused transcript report v good rb line r_read bad)
 audit_not_refused transcript report v tb rb (Impossible name line) good t_read r_read (named, (t, rows, texts, (k, number, first))) =
     let same = audited_same transcript report v good tb rb t rows t_read r_read texts in
     absurd (all_possible t k (subst (λ t. IsPossible t.plan.groups (lines_in t)) same.0 good.possible) first)
-audit_not_refused transcript report v tb rb (NotInTime name line) good t_read r_read ends = absurd ends
-audit_not_refused transcript report v tb rb (NotThisRun name line) good t_read r_read ends = absurd ends
 audit_not_refused transcript report v tb rb (OtherRow at one other) good t_read r_read (t, rows, texts, ends) =
     let same = audited_same transcript report v good tb rb t rows t_read r_read texts in
     absurd (no_difference t rows at one other (sym same.1 ∙ good.given ∙ ap rows_by_frames same.0) ends.first)
-audit_not_refused transcript report v tb rb (OtherPlan name) good t_read r_read ends = absurd ends
-audit_not_refused transcript report v tb rb (OtherLine name line expected) good t_read r_read ends = absurd ends
-audit_not_refused transcript report v tb rb (OtherPresence group round meter) good t_read r_read ends = absurd ends
-audit_not_refused transcript report v tb rb (OtherKnown group round meter) good t_read r_read ends = absurd ends
-audit_not_refused transcript report v tb rb (OtherTotal group round first second) good t_read r_read ends = absurd ends
-audit_not_refused transcript report v tb rb (OtherComponent group round least first second) good t_read r_read ends = absurd ends
-audit_not_refused transcript report v tb rb (BadLane fault) good t_read r_read ends = absurd ends
-audit_not_refused transcript report v tb rb (NoPartner group round meter) good t_read r_read ends = absurd ends
+audit_not_refused transcript report v tb rb _ good t_read r_read ends = absurd ends
 
 audit_calm : (transcript report : List ℕ) (v w : View) (outcome : Outcome) → AuditAccepts transcript report v → AuditCommandEnds transcript report v w outcome → IsCalm outcome
 audit_calm transcript report v w outcome good (inl unread) =
@@ -233,30 +182,9 @@ make_calm size plan readings v w outcome ends =
     puts_calm (putting plan (made_plan_text size) ∷ putting readings (made_readings_text size) ∷ []) (made_line (size.groups * size.meters * size.rounds)) v w outcome ends
 
 load_not_refused : (cupboard : List Meaning) (size : Size) (outcome : Outcome) → LoadAccepts cupboard size → LoadRefuses cupboard size outcome → IsCalm outcome
-load_not_refused cupboard size Done good ends = absurd ends
 load_not_refused cupboard size NoMemory good ends = inr (inr refl)
-load_not_refused cupboard size BadWords good ends = absurd ends
-load_not_refused cupboard size (CannotRead name) good ends = absurd ends
-load_not_refused cupboard size (TooLong name) good ends = absurd ends
-load_not_refused cupboard size (CannotWrite name) good ends = absurd ends
-load_not_refused cupboard size (CannotWritePart prefix meter file) good ends = absurd ends
-load_not_refused cupboard size CannotPrint good ends = absurd ends
-load_not_refused cupboard size (BadPlan name fault) good ends = absurd ends
-load_not_refused cupboard size (BadReadings name fault) good ends = absurd ends
-load_not_refused cupboard size (BadTranscript name fault) good ends = absurd ends
-load_not_refused cupboard size (BadReport name line) good ends = absurd ends
-load_not_refused cupboard size (Impossible name line) good ends = absurd ends
-load_not_refused cupboard size (NotInTime name line) good ends = absurd ends
-load_not_refused cupboard size (NotThisRun name line) good ends = absurd ends
-load_not_refused cupboard size (OtherRow at one other) good ends = absurd ends
-load_not_refused cupboard size (OtherPlan name) good ends = absurd ends
-load_not_refused cupboard size (OtherLine name line expected) good ends = absurd ends
-load_not_refused cupboard size (OtherPresence group round meter) good ends = absurd ends
-load_not_refused cupboard size (OtherKnown group round meter) good ends = absurd ends
-load_not_refused cupboard size (OtherTotal group round first second) good ends = absurd ends
-load_not_refused cupboard size (OtherComponent group round least first second) good ends = absurd ends
 load_not_refused cupboard size (BadLane fault) good ends = absurd (ok_or_err _ _ _ good.lanes ends)
-load_not_refused cupboard size (NoPartner group round meter) good ends = absurd ends
+load_not_refused cupboard size _ good ends = absurd ends
 
 load_calm : (cupboard : List Meaning) (size : Size) (transcript : Option (List ℕ)) (v w : View) (outcome : Outcome) → LoadAccepts cupboard size
     → LoadEnds cupboard size transcript v w outcome → IsCalm outcome
@@ -275,30 +203,9 @@ converted_is old v good bytes is =
     ap (read_of One) (sym same) ∙ reads_each One good.bytes (omega arith) good.transcript good.has_text good.text
 
 text_not_refused : (old : List ℕ) (v : View) (bytes : List ℕ) (outcome : Outcome) → ConvertAccepts old v → IsRead (v.held old) bytes → ConvertRefuses old bytes outcome → IsCalm outcome
-text_not_refused old v bytes Done good is ends = absurd ends
 text_not_refused old v bytes NoMemory good is ends = inr (inr refl)
-text_not_refused old v bytes BadWords good is ends = absurd ends
-text_not_refused old v bytes (CannotRead name) good is ends = absurd ends
-text_not_refused old v bytes (TooLong name) good is ends = absurd ends
-text_not_refused old v bytes (CannotWrite name) good is ends = absurd ends
-text_not_refused old v bytes (CannotWritePart prefix meter file) good is ends = absurd ends
-text_not_refused old v bytes CannotPrint good is ends = absurd ends
-text_not_refused old v bytes (BadPlan name fault) good is ends = absurd ends
-text_not_refused old v bytes (BadReadings name fault) good is ends = absurd ends
 text_not_refused old v bytes (BadTranscript name fault) good is ends = absurd (ok_or_err _ _ _ (converted_is old v good bytes is) ends.1)
-text_not_refused old v bytes (BadReport name line) good is ends = absurd ends
-text_not_refused old v bytes (Impossible name line) good is ends = absurd ends
-text_not_refused old v bytes (NotInTime name line) good is ends = absurd ends
-text_not_refused old v bytes (NotThisRun name line) good is ends = absurd ends
-text_not_refused old v bytes (OtherRow at from_frames reported) good is ends = absurd ends
-text_not_refused old v bytes (OtherPlan name) good is ends = absurd ends
-text_not_refused old v bytes (OtherLine name line expected) good is ends = absurd ends
-text_not_refused old v bytes (OtherPresence group round meter) good is ends = absurd ends
-text_not_refused old v bytes (OtherKnown group round meter) good is ends = absurd ends
-text_not_refused old v bytes (OtherTotal group round first second) good is ends = absurd ends
-text_not_refused old v bytes (OtherComponent group round least first second) good is ends = absurd ends
-text_not_refused old v bytes (BadLane fault) good is ends = absurd ends
-text_not_refused old v bytes (NoPartner group round meter) good is ends = absurd ends
+text_not_refused old v bytes _ good is ends = absurd ends
 
 convert_calm : (old transcript : List ℕ) (v w : View) (outcome : Outcome) → ConvertAccepts old v → ConvertEnds old transcript v w outcome → IsCalm outcome
 convert_calm old transcript v w outcome good (inl unread) = unread_calm (old ∷ []) v w outcome (one_is_short v w old good.bytes good.file) unread
@@ -309,30 +216,9 @@ convert_calm old transcript v w outcome good (inr (bytes, is, inr (t, has, text,
 -- ---- `public`
 
 public_not_refused : (plan : List ℕ) (v : View) (bytes : List ℕ) (outcome : Outcome) → PublicAccepts plan v → IsRead (v.held plan) bytes → PublicRefuses plan bytes outcome → IsCalm outcome
-public_not_refused plan v bytes Done good is ends = absurd ends
 public_not_refused plan v bytes NoMemory good is ends = inr (inr refl)
-public_not_refused plan v bytes BadWords good is ends = absurd ends
-public_not_refused plan v bytes (CannotRead name) good is ends = absurd ends
-public_not_refused plan v bytes (TooLong name) good is ends = absurd ends
-public_not_refused plan v bytes (CannotWrite name) good is ends = absurd ends
-public_not_refused plan v bytes (CannotWritePart prefix meter file) good is ends = absurd ends
-public_not_refused plan v bytes CannotPrint good is ends = absurd ends
 public_not_refused plan v bytes (BadPlan name fault) good is ends = absurd (ok_or_err _ _ _ (ap plan_of (sym (read_is v plan good.bytes bytes good.file is)) ∙ good.value) ends.1)
-public_not_refused plan v bytes (BadReadings name fault) good is ends = absurd ends
-public_not_refused plan v bytes (BadTranscript name fault) good is ends = absurd ends
-public_not_refused plan v bytes (BadReport name line) good is ends = absurd ends
-public_not_refused plan v bytes (Impossible name line) good is ends = absurd ends
-public_not_refused plan v bytes (NotInTime name line) good is ends = absurd ends
-public_not_refused plan v bytes (NotThisRun name line) good is ends = absurd ends
-public_not_refused plan v bytes (OtherRow at from_frames reported) good is ends = absurd ends
-public_not_refused plan v bytes (OtherPlan name) good is ends = absurd ends
-public_not_refused plan v bytes (OtherLine name line expected) good is ends = absurd ends
-public_not_refused plan v bytes (OtherPresence group round meter) good is ends = absurd ends
-public_not_refused plan v bytes (OtherKnown group round meter) good is ends = absurd ends
-public_not_refused plan v bytes (OtherTotal group round first second) good is ends = absurd ends
-public_not_refused plan v bytes (OtherComponent group round least first second) good is ends = absurd ends
-public_not_refused plan v bytes (BadLane fault) good is ends = absurd ends
-public_not_refused plan v bytes (NoPartner group round meter) good is ends = absurd ends
+public_not_refused plan v bytes _ good is ends = absurd ends
 
 public_calm : (plan public : List ℕ) (v w : View) (outcome : Outcome) → PublicAccepts plan v → PublicEnds plan public v w outcome → IsCalm outcome
 public_calm plan public v w outcome good (inl unread) = unread_calm (plan ∷ []) v w outcome (one_is_short v w plan good.bytes good.file) unread
@@ -351,11 +237,6 @@ same_inspected names v good bytes read =
     ap (λ p. record { public = p; transcript = good.bytes.transcript; report = good.bytes.report }) public
     ∙ ap (λ t. record { public = bytes.public; transcript = t; report = good.bytes.report }) transcript
     ∙ ap (λ r. record { public = bytes.public; transcript = bytes.transcript; report = r }) report
-
--- a run begins with all of its entries, and is whole
-pub no_line_late : (t : TranscriptView) (line : ℕ) → IsSomeRun t.plan t.entries → IsNotInTime t line → ⊥
-no_line_late t line run (inl (k, number, first)) = first.here (drop (k + 1) t.entries, subst (IsSomeRun t.plan) (sym (take-append-drop (k + 1) t.entries)) run)
-no_line_late t line run (inr (number, goes_on)) = goes_on.unfinished run
 
 module _ (names : InspectNames) (v : View) (good : InspectAccepts names v) where
   public_not_refused_now : (outcome : Outcome) → PublicTextRefuses names.public good.bytes.public outcome → IsCalm outcome
@@ -469,32 +350,42 @@ hide_calm names period place v w outcome good (inr (bytes, read, inr (p, y, of, 
 
 -- ---- all commands
 
-command_calm : (cupboard : List Meaning) (command : Command) (v w : View) (outcome : Outcome) → Accepts cupboard command v → Ends cupboard (Some command) v w outcome → IsCalm outcome
-command_calm cupboard (Run names workers) v w outcome good ends = run_calm WithEach cupboard names v w outcome good ends
-command_calm cupboard (Ring width names workers) v w outcome good ends = run_calm (WithNeighbours width) cupboard names v w outcome good ends
-command_calm cupboard (Resume names workers) v w outcome good ends = resume_calm cupboard names v w outcome good ends
-command_calm cupboard (Registers count names workers) v w outcome good ends = registers_calm cupboard count names v w outcome good ends
-command_calm cupboard (Audit transcript report) v w outcome good ends = audit_calm transcript report v w outcome good ends
-command_calm cupboard (Twin names) v w outcome good ends = twin_calm names v w outcome good ends
-command_calm cupboard (RingTwin width names) v w outcome good ends = ring_twin_calm width names v w outcome good ends
-command_calm cupboard (Pooled known names) v w outcome good ends = pooled_calm known names v w outcome good ends
-command_calm cupboard (Make size plan readings) v w outcome good ends = make_calm size plan readings v w outcome ends
-command_calm cupboard (Load size workers transcript) v w outcome good ends = load_calm cupboard size transcript v w outcome good ends
-command_calm cupboard (Convert old transcript) v w outcome good ends = convert_calm old transcript v w outcome good ends
-command_calm cupboard (Public plan public) v w outcome good ends = public_calm plan public v w outcome good ends
-command_calm cupboard (Parts plan g prefix) v w outcome good ends = parts_calm plan g prefix v w outcome good ends
-command_calm cupboard (Inspect names) v w outcome good ends = inspect_calm names v w outcome good ends
-command_calm cupboard (Bill names period) v w outcome good ends = bill_calm names period v w outcome good ends
-command_calm cupboard (Hide names period place) v w outcome good ends = hide_calm names period place v w outcome good ends
-command_calm cupboard Help v w outcome good ends = puts_calm [] USAGE.now v w outcome ends
-command_calm cupboard Version v w outcome good ends = puts_calm [] VERSION.now v w outcome ends
+command_calm : (cupboard : List Meaning) (command : Command) (o p : OutsideView) (outcome : Outcome) → Accepts cupboard command o → Ends cupboard (Some command) o p outcome → IsCalm outcome
+command_calm cupboard (Run names workers) o p outcome good (ends, kept) = run_calm WithEach cupboard names o.desk p.desk outcome good ends
+command_calm cupboard (Ring width names workers) o p outcome good (ends, kept) = run_calm (WithNeighbours width) cupboard names o.desk p.desk outcome good ends
+command_calm cupboard (Resume names workers) o p outcome good (ends, kept) = resume_calm cupboard names o.desk p.desk outcome good ends
+command_calm cupboard (Registers count names workers) o p outcome good (ends, kept) = registers_calm cupboard count names o.desk p.desk outcome good ends
+command_calm cupboard (Audit transcript report) o p outcome good (ends, kept) = audit_calm transcript report o.desk p.desk outcome good ends
+command_calm cupboard (Twin names) o p outcome good (ends, kept) = twin_calm names o.desk p.desk outcome good ends
+command_calm cupboard (RingTwin width names) o p outcome good (ends, kept) = ring_twin_calm width names o.desk p.desk outcome good ends
+command_calm cupboard (Pooled known names) o p outcome good (ends, kept) = pooled_calm known names o.desk p.desk outcome good ends
+command_calm cupboard (Make size plan readings) o p outcome good (ends, kept) = make_calm size plan readings o.desk p.desk outcome ends
+command_calm cupboard (Load size workers transcript) o p outcome good (ends, kept) = load_calm cupboard size transcript o.desk p.desk outcome good ends
+command_calm cupboard (Convert old transcript) o p outcome good (ends, kept) = convert_calm old transcript o.desk p.desk outcome good ends
+command_calm cupboard (Public plan public) o p outcome good (ends, kept) = public_calm plan public o.desk p.desk outcome good ends
+command_calm cupboard (Parts plan g prefix) o p outcome good (ends, kept) = parts_calm plan g prefix o.desk p.desk outcome good ends
+command_calm cupboard (Collect names) o p outcome good ends = collect_calm names o p outcome good ends
+command_calm cupboard (Meter meter journal) o p outcome good ends = meter_calm meter journal o p outcome good ends
+command_calm cupboard (Inspect names) o p outcome good (ends, kept) = inspect_calm names o.desk p.desk outcome good ends
+command_calm cupboard (Bill names period) o p outcome good (ends, kept) = bill_calm names period o.desk p.desk outcome good ends
+command_calm cupboard (Hide names period place) o p outcome good (ends, kept) = hide_calm names period place o.desk p.desk outcome good ends
+command_calm cupboard Help o p outcome good (ends, kept) = puts_calm [] USAGE.now o.desk p.desk outcome ends
+command_calm cupboard Version o p outcome good (ends, kept) = puts_calm [] VERSION.now o.desk p.desk outcome ends
 
-pub accepted_is_done : (cupboard : List Meaning) (asked : Option Command) (v w : View) (outcome : Outcome) (before between now status : ℕ) → Ends cupboard asked v w outcome
-    → (IsFault outcome → Rose before between) → between ≤ now → status ≡ status_of outcome → AcceptedIsDone cupboard asked v before now status
-accepted_is_done cupboard asked v w outcome before between now status ends rises later is command by good calm =
-    let done : Ends cupboard (Some command) v w outcome = subst (λ c. Ends cupboard c v w outcome) by ends in
-    elim (command_calm cupboard command v w outcome good done) [
-      | inl fault ↦ absurd (calm (let h = rises fault in omega arith))
+-- a fault that rose up to some count rose up to a later one
+rose_later : (asked : Option Command) (before between now : ℕ) (found left : WireView) → between ≤ now → FaultsRose asked before between found left → FaultsRose asked before now found left
+rose_later (Some (Collect names)) before between now found left later (inl rose) = inl (omega arith)
+rose_later (Some (Collect names)) before between now found left later (inr rose) = inr rose
+rose_later (Some (Meter meter journal)) before between now found left later (inl rose) = inl (omega arith)
+rose_later (Some (Meter meter journal)) before between now found left later (inr rose) = inr rose
+rose_later _ before between now found left later rose = omega arith
+
+pub accepted_is_done : (cupboard : List Meaning) (asked : Option Command) (o p : OutsideView) (middle : View) (outcome : Outcome) (before between now status : ℕ) → Ends cupboard asked o (with_wire middle p.wire) outcome
+    → (IsFault outcome → FaultsRose asked before between o.wire p.wire) → between ≤ now → status ≡ status_of outcome → AcceptedIsDone cupboard asked o p before now status
+accepted_is_done cupboard asked o p middle outcome before between now status ends rises later is command by good calm =
+    let done : Ends cupboard (Some command) o (with_wire middle p.wire) outcome = subst (λ c. Ends cupboard c o (with_wire middle p.wire) outcome) by ends in
+    elim (command_calm cupboard command o (with_wire middle p.wire) outcome good done) [
+      | inl fault ↦ absurd (calm (subst (λ c. FaultsRose c before now o.wire p.wire) by (rose_later asked before between now o.wire p.wire later (rises fault))))
       | inr (inl well) ↦ inl (is ∙ well)
       | inr (inr short) ↦ inr (is ∙ short)
     ]

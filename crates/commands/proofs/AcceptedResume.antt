@@ -1,26 +1,26 @@
 -- Accepted files are done: those of `resume`.
-use Rattle.std.proofs.Common.{◌≡◌, ℕ, ◌+◌, List, [], ◌∷◌, ◌++◌, take, drop, refl, sym, ap, ◌∙◌, subst, inl, inr, append_assoc}
-use Rattle.std.proofs.lemmas.List.{take-append-drop}
-use Rattle.missing_round.specs.Masks.{Masks}
+use Rattle.std.proofs.Common.{◌≡◌, List, ap, ◌∙◌, ℕ, ◌+◌, ◌∷◌, ◌++◌, take, drop, sym, append_assoc, refl, subst, inr, [], inl}
 use Rattle.desk_outside.specs.Desk.{View}
-use Rattle.group_plan.specs.Tables.{ReadingsView}
-use Rattle.link_lanes.specs.Fits.{hung_by}
 use Rattle.link_lanes.specs.Lanes.{Meaning, Slot}
-use Rattle.mask_stream.specs.KeyStreams.{streams}
-use Rattle.plan_files.specs.Readings.{readings_of}
-use Rattle.transcript_log.specs.declared.Entry.{Entry}
-use Rattle.transcript_log.specs.Transcripts.{TranscriptView}
-use Rattle.cut_resume.specs.OnCourse.{IsFirstOff, OnCourse}
-use Rattle.command_words.specs.declared.outcome.Outcome.{Outcome}
-use Rattle.command_words.specs.declared.outcome.Outcome.TheVariants.{NoMemory, BadPlan, BadReadings, BadTranscript, BadLane, NotThisRun, OtherPlan}
 use Rattle.command_words.specs.Words.{ResumeNames}
 use Rattle.commands.specs.Accepted.{ResumeAccepts}
-use Rattle.commands.specs.Calls.{after_fetches, putting}
-use Rattle.commands.specs.ResumeEnds.{ResumeCommandEnds, ResumeRefuses, resume_fetched, resume_put}
-use Rattle.commands.specs.ResumeRuns.{AreResumeBytes, IsNotThisRun, ResumeBytes}
-use Rattle.commands.specs.Runs.{Values, plan_in}
-use Rattle.commands.proofs.CalmLemmas.{IsCalm, ok_or_err, ok_same, puts_calm, read_is, three_are_short, unread_calm, unwritable_calm}
-use Rattle.commands.proofs.RunLemmas.{same_values}
+use Rattle.commands.specs.ResumeEnds.{AreResumeBytes, ResumeRefuses, ResumeCommandEnds, resume_fetched, resume_put}
+use Rattle.command_texts.specs.ResumeRuns.{ResumeBytes, IsNotThisRun}
+use Rattle.commands.proofs.CalmLemmas.{read_is, IsCalm, ok_or_err, ok_same, puts_calm, three_are_short, unread_calm, unwritable_calm}
+use Rattle.std.proofs.lemmas.List.{take-append-drop}
+use Rattle.missing_round.specs.Masks.{Masks}
+use Rattle.group_plan.specs.Tables.{ReadingsView}
+use Rattle.transcript_log.specs.declared.Entry.{Entry}
+use Rattle.cut_resume.specs.OnCourse.{OnCourse, IsFirstOff}
+use Rattle.link_lanes.specs.Fits.{hung_by}
+use Rattle.mask_stream.specs.KeyStreams.{streams}
+use Rattle.plan_files.specs.Readings.{readings_of}
+use Rattle.transcript_log.specs.Transcripts.{TranscriptView}
+use Rattle.command_words.specs.declared.outcome.Outcome.{Outcome}
+use Rattle.command_words.specs.declared.outcome.Outcome.TheVariants.{NoMemory, BadPlan, BadReadings, BadTranscript, BadLane, NotThisRun, OtherPlan}
+use Rattle.command_texts.specs.Runs.{Values, plan_in}
+use Rattle.command_texts.proofs.RunLemmas.{same_values}
+use Rattle.command_files.specs.Calls.{after_fetches, putting}
 
 -- the bytes that were read are the accepted ones
 same_cut_bytes : (cupboard : List Meaning) (names : ResumeNames) (v : View) (good : ResumeAccepts cupboard names v) (bytes : ResumeBytes) → AreResumeBytes names v bytes → good.bytes ≡ bytes

@@ -1,39 +1,41 @@
 -- Accepted files are done: those of `twin`, `ringtwin` and `pooled`.
-use Rattle.std.proofs.Common.{◌≡◌, ◌≢◌, ◌<◌, ◌^◌, ℕ, false, List, [], ◌∷◌, length, refl, sym, ap, ◌∙◌, subst, inl, inr, arith, Err}
-use Rattle.std.specs.Prelude.{codes}
-use Rattle.std.proofs.lemmas.Bool.{false≢true}
-use Rattle.transcript_log.specs.Transcripts.{TranscriptView}
+use Rattle.std.proofs.Common.{ℕ, false, List, [], ◌∷◌, inl, inr, ◌≡◌, ap, ◌∙◌, Err, sym, ◌<◌, ◌^◌, length, arith, ◌≢◌, refl, subst}
 use Rattle.desk_outside.specs.Desk.{View, IsLonger}
+use Rattle.command_words.specs.Limits.{most_bytes}
+use Rattle.command_files.specs.Calls.{EndsAtFetch, Unread, after_fetches, putting}
+use Rattle.commands.specs.Accepted.{HoldsFile, TwinAccepts, RingTwinAccepts, PooledAccepts}
+use Rattle.commands.proofs.CalmLemmas.{not_longer, read_is, IsCalm, unread_calm, ok_or_err, ok_same, puts_calm}
+use Rattle.command_texts.specs.Twins.{TwinBytes, TwinValues, AreTwinValues, RefusesFirst, RefusesSecond, Compared, TwinRefuses}
+use Rattle.command_words.specs.Words.{TwinNames}
+use Rattle.commands.specs.TwinEnds.{AreReadBy, compared_by, TwinCommandEnds, RingTwinEnds, PooledCommandEnds}
+use Rattle.command_words.specs.declared.outcome.Outcome.{Outcome}
 use Rattle.plan_files.specs.declared.fault.FileError.{FileError}
 use Rattle.plan_files.specs.PlanFiles.{plan_of}
 use Rattle.plan_files.specs.Readings.{readings_of}
 use Rattle.mask_stream.specs.KeyStreams.{streams}
-use Rattle.ideal_masks.specs.declared.Differ.TheVariants.{Presence, Total}
+use Rattle.twin_worlds.specs.Statements.{IsHonest, FindsTwins, FindsSameWorld, IsHonestText, IsHonestFor, FindsPooledTwins}
 use Rattle.twin_worlds.specs.declared.answers.TwinError.{TwinError}
 use Rattle.twin_worlds.specs.declared.answers.TwinError.TheVariants as twin
+use Rattle.twin_worlds.specs.Twins.{TwinEnds, SameWorldEnds, PooledTwinEnds}
+use Rattle.twin_worlds.proofs.HonestLemmas.{honest-have-twins, honest-have-same-world, honest-have-pooled}
+use Rattle.ideal_masks.specs.declared.Differ.TheVariants.{Presence, Total}
+use Rattle.command_words.specs.declared.outcome.Outcome.TheVariants.{NoMemory, BadPlan, BadReadings, BadTranscript, OtherPlan, OtherLine, OtherPresence, OtherKnown, OtherTotal, OtherComponent}
 use Rattle.twin_worlds.specs.MasksText.{masks_text}
-use Rattle.twin_worlds.specs.declared.answers.PoolTwinError.{PoolTwinError}
-use Rattle.twin_worlds.specs.declared.answers.PoolTwinError.TheVariants as pool_twin
-use Rattle.twin_worlds.specs.Twins.{TwinEnds, PooledTwinEnds, SameWorldEnds}
-use Rattle.twin_worlds.specs.Statements.{FindsTwins, IsHonest, FindsPooledTwins, IsHonestFor, FindsSameWorld, IsHonestText}
-use Rattle.twin_worlds.proofs.HonestLemmas.{honest-have-twins, honest-have-pooled, honest-have-same-world}
-use Rattle.commands.specs.Twins.{TwinBytes, AreReadBy, TwinValues, AreTwinValues, Compared, RefusesFirst, RefusesSecond, TwinRefuses}
-use Rattle.commands.specs.Pooled.{PooledCompared, RefusesPlanFor, PooledRefuses}
-use Rattle.command_words.specs.declared.outcome.Outcome.{Outcome}
-use Rattle.command_words.specs.declared.outcome.Outcome.TheVariants.{Done, NoMemory, BadWords, CannotRead, TooLong, CannotWrite, CannotWritePart, CannotPrint, BadPlan, BadReadings, BadTranscript, BadReport, Impossible, NotInTime, NotThisRun, OtherRow, OtherPlan, OtherLine, OtherPresence, OtherKnown, OtherTotal, OtherComponent, BadLane, NoPartner}
-use Rattle.command_words.specs.declared.known.KnownMeter.{KnownMeter}
-use Rattle.command_words.specs.Known.{is_known, are_in_plan}
-use Rattle.command_words.specs.Words.{TwinNames}
-use Rattle.commands.specs.Calls.{most_bytes, EndsAtFetch, after_fetches, Unread, putting}
-use Rattle.commands.specs.Ends.{compared_by, moved_line, TwinCommandEnds, RingTwinEnds, counted_line, PooledCommandEnds}
-use Rattle.commands.specs.Accepted.{HoldsFile, TwinAccepts, RingTwinAccepts, PooledAccepts}
+use Rattle.command_texts.specs.Lines.{moved_line, counted_line}
+use Rattle.transcript_log.specs.Transcripts.{TranscriptView}
 use Rattle.group_plan.specs.Tables.{ReadingsView}
 use Rattle.transcript_log.specs.Events.{events_of}
 use Rattle.sparse_masks.specs.declared.RingDiffer.{RingDiffer}
 use Rattle.sparse_masks.specs.declared.RingDiffer.TheVariants as ring
-use Rattle.commands.specs.RingIsolation.{AgreeOnRing}
-use Rattle.commands.specs.RingTwins.{RingDisagree, RingDisagreed, RingTwinRefuses, RingUnrecorded, ring_words}
-use Rattle.commands.proofs.CalmLemmas.{read_is, not_longer, ok_or_err, ok_same, IsCalm, puts_calm, unread_calm}
+use Rattle.command_texts.specs.RingIsolation.{AgreeOnRing}
+use Rattle.command_texts.specs.RingTwins.{RingDisagree, RingDisagreed, RingTwinRefuses, RingUnrecorded, ring_words}
+use Rattle.std.specs.Prelude.{codes}
+use Rattle.command_words.specs.declared.known.KnownMeter.{KnownMeter}
+use Rattle.std.proofs.lemmas.Bool.{false≢true}
+use Rattle.command_texts.specs.Pooled.{RefusesPlanFor, PooledCompared, PooledRefuses}
+use Rattle.command_words.specs.Known.{are_in_plan, is_known}
+use Rattle.twin_worlds.specs.declared.answers.PoolTwinError.{PoolTwinError}
+use Rattle.twin_worlds.specs.declared.answers.PoolTwinError.TheVariants as pool_twin
 
 -- ---- `twin`
 
@@ -128,31 +130,16 @@ none_compared names v good error (values, are, ends) known =
     no_cause error known (honest-have-twins (streams good.values.file.keys) good.values.first good.values.second good.bytes.transcript good.lines (Err error) (is_honest names v good) here)
 
 twin_not_refused : (names : TwinNames) (v : View) (good : TwinAccepts names v) (outcome : Outcome) → TwinRefuses names good.bytes outcome → IsCalm outcome
-twin_not_refused names v good Done ends = absurd ends
 twin_not_refused names v good NoMemory ends = inr (inr refl)
-twin_not_refused names v good BadWords ends = absurd ends
-twin_not_refused names v good (CannotRead name) ends = absurd ends
-twin_not_refused names v good (TooLong name) ends = absurd ends
-twin_not_refused names v good (CannotWrite name) ends = absurd ends
-twin_not_refused names v good (CannotWritePart prefix meter file) ends = absurd ends
-twin_not_refused names v good CannotPrint ends = absurd ends
 twin_not_refused names v good (BadPlan name fault) ends = absurd (plan_not_refused good.bytes good.values good.of_bytes fault ends.1)
 twin_not_refused names v good (BadReadings name fault) (inl ends) = absurd (first_not_refused good.bytes good.values good.of_bytes fault ends.1)
 twin_not_refused names v good (BadReadings name fault) (inr ends) = absurd (second_not_refused good.bytes good.values good.of_bytes fault ends.1)
 twin_not_refused names v good (BadTranscript name fault) ends = absurd (none_compared names v good (twin.Transcript fault) ends.1 (λ is. cc))
-twin_not_refused names v good (BadReport name line) ends = absurd ends
-twin_not_refused names v good (Impossible name line) ends = absurd ends
-twin_not_refused names v good (NotInTime name line) ends = absurd ends
-twin_not_refused names v good (NotThisRun name line) ends = absurd ends
-twin_not_refused names v good (OtherRow at from_frames reported) ends = absurd ends
 twin_not_refused names v good (OtherPlan name) ends = absurd (none_compared names v good twin.Head ends.1 (λ is. cc))
 twin_not_refused names v good (OtherLine name line expected) (named, (found, ends)) = absurd (none_compared names v good (twin.NotThis line expected.line found expected.tick expected.fate) ends (λ is. cc))
 twin_not_refused names v good (OtherPresence group round meter) ends = absurd (none_compared names v good (twin.Differ (Presence group round meter)) ends (λ is. cc))
-twin_not_refused names v good (OtherKnown group round meter) ends = absurd ends
 twin_not_refused names v good (OtherTotal group round first second) ends = absurd (none_compared names v good (twin.Differ (Total group round first second)) ends (λ is. cc))
-twin_not_refused names v good (OtherComponent group round least first second) ends = absurd ends
-twin_not_refused names v good (BadLane fault) ends = absurd ends
-twin_not_refused names v good (NoPartner group round meter) ends = absurd ends
+twin_not_refused names v good _ ends = absurd ends
 
 pub twin_calm : (names : TwinNames) (v w : View) (outcome : Outcome) → TwinAccepts names v → TwinCommandEnds names v w outcome → IsCalm outcome
 twin_calm names v w outcome good (inl unread) = four_calm names v w outcome good.bytes (twin_held names v good) unread
@@ -272,32 +259,18 @@ none_pooled known names v good error (values, are, within, ends) free =
     (is_honest_for known names v good) here)
 
 pooled_not_refused : (known : List KnownMeter) (names : TwinNames) (v : View) (good : PooledAccepts known names v) (outcome : Outcome) → PooledRefuses known names good.bytes outcome → IsCalm outcome
-pooled_not_refused known names v good Done ends = absurd ends
 pooled_not_refused known names v good NoMemory ends = inr (inr refl)
-pooled_not_refused known names v good BadWords ends = absurd ends
-pooled_not_refused known names v good (CannotRead name) ends = absurd ends
-pooled_not_refused known names v good (TooLong name) ends = absurd ends
-pooled_not_refused known names v good (CannotWrite name) ends = absurd ends
-pooled_not_refused known names v good (CannotWritePart prefix meter file) ends = absurd ends
-pooled_not_refused known names v good CannotPrint ends = absurd ends
 pooled_not_refused known names v good (BadPlan name fault) ends = absurd (not_outside known names v good fault ends.1)
 pooled_not_refused known names v good (BadReadings name fault) (inl (named, (file, plan, within, bad))) = absurd (first_not_refused good.bytes good.values good.of_bytes fault (file, plan, bad))
 pooled_not_refused known names v good (BadReadings name fault) (inr (named, (file, first, plan, within, is, bad))) =
     absurd (second_not_refused good.bytes good.values good.of_bytes fault (file, first, plan, is, bad))
 pooled_not_refused known names v good (BadTranscript name fault) ends = absurd (none_pooled known names v good (pool_twin.Other (twin.Transcript fault)) ends.1 (λ is. cc))
-pooled_not_refused known names v good (BadReport name line) ends = absurd ends
-pooled_not_refused known names v good (Impossible name line) ends = absurd ends
-pooled_not_refused known names v good (NotInTime name line) ends = absurd ends
-pooled_not_refused known names v good (NotThisRun name line) ends = absurd ends
-pooled_not_refused known names v good (OtherRow at from_frames reported) ends = absurd ends
 pooled_not_refused known names v good (OtherPlan name) ends = absurd (none_pooled known names v good (pool_twin.Other twin.Head) ends.1 (λ is. cc))
 pooled_not_refused known names v good (OtherLine name line expected) (named, (found, ends)) = absurd (none_pooled known names v good (pool_twin.Other (twin.NotThis line expected.line found expected.tick expected.fate)) ends (λ is. cc))
 pooled_not_refused known names v good (OtherPresence group round meter) ends = absurd (none_pooled known names v good (pool_twin.Other (twin.Differ (Presence group round meter))) ends (λ is. cc))
 pooled_not_refused known names v good (OtherKnown group round meter) ends = absurd (none_pooled known names v good (pool_twin.Known group round meter) ends (λ is. cc))
 pooled_not_refused known names v good (OtherTotal group round first second) ends = absurd (none_pooled known names v good (pool_twin.Other (twin.Differ (Total group round first second))) ends (λ is. cc))
-pooled_not_refused known names v good (OtherComponent group round least first second) ends = absurd ends
-pooled_not_refused known names v good (BadLane fault) ends = absurd ends
-pooled_not_refused known names v good (NoPartner group round meter) ends = absurd ends
+pooled_not_refused known names v good _ ends = absurd ends
 
 pub pooled_calm : (known : List KnownMeter) (names : TwinNames) (v w : View) (outcome : Outcome) → PooledAccepts known names v → PooledCommandEnds known names v w outcome → IsCalm outcome
 pooled_calm known names v w outcome good (inl unread) = four_calm names v w outcome good.bytes (pooled_held known names v good) unread

@@ -1,13 +1,14 @@
 -- Ends of commands that are no refusals: of fetches that find what is held, and of puts.
-use Rattle.std.proofs.Common.{◌≡◌, ◌⊎◌, ℕ, false, List, [], ◌∷◌, refl, subst, inl, inr, arith, Result, Ok, Err}
+use Rattle.std.proofs.Common.{◌≡◌, ℕ, List, subst, arith, Result, Ok, Err, ◌⊎◌, refl, inl, inr, [], false, ◌∷◌}
 use Rattle.std.specs.Prelude.{Some}
-use Rattle.desk_outside.specs.Desk.{View, Held, Holds, IsLonger}
-use Rattle.command_words.specs.declared.outcome.Outcome.{Outcome}
-use Rattle.command_words.specs.declared.outcome.Outcome.TheVariants.{Done, NoMemory, BadWords, CannotRead, TooLong, CannotWrite, CannotWritePart, CannotPrint, BadPlan, BadReadings, BadTranscript, BadReport, Impossible, NotInTime, NotThisRun, OtherRow, OtherPlan, OtherLine, OtherPresence, OtherKnown, OtherTotal, OtherComponent, BadLane, NoPartner}
-use Rattle.commands.specs.Calls.{most_bytes, EndsAtFetch, IsRead, Unread, Putting, PutsEnd, names_of, Unwritable}
-use Rattle.command_words.specs.Outcomes.{status_of, IsFault}
+use Rattle.desk_outside.specs.Desk.{Held, Holds, View, IsLonger}
+use Rattle.command_files.specs.Calls.{IsRead, Putting, PutsEnd, names_of, Unwritable, EndsAtFetch, Unread}
 use Rattle.commands.specs.Accepted.{HoldsFile}
-use Rattle.commands.proofs.CommandEndings.{unwritable_puts}
+use Rattle.command_words.specs.Limits.{most_bytes}
+use Rattle.command_words.specs.declared.outcome.Outcome.{Outcome}
+use Rattle.command_words.specs.Outcomes.{status_of, IsFault}
+use Rattle.command_words.specs.declared.outcome.Outcome.TheVariants.{Done, NoMemory, CannotRead, TooLong, CannotWrite, CannotWritePart, CannotPrint}
+use Rattle.command_files.proofs.CallLemmas.{unwritable_puts}
 
 -- ---- what was read
 
@@ -43,28 +44,10 @@ IsCalm outcome = IsFault outcome ⊎ ((status_of outcome ≡ 0) ⊎ (status_of o
 pub puts_calm : (files : List Putting) (line : List ℕ) (v w : View) (outcome : Outcome) → PutsEnd files line v w outcome → IsCalm outcome
 puts_calm files line v w Done ends = inr (inl refl)
 puts_calm files line v w NoMemory ends = inr (inr refl)
-puts_calm files line v w BadWords ends = absurd ends
-puts_calm files line v w (CannotRead name) ends = absurd ends
-puts_calm files line v w (TooLong name) ends = absurd ends
 puts_calm files line v w (CannotWrite name) ends = inl tt
 puts_calm files line v w (CannotWritePart prefix meter file) ends = inl tt
 puts_calm files line v w CannotPrint ends = inl tt
-puts_calm files line v w (BadPlan name fault) ends = absurd ends
-puts_calm files line v w (BadReadings name fault) ends = absurd ends
-puts_calm files line v w (BadTranscript name fault) ends = absurd ends
-puts_calm files line v w (BadReport name number) ends = absurd ends
-puts_calm files line v w (Impossible name number) ends = absurd ends
-puts_calm files line v w (NotInTime name number) ends = absurd ends
-puts_calm files line v w (NotThisRun name number) ends = absurd ends
-puts_calm files line v w (OtherRow at from_frames reported) ends = absurd ends
-puts_calm files line v w (OtherPlan name) ends = absurd ends
-puts_calm files line v w (OtherLine name number expected) ends = absurd ends
-puts_calm files line v w (OtherPresence group round meter) ends = absurd ends
-puts_calm files line v w (OtherKnown group round meter) ends = absurd ends
-puts_calm files line v w (OtherTotal group round first second) ends = absurd ends
-puts_calm files line v w (OtherComponent group round least first second) ends = absurd ends
-puts_calm files line v w (BadLane fault) ends = absurd ends
-puts_calm files line v w (NoPartner group round meter) ends = absurd ends
+puts_calm files line v w _ ends = absurd ends
 
 -- a name that can't be written
 pub unwritable_calm : (files : List Putting) (v w : View) (outcome : Outcome) → Unwritable (names_of files) v w outcome → IsCalm outcome
@@ -73,30 +56,10 @@ unwritable_calm files v w outcome ends = puts_calm files [] v w outcome (unwrita
 -- fetches of which none finds too many bytes
 pub unread_calm : (names : List (List ℕ)) (v w : View) (outcome : Outcome)
     → ((last : List ℕ) → EndsAtFetch names false v w last → IsLonger (v.held last) most_bytes → ⊥) → Unread names v w outcome → IsCalm outcome
-unread_calm names v w Done short ends = absurd ends
 unread_calm names v w NoMemory short ends = inr (inr refl)
-unread_calm names v w BadWords short ends = absurd ends
 unread_calm names v w (CannotRead name) short ends = inl tt
 unread_calm names v w (TooLong name) short ends = absurd (short name.now ends.0 ends.1)
-unread_calm names v w (CannotWrite name) short ends = absurd ends
-unread_calm names v w (CannotWritePart prefix meter file) short ends = absurd ends
-unread_calm names v w CannotPrint short ends = absurd ends
-unread_calm names v w (BadPlan name fault) short ends = absurd ends
-unread_calm names v w (BadReadings name fault) short ends = absurd ends
-unread_calm names v w (BadTranscript name fault) short ends = absurd ends
-unread_calm names v w (BadReport name line) short ends = absurd ends
-unread_calm names v w (Impossible name line) short ends = absurd ends
-unread_calm names v w (NotInTime name line) short ends = absurd ends
-unread_calm names v w (NotThisRun name line) short ends = absurd ends
-unread_calm names v w (OtherRow at from_frames reported) short ends = absurd ends
-unread_calm names v w (OtherPlan name) short ends = absurd ends
-unread_calm names v w (OtherLine name line expected) short ends = absurd ends
-unread_calm names v w (OtherPresence group round meter) short ends = absurd ends
-unread_calm names v w (OtherKnown group round meter) short ends = absurd ends
-unread_calm names v w (OtherTotal group round first second) short ends = absurd ends
-unread_calm names v w (OtherComponent group round least first second) short ends = absurd ends
-unread_calm names v w (BadLane fault) short ends = absurd ends
-unread_calm names v w (NoPartner group round meter) short ends = absurd ends
+unread_calm names v w _ short ends = absurd ends
 
 pub one_is_short : (v w : View) (name told : List ℕ) → HoldsFile v name told → (last : List ℕ) → EndsAtFetch (name ∷ []) false v w last → IsLonger (v.held last) most_bytes → ⊥
 one_is_short v w name told file last (inl here) longer = not_longer v name told last file here.0 longer

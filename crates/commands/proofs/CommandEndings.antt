@@ -1,133 +1,36 @@
 -- How commands end, from how their parts do.
-use Rattle.std.proofs.Common.{◌≡◌, List, [], ◌∷◌, ◌++◌, ℕ, Bool, true, false, length, inl, inr, subst, sym, ap, ◌∙◌, refl, Result, Ok, Err}
-use Rattle.std.specs.Prelude.{Option, Some}
-use Rattle.desk_outside.specs.Desk.{View, IsLonger, Fetched, after_step}
-use Rattle.link_lanes.specs.Fits.{hung_by}
+use Rattle.std.proofs.Common.{List, ℕ, ◌≡◌, inl, inr, [], ◌∷◌, subst, length, sym, ap, ◌∙◌, Ok, refl, Result, Err}
 use Rattle.link_lanes.specs.Lanes.{Meaning}
-use Rattle.transcript_text.specs.declared.version.Version.TheVariants.{One, Two}
-use Rattle.transcript_text.specs.Heads.{read_of}
+use Rattle.command_words.specs.declared.outcome.Outcome.{Outcome}
+use Rattle.command_words.specs.declared.outcome.Outcome.TheVariants.{NoMemory, BadPlan, BadReadings, BadLane}
+use Rattle.command_words.specs.Words.{RunNames, Size, TwinNames}
+use Rattle.commands.specs.Ends.{RunRefuses, fetched_by, RunEndsBy, put_by, ConvertEnds, AuditCommandEnds, made_file_of, made_plan_text, made_readings_text, IsMade, LoadRefuses, LoadEnds, put_where}
+use Rattle.command_texts.specs.Refusals.{FilesRefused}
+use Rattle.desk_outside.specs.Desk.{View}
+use Rattle.command_files.specs.Calls.{IsRead, after_fetches, Unwritable, putting, PutsEnd}
+use Rattle.command_texts.specs.declared.sharing.Sharing.{Sharing}
+use Rattle.command_texts.specs.Runs.{AreValues, Values, Texts, MakesBy, RefusesReadings, Makes, HasValues}
+use Rattle.command_texts.proofs.RunLemmas.{is_only}
+use Rattle.transcript_text.specs.declared.version.Version.TheVariants.{One}
 use Rattle.transcript_log.specs.Transcripts.{TranscriptView}
 use Rattle.transcript_text.specs.ReadBack.{HasText}
 use Rattle.transcript_text.specs.Spelling.{text_of, transcript_text}
-use Rattle.command_words.specs.declared.outcome.Outcome.{Outcome}
-use Rattle.command_words.specs.declared.outcome.Outcome.TheVariants.{Done, NoMemory, BadWords, CannotRead, TooLong, CannotWrite, CannotWritePart, CannotPrint, BadPlan, BadReadings, BadTranscript, BadReport, Impossible, NotInTime, NotThisRun, OtherRow, OtherPlan, OtherLine, OtherPresence, OtherKnown, OtherTotal, OtherComponent, BadLane, NoPartner}
-use Rattle.twin_worlds.specs.declared.rows.MovedRow.{MovedRow}
-use Rattle.twin_worlds.specs.MasksText.{masks_text}
-use Rattle.commands.specs.Twins.{TwinBytes, AreReadBy}
-use Rattle.command_words.specs.Words.{RunNames, TwinNames, Size}
-use Rattle.commands.specs.Calls.{most_bytes, HasFetched, EndsAtFetch, Unread, IsRead, after_fetches, Putting, putting, HasPut, names_of, Unwritable, PutsEnd}
-use Rattle.commands.specs.Ends.{fetched_by, put_by, RunRefuses, RunEndsBy, RefusesReadings, audited_line, AuditCommandEnds, compared_by, counted_line, MovedAreSaid, ComparedEndsAs, made_file_of, made_plan_text, made_readings_text, IsMade, put_where, LoadRefuses, LoadEnds, converted_line, ConvertEnds}
+use Rattle.command_texts.specs.Lines.{converted_line, audited_line, counted_line}
+use Rattle.command_texts.specs.Audits.{AuditRefuses, Audited}
 use Rattle.audit_check.specs.declared.answers.AuditCounts.{AuditCounts}
+use Rattle.load_maker.specs.Made.{made_plan, made_file, made_readings}
 use Rattle.plan_files.specs.declared.fault.FileError.{FileError}
 use Rattle.plan_files.specs.PlanFiles.{plan_of}
 use Rattle.plan_files.specs.Readings.{readings_of}
-use Rattle.load_maker.specs.Made.{made_plan, made_file, made_readings}
 use Rattle.load_maker.specs.MadeFiles.{AreRead}
-use Rattle.commands.specs.Audits.{Audited, ReportRefuses, AuditRefuses}
-use Rattle.commands.specs.declared.sharing.Sharing.{Sharing}
-use Rattle.commands.specs.declared.sharing.Sharing.TheVariants.{WithEach}
-use Rattle.commands.specs.Files.{FilesRefused}
-use Rattle.commands.specs.Runs.{AreValues, HasValues, Texts, Values, MakesBy, Makes}
-use Rattle.commands.proofs.RunLemmas.{is_only}
-
--- ---- fetches
-
--- fetches leave what the names hold
-held_after : (names : List (List ℕ)) (v : View) → (after_fetches names v).held ≡ v.held
-unfolding after_step
-held_after [] v = refl
-held_after (name ∷ names) v = held_after names (after_step v (Fetched name false))
-
-pub read_after : (names : List (List ℕ)) (name bytes : List ℕ) (v u : View) → u ≡ after_fetches names v → IsRead (u.held name) bytes → IsRead (v.held name) bytes
-read_after names name bytes v u after is = subst (λ held. IsRead (held name) bytes) (ap (λ v. v.held) after ∙ held_after names v) is
-
--- what ends the later fetches, ends them all
-some_after : (names more : List (List ℕ)) (v w : View) → HasFetched more (after_fetches names v) w → HasFetched (names ++ more) v w
-some_after [] more v w some = some
-some_after (name ∷ names) more v w some = inr (some_after names more (after_step v (Fetched name false)) w some)
-
-last_after : (names more : List (List ℕ)) (failed : Bool) (v w : View) (last : List ℕ) → EndsAtFetch more failed (after_fetches names v) w last
-    → EndsAtFetch (names ++ more) failed v w last
-last_after [] more failed v w last ends = ends
-last_after (name ∷ names) more failed v w last ends = inr (last_after names more failed (after_step v (Fetched name false)) w last ends)
-
-pub then_unread : (names more : List (List ℕ)) (v u w : View) (outcome : Outcome) → u ≡ after_fetches names v → Unread more u w outcome
-    → Unread (names ++ more) v w outcome
-then_unread names more v u w Done after ends = absurd ends
-then_unread names more v u w NoMemory after ends = some_after names more v w (subst (λ u. HasFetched more u w) after ends)
-then_unread names more v u w BadWords after ends = absurd ends
-then_unread names more v u w (CannotRead name) after ends = last_after names more true v w name.now (subst (λ u. EndsAtFetch more true u w name.now) after ends)
-then_unread names more v u w (TooLong name) after ends = (
-  last_after names more false v w name.now (subst (λ u. EndsAtFetch more false u w name.now) after ends.0),
-  subst (λ held. IsLonger (held name.now) most_bytes) (ap (λ v. v.held) after ∙ held_after names v) ends.1,
-)
-then_unread names more v u w (CannotWrite name) after ends = absurd ends
-then_unread names more v u w (CannotWritePart prefix meter file) after ends = absurd ends
-then_unread names more v u w CannotPrint after ends = absurd ends
-then_unread names more v u w (BadPlan name fault) after ends = absurd ends
-then_unread names more v u w (BadReadings name fault) after ends = absurd ends
-then_unread names more v u w (BadTranscript name fault) after ends = absurd ends
-then_unread names more v u w (BadReport name line) after ends = absurd ends
-then_unread names more v u w (Impossible name line) after ends = absurd ends
-then_unread names more v u w (NotInTime name line) after ends = absurd ends
-then_unread names more v u w (NotThisRun name line) after ends = absurd ends
-then_unread names more v u w (OtherRow at from_frames reported) after ends = absurd ends
-then_unread names more v u w (OtherPlan name) after ends = absurd ends
-then_unread names more v u w (OtherLine name line expected) after ends = absurd ends
-then_unread names more v u w (OtherPresence group round meter) after ends = absurd ends
-then_unread names more v u w (OtherKnown group round meter) after ends = absurd ends
-then_unread names more v u w (OtherTotal group round first second) after ends = absurd ends
-then_unread names more v u w (OtherComponent group round least first second) after ends = absurd ends
-then_unread names more v u w (BadLane fault) after ends = absurd ends
-then_unread names more v u w (NoPartner group round meter) after ends = absurd ends
-
--- two files were read, one after the other
-pub two_read : (first second : List ℕ) (v u w : View) (one two : List ℕ) → IsRead (v.held first) one → u ≡ after_fetches (first ∷ []) v
-    → IsRead (u.held second) two → w ≡ after_fetches (second ∷ []) u
-    → IsRead (v.held first) one × IsRead (v.held second) two × (w ≡ after_fetches (first ∷ second ∷ []) v)
-two_read first second v u w one two first_read after second_read end =
-    (first_read, read_after (first ∷ []) second two v u after second_read, end ∙ ap (after_fetches (second ∷ [])) after)
-
--- ---- puts
-
--- nothing was put
-has_put_none : (files : List Putting) (v w : View) → w ≡ v → HasPut files v w
-has_put_none [] v w same = same
-has_put_none (p ∷ ps) v w same = inl same
-
--- a name can't be written, so no file was put
-pub unwritable_puts : (files : List Putting) (line : List ℕ) (v w : View) (outcome : Outcome) → Unwritable (names_of files) v w outcome → PutsEnd files line v w outcome
-unwritable_puts files line v w Done ends = absurd ends
-unwritable_puts files line v w NoMemory ends = has_put_none files v w ends
-unwritable_puts files line v w BadWords ends = absurd ends
-unwritable_puts files line v w (CannotRead name) ends = absurd ends
-unwritable_puts files line v w (TooLong name) ends = absurd ends
-unwritable_puts files line v w (CannotWrite name) ends = inr ends
-unwritable_puts files line v w (CannotWritePart prefix meter file) ends = absurd ends
-unwritable_puts files line v w CannotPrint ends = absurd ends
-unwritable_puts files line v w (BadPlan name fault) ends = absurd ends
-unwritable_puts files line v w (BadReadings name fault) ends = absurd ends
-unwritable_puts files line v w (BadTranscript name fault) ends = absurd ends
-unwritable_puts files line v w (BadReport name number) ends = absurd ends
-unwritable_puts files line v w (Impossible name number) ends = absurd ends
-unwritable_puts files line v w (NotInTime name number) ends = absurd ends
-unwritable_puts files line v w (NotThisRun name number) ends = absurd ends
-unwritable_puts files line v w (OtherRow at from_frames reported) ends = absurd ends
-unwritable_puts files line v w (OtherPlan name) ends = absurd ends
-unwritable_puts files line v w (OtherLine name number expected) ends = absurd ends
-unwritable_puts files line v w (OtherPresence group round meter) ends = absurd ends
-unwritable_puts files line v w (OtherKnown group round meter) ends = absurd ends
-unwritable_puts files line v w (OtherTotal group round first second) ends = absurd ends
-unwritable_puts files line v w (OtherComponent group round least first second) ends = absurd ends
-unwritable_puts files line v w (BadLane fault) ends = absurd ends
-unwritable_puts files line v w (NoPartner group round meter) ends = absurd ends
-
--- two files are put under their names
-pub puts_named : (n m first second one two line : List ℕ) (v w : View) (outcome : Outcome) → n ≡ first → m ≡ second
-    → PutsEnd (putting n one ∷ putting m two ∷ []) line v w outcome → PutsEnd (putting first one ∷ putting second two ∷ []) line v w outcome
-puts_named n m first second one two line v w outcome n_is m_is ends =
-    subst (λ name. PutsEnd (putting first one ∷ putting name two ∷ []) line v w outcome) m_is
-    (subst (λ name. PutsEnd (putting name one ∷ putting m two ∷ []) line v w outcome) n_is ends)
+use Rattle.link_lanes.specs.Fits.{hung_by}
+use Rattle.std.specs.Prelude.{Option, Some}
+use Rattle.command_texts.specs.declared.sharing.Sharing.TheVariants.{WithEach}
+use Rattle.commands.specs.TwinEnds.{AreReadBy, compared_by, MovedAreSaid, ComparedEndsAs}
+use Rattle.command_files.proofs.CallLemmas.{read_after}
+use Rattle.twin_worlds.specs.declared.rows.MovedRow.{MovedRow}
+use Rattle.twin_worlds.specs.MasksText.{masks_text}
+use Rattle.command_texts.specs.Twins.{TwinBytes}
 
 -- ---- `run`, `convert`, `audit` and `load`
 
@@ -195,12 +98,6 @@ audit_refused transcript report v w outcome tb rb given other t_read r_read afte
     subst (λ bytes. AuditRefuses transcript report tb bytes outcome) other_is (subst (λ bytes. AuditRefuses transcript report bytes other outcome) given_is refused)
     in
     inr (tb, rb, t_read, r_read, inl (here, after))
-
--- the report's text is refused, where the transcript's is read
-pub report_refused : (transcript report tb rb : List ℕ) (t : TranscriptView) (outcome : Outcome) → read_of Two tb ≡ Ok t → ReportRefuses report rb outcome → AuditRefuses transcript report tb rb outcome
-report_refused transcript report tb rb t (BadReport name line) is refused = (refused.0, (t, is, refused.1))
-report_refused transcript report tb rb t NoMemory is refused = tt
-report_refused transcript report tb rb t _ is refused = absurd refused
 
 -- a report is confirmed
 pub audit_ends : (transcript report : List ℕ) (v u w : View) (counts : AuditCounts) (outcome : Outcome) (tb rb given other line : List ℕ)

@@ -1,17 +1,17 @@
 -- Boxes of lanes that are put into a cupboard.
-use Rattle.std.proofs.Common.{◌≡◌, ℕ, ◌+◌, List, Option, [], ◌∷◌, ◌++◌, ◌∙◌, ap, sym, subst, refl, map, replicate, None}
-use Rattle.std.proofs.lemmas.List.{map-append, append_assoc}
-use Rattle.std.proofs.lemmas.Grind.{replicate_next}
+use Rattle.std.proofs.Common.{◌≡◌, refl, ℕ, ◌+◌, List, [], ◌∷◌, ◌++◌, ◌∙◌, ap, sym, map, replicate, None, Option, subst}
 use denote.Param.Object.{read_made}
 use denote.Param.Table.{Table}
 use Rattle.link_lanes.specs.declared.lane.Lane.{Ghosts}
-use Rattle.link_lanes.specs.Kinds.{clear_by, rules_by, seeded_by, every_by, burst_by}
 use Rattle.link_lanes.specs.Lanes.{Meaning}
-use Rattle.desk_outside.specs.Desk.{View}
-use Rattle.command_words.specs.Words.{Command}
-use Rattle.commands.specs.Accepted.{AcceptedIsDone}
-use Rattle.commands.specs.Promise.{EndsAndTells}
+use Rattle.std.proofs.lemmas.List.{map-append, append_assoc}
+use Rattle.std.proofs.lemmas.Grind.{replicate_next}
+use Rattle.link_lanes.specs.Kinds.{clear_by, rules_by, seeded_by, every_by, burst_by}
 use Rattle.commands.specs.Cupboard.{four, full_cupboard}
+use Rattle.command_words.specs.Words.{Command}
+use Rattle.commands.specs.Outside.{OutsideView}
+use Rattle.commands.specs.Promise.{EndsAndTells}
+use Rattle.commands.specs.Accepted.{AcceptedIsDone}
 
 -- a box means what the lane means of which it was made: the two are of one type, and alike in it
 pub boxed : {C : Type 0} (T : Table Ghosts C) (i at : T.I) → i ≡ at → (y : (T.entry i).0.Denot) (x : (T.entry at).0.Denot) →
@@ -34,13 +34,13 @@ full : (lanes : List Meaning) (n : ℕ) → lanes ≡ filled n → n ≡ 4 → l
 full lanes n so_far whole = so_far ∙ ap filled whole
 
 -- the end of a command with these lanes is its end with the full cupboard
-pub ends_with_full : (lanes : List Meaning) (n : ℕ) (asked : Option Command) (v w : View) (before now status : ℕ) → lanes ≡ filled n → n ≡ 4 →
-    EndsAndTells lanes asked v w before now status → EndsAndTells full_cupboard asked v w before now status
-ends_with_full lanes n asked v w before now status so_far whole =
-    subst (λ cupboard. EndsAndTells cupboard asked v w before now status) (full lanes n so_far whole)
+pub ends_with_full : (lanes : List Meaning) (n : ℕ) (asked : Option Command) (o p : OutsideView) (before now status : ℕ) → lanes ≡ filled n → n ≡ 4 →
+    EndsAndTells lanes asked o p before now status → EndsAndTells full_cupboard asked o p before now status
+ends_with_full lanes n asked o p before now status so_far whole =
+    subst (λ cupboard. EndsAndTells cupboard asked o p before now status) (full lanes n so_far whole)
 
 -- a command that is done with these lanes is done with the full cupboard
-pub done_with_full : (lanes : List Meaning) (n : ℕ) (asked : Option Command) (v : View) (before now status : ℕ) → lanes ≡ filled n → n ≡ 4 →
-    AcceptedIsDone lanes asked v before now status → AcceptedIsDone full_cupboard asked v before now status
-done_with_full lanes n asked v before now status so_far whole =
-    subst (λ cupboard. AcceptedIsDone cupboard asked v before now status) (full lanes n so_far whole)
+pub done_with_full : (lanes : List Meaning) (n : ℕ) (asked : Option Command) (o p : OutsideView) (before now status : ℕ) → lanes ≡ filled n → n ≡ 4 →
+    AcceptedIsDone lanes asked o p before now status → AcceptedIsDone full_cupboard asked o p before now status
+done_with_full lanes n asked o p before now status so_far whole =
+    subst (λ cupboard. AcceptedIsDone cupboard asked o p before now status) (full lanes n so_far whole)

@@ -1,23 +1,18 @@
-mod AheadLemmas
-mod CalmLemmas
-mod AcceptedTwins
-mod AcceptedResume
-mod ResumeLemmas
+pub mod CommandEndings
+pub mod RegisterEndings
+pub mod ResumeEndings
+pub mod TwinEndings
+pub mod PublicEndings
+pub mod PartsLemmas
+pub mod BillingEndings
+pub mod InspectEndings
+pub mod CalmLemmas
+pub mod RoleEndings
+pub mod AcceptedRoles
+pub mod AcceptedResume
+pub mod AcceptedTwins
 pub mod AcceptedLemmas
-mod BillingLemmas
-mod CommandEndings
-mod CupboardLemmas
-pub mod InspectedRuns
-mod InspectLemmas
-mod MadePlanLemmas
-mod PublicLemmas
-mod PartsLemmas
-pub mod RegisterLemmas
-mod RingLemmas
-mod RingTwinLemmas
-pub mod RunLemmas
-pub mod StoredLemmas
-mod StreamLemmas
-mod TwinLemmas
-mod CommitLemmas
 pub mod ComplaintLemmas
+pub mod WordsLemmas
+pub mod CupboardLemmas
+pub mod MadePlanLemmas

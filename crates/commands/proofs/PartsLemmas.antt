@@ -1,27 +1,28 @@
 -- The files of meters are put, or the plan is refused.
-use Rattle.std.proofs.Common.{◌≡◌, ◌∙◌, ◌⊎◌, ℕ, List, [], ◌∷◌, refl, sym, ap, subst, append-nil, inl, inr, Ok, Err}
-use Rattle.std.specs.Prelude.{true, false, nat_lt, length, map}
+use Rattle.std.proofs.Common.{◌≡◌, List, [], refl, ℕ, sym, append-nil, inl, inr, subst, ◌∷◌, ◌∙◌, ap, Ok, ◌⊎◌, Err}
+use Rattle.std.specs.Prelude.{length, map, false, nat_lt, true}
 use Rattle.std.proofs.lemmas.List.{length-map}
 use Rattle.group_plan.specs.NewPlans.{stated}
 use Rattle.group_plan.specs.Plans.{Group, size}
+use Rattle.desk_outside.specs.Desk.{View, Step, after_steps}
+use Rattle.meter_files.specs.Putting.{PutsSome, IsFree, files_below}
+use Rattle.std.specs.List.{All}
+use Rattle.command_words.specs.declared.outcome.Outcome.{Outcome}
+use Rattle.command_words.specs.declared.outcome.Outcome.TheVariants.{Done, NoMemory, CannotWrite, CannotWritePart, CannotPrint, BadPlan}
+use Rattle.command_files.specs.Calls.{PutsEnd, IsRead, after_fetches}
+use Rattle.commands.specs.PartsEnds.{FilesPut, PartsRefuses, PartsEnds, PartsPut}
+use Rattle.command_texts.specs.Refusals.{PublicRefuses}
 use Rattle.std.specs.Borrow.{Bor}
-use Rattle.meter_files.specs.Names.{names_below}
-use Rattle.std.proofs.lemmas.Bool.{false≢true}
 use Rattle.pair_keys.specs.declared.KeyError.TheVariants.{Range}
 use Rattle.plan_files.specs.Faults.{in_row}
 use Rattle.plan_files.specs.declared.fault.FileCause.TheVariants.{Key}
-use Rattle.plan_files.specs.declared.fault.FileError.{FileError}
-use Rattle.std.specs.List.{All}
-use Rattle.desk_outside.specs.Desk.{View, Step, after_steps}
 use Rattle.plan_files.specs.PlanFiles.{PlanFileView, plan_of}
-use Rattle.meter_files.specs.Putting.{IsFree, PutsSome, files_below}
-use Rattle.command_words.specs.declared.outcome.Outcome.{Outcome}
-use Rattle.command_words.specs.declared.outcome.Outcome.TheVariants.{Done, NoMemory, BadWords, CannotRead, TooLong, CannotWrite, CannotWritePart, CannotPrint, BadPlan, BadReadings, BadTranscript, BadReport, Impossible, NotInTime, NotThisRun, OtherRow, OtherPlan, OtherLine, OtherPresence, OtherKnown, OtherTotal, OtherComponent, BadLane, NoPartner}
+use Rattle.commands.proofs.CalmLemmas.{IsCalm, ok_or_err, ok_same, read_is, one_is_short, unread_calm}
+use Rattle.std.proofs.lemmas.Bool.{false≢true}
+use Rattle.plan_files.specs.declared.fault.FileError.{FileError}
 use Rattle.commands.specs.Accepted.{PartsAccepts}
-use Rattle.commands.specs.Calls.{IsRead, after_fetches, PutsEnd}
-use Rattle.commands.specs.Ends.{PublicRefuses}
-use Rattle.commands.specs.PartsEnds.{parts_line, FilesPut, PartsPut, PartsRefuses, PartsEnds}
-use Rattle.commands.proofs.CalmLemmas.{IsCalm, ok_or_err, ok_same, one_is_short, read_is, unread_calm}
+use Rattle.meter_files.specs.Names.{names_below}
+use Rattle.command_texts.specs.Lines.{parts_line}
 
 pub groups_counted : (groups : List Group) → length (map stated groups) ≡ length groups
 groups_counted groups = length-map groups stated
@@ -35,28 +36,9 @@ said_by : (prefix : List ℕ) (names : List (List ℕ)) (files : List Step) (lin
     → FilesPut prefix names files line v w outcome
 said_by prefix names files line v w Done free ends = (free, ends)
 said_by prefix names files line v w NoMemory free ends = record { front = files; rest = []; split = sym (append-nil files); left = ends }
-said_by prefix names files line v w BadWords free ends = absurd ends
-said_by prefix names files line v w (CannotRead name) free ends = absurd ends
-said_by prefix names files line v w (TooLong name) free ends = absurd ends
 said_by prefix names files line v w (CannotWrite name) free ends = elim ends [ inl h ↦ absurd h | inr h ↦ absurd h.0 ]
-said_by prefix names files line v w (CannotWritePart before i file) free ends = absurd ends
 said_by prefix names files line v w CannotPrint free ends = (free, ends)
-said_by prefix names files line v w (BadPlan name fault) free ends = absurd ends
-said_by prefix names files line v w (BadReadings name fault) free ends = absurd ends
-said_by prefix names files line v w (BadTranscript name fault) free ends = absurd ends
-said_by prefix names files line v w (BadReport name number) free ends = absurd ends
-said_by prefix names files line v w (Impossible name number) free ends = absurd ends
-said_by prefix names files line v w (NotInTime name number) free ends = absurd ends
-said_by prefix names files line v w (NotThisRun name number) free ends = absurd ends
-said_by prefix names files line v w (OtherRow at from_frames reported) free ends = absurd ends
-said_by prefix names files line v w (OtherPlan name) free ends = absurd ends
-said_by prefix names files line v w (OtherLine name number expected) free ends = absurd ends
-said_by prefix names files line v w (OtherPresence group round meter) free ends = absurd ends
-said_by prefix names files line v w (OtherKnown group round meter) free ends = absurd ends
-said_by prefix names files line v w (OtherTotal group round first second) free ends = absurd ends
-said_by prefix names files line v w (OtherComponent group round least first second) free ends = absurd ends
-said_by prefix names files line v w (BadLane fault) free ends = absurd ends
-said_by prefix names files line v w (NoPartner group round meter) free ends = absurd ends
+said_by prefix names files line v w _ free ends = absurd ends
 
 -- the line is said behind files that are put
 pub line_said : (prefix : List ℕ) (names : List (List ℕ)) (files : List Step) (line given : List ℕ) (v u w : View) (outcome : Outcome) → All (IsFree v) names → u ≡ after_steps v files → given ≡ line
@@ -66,30 +48,9 @@ line_said prefix names files line given v u w outcome free put line_is ends =
 
 -- a plan file that is refused
 pub plan_refused : (plan : List ℕ) (g : ℕ) (bytes : List ℕ) (outcome : Outcome) → PublicRefuses plan bytes outcome → PartsRefuses plan g bytes outcome
-plan_refused plan g bytes Done ends = absurd ends
 plan_refused plan g bytes NoMemory ends = tt
-plan_refused plan g bytes BadWords ends = absurd ends
-plan_refused plan g bytes (CannotRead name) ends = absurd ends
-plan_refused plan g bytes (TooLong name) ends = absurd ends
-plan_refused plan g bytes (CannotWrite name) ends = absurd ends
-plan_refused plan g bytes (CannotWritePart before i file) ends = absurd ends
-plan_refused plan g bytes CannotPrint ends = absurd ends
 plan_refused plan g bytes (BadPlan name fault) ends = (ends.0, inl ends.1)
-plan_refused plan g bytes (BadReadings name fault) ends = absurd ends
-plan_refused plan g bytes (BadTranscript name fault) ends = absurd ends
-plan_refused plan g bytes (BadReport name number) ends = absurd ends
-plan_refused plan g bytes (Impossible name number) ends = absurd ends
-plan_refused plan g bytes (NotInTime name number) ends = absurd ends
-plan_refused plan g bytes (NotThisRun name number) ends = absurd ends
-plan_refused plan g bytes (OtherRow at from_frames reported) ends = absurd ends
-plan_refused plan g bytes (OtherPlan name) ends = absurd ends
-plan_refused plan g bytes (OtherLine name number expected) ends = absurd ends
-plan_refused plan g bytes (OtherPresence group round meter) ends = absurd ends
-plan_refused plan g bytes (OtherKnown group round meter) ends = absurd ends
-plan_refused plan g bytes (OtherTotal group round first second) ends = absurd ends
-plan_refused plan g bytes (OtherComponent group round least first second) ends = absurd ends
-plan_refused plan g bytes (BadLane fault) ends = absurd ends
-plan_refused plan g bytes (NoPartner group round meter) ends = absurd ends
+plan_refused plan g bytes _ ends = absurd ends
 
 -- how the command ends, where the plan is refused
 pub parts_refused : (plan : List ℕ) (g : ℕ) (prefix : List ℕ) (v w : View) (outcome : Outcome) (bytes given : List ℕ) → IsRead (v.held plan) bytes → w ≡ after_fetches (plan ∷ []) v → given ≡ bytes
@@ -115,28 +76,9 @@ parts_ends plan g prefix v u w outcome file bytes given is after given_is value 
 files_calm : (prefix : List ℕ) (names : List (List ℕ)) (files : List Step) (line : List ℕ) (v w : View) (outcome : Outcome) → FilesPut prefix names files line v w outcome → IsCalm outcome
 files_calm prefix names files line v w Done ends = inr (inl refl)
 files_calm prefix names files line v w NoMemory ends = inr (inr refl)
-files_calm prefix names files line v w BadWords ends = absurd ends
-files_calm prefix names files line v w (CannotRead name) ends = absurd ends
-files_calm prefix names files line v w (TooLong name) ends = absurd ends
-files_calm prefix names files line v w (CannotWrite name) ends = absurd ends
 files_calm prefix names files line v w (CannotWritePart before i file) ends = inl tt
 files_calm prefix names files line v w CannotPrint ends = inl tt
-files_calm prefix names files line v w (BadPlan name fault) ends = absurd ends
-files_calm prefix names files line v w (BadReadings name fault) ends = absurd ends
-files_calm prefix names files line v w (BadTranscript name fault) ends = absurd ends
-files_calm prefix names files line v w (BadReport name number) ends = absurd ends
-files_calm prefix names files line v w (Impossible name number) ends = absurd ends
-files_calm prefix names files line v w (NotInTime name number) ends = absurd ends
-files_calm prefix names files line v w (NotThisRun name number) ends = absurd ends
-files_calm prefix names files line v w (OtherRow at from_frames reported) ends = absurd ends
-files_calm prefix names files line v w (OtherPlan name) ends = absurd ends
-files_calm prefix names files line v w (OtherLine name number expected) ends = absurd ends
-files_calm prefix names files line v w (OtherPresence group round meter) ends = absurd ends
-files_calm prefix names files line v w (OtherKnown group round meter) ends = absurd ends
-files_calm prefix names files line v w (OtherTotal group round first second) ends = absurd ends
-files_calm prefix names files line v w (OtherComponent group round least first second) ends = absurd ends
-files_calm prefix names files line v w (BadLane fault) ends = absurd ends
-files_calm prefix names files line v w (NoPartner group round meter) ends = absurd ends
+files_calm prefix names files line v w _ ends = absurd ends
 
 -- an accepted plan has no fault
 no_fault : (plan : List ℕ) (g : ℕ) (v : View) (bytes : List ℕ) (fault : FileError) → PartsAccepts plan g v → IsRead (v.held plan) bytes
@@ -147,30 +89,9 @@ no_fault plan g v bytes fault good is (inr (file, value, outside, fault_is)) =
     false≢true (sym outside ∙ ap (λ (f : PlanFileView). nat_lt g (length f.plan.groups)) (sym same) ∙ good.group)
 
 not_refused : (plan : List ℕ) (g : ℕ) (v : View) (bytes : List ℕ) (outcome : Outcome) → PartsAccepts plan g v → IsRead (v.held plan) bytes → PartsRefuses plan g bytes outcome → IsCalm outcome
-not_refused plan g v bytes Done good is ends = absurd ends
 not_refused plan g v bytes NoMemory good is ends = inr (inr refl)
-not_refused plan g v bytes BadWords good is ends = absurd ends
-not_refused plan g v bytes (CannotRead name) good is ends = absurd ends
-not_refused plan g v bytes (TooLong name) good is ends = absurd ends
-not_refused plan g v bytes (CannotWrite name) good is ends = absurd ends
-not_refused plan g v bytes (CannotWritePart before i file) good is ends = absurd ends
-not_refused plan g v bytes CannotPrint good is ends = absurd ends
 not_refused plan g v bytes (BadPlan name fault) good is ends = absurd (no_fault plan g v bytes fault good is ends.1)
-not_refused plan g v bytes (BadReadings name fault) good is ends = absurd ends
-not_refused plan g v bytes (BadTranscript name fault) good is ends = absurd ends
-not_refused plan g v bytes (BadReport name number) good is ends = absurd ends
-not_refused plan g v bytes (Impossible name number) good is ends = absurd ends
-not_refused plan g v bytes (NotInTime name number) good is ends = absurd ends
-not_refused plan g v bytes (NotThisRun name number) good is ends = absurd ends
-not_refused plan g v bytes (OtherRow at from_frames reported) good is ends = absurd ends
-not_refused plan g v bytes (OtherPlan name) good is ends = absurd ends
-not_refused plan g v bytes (OtherLine name number expected) good is ends = absurd ends
-not_refused plan g v bytes (OtherPresence group round meter) good is ends = absurd ends
-not_refused plan g v bytes (OtherKnown group round meter) good is ends = absurd ends
-not_refused plan g v bytes (OtherTotal group round first second) good is ends = absurd ends
-not_refused plan g v bytes (OtherComponent group round least first second) good is ends = absurd ends
-not_refused plan g v bytes (BadLane fault) good is ends = absurd ends
-not_refused plan g v bytes (NoPartner group round meter) good is ends = absurd ends
+not_refused plan g v bytes _ good is ends = absurd ends
 
 -- `parts` of an accepted plan is done, or finds no memory, or a fault of the desk
 pub parts_calm : (plan : List ℕ) (g : ℕ) (prefix : List ℕ) (v w : View) (outcome : Outcome) → PartsAccepts plan g v → PartsEnds plan g prefix v w outcome → IsCalm outcome

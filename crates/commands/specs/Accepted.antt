@@ -1,43 +1,56 @@
 -- What is enough for a command to be done.
-use Rattle.std.specs.Prelude.{◌≡◌, ◌≤◌, ◌⊎◌, ℕ, nat_lt, true, List, length, reverse, Option, Some, Ok}
-use Rattle.desk_outside.specs.Desk.{View, Rose}
+use Rattle.std.specs.Prelude.{◌≡◌, ◌≤◌, ℕ, min, List, [], length, take, Some, Ok, reverse, true, nat_lt, ◌⊎◌, Option, ⊤}
+use Rattle.desk_outside.specs.Desk.{View}
+use Rattle.desk_outside.specs.Wire.{Source, WireView}
+use Rattle.group_plan.specs.Plans.{PlanView}
+use Rattle.meter_apart.specs.declared.keys.MeterKeys.{MeterKeys}
+use Rattle.meter_apart.specs.Keys.{part_of as part_with}
+use Rattle.meter_files.specs.PartFiles.{MeterFileView, part_of}
+use Rattle.apart_lines.specs.declared.heads.HeadFound.{HeadFound}
+use Rattle.apart_lines.specs.declared.heads.HeadFound.TheVariants.{Whole, Begun, Other}
+use Rattle.apart_lines.specs.Heads.{head_found, journal_head, meter_journal_head}
+use Rattle.apart_roles.specs.Inputs.{AreNext, Came, ComesTo, are_lines}
+use Rattle.apart_roles.specs.HeadEndStarts.{follow_logged}
+use Rattle.apart_roles.specs.MeterStarts.{follow_noted}
+use Rattle.role_commands.specs.MeterEnds.{AreKeysOf}
+use Rattle.command_words.specs.Limits.{most_bytes}
 use Rattle.link_lanes.specs.Lanes.{Meaning, Slot}
-use Rattle.link_lanes.specs.Fits.{hung_by}
+use Rattle.command_words.specs.Words.{CollectNames, RunNames, ResumeNames, RegisterNames, TwinNames, Size, InspectNames, BillNames, HideNames, Command, Run, Ring, Audit, Twin, RingTwin, Pooled, Make, Load, Convert, Public, Parts, Collect, Meter, Help, Version, Bill, Hide, Inspect, Registers, Resume}
+use Rattle.command_texts.specs.Runs.{Values, AreValues, plan_in}
+use Rattle.transcript_log.specs.Transcripts.{TranscriptView}
+use Rattle.mask_stream.specs.KeyStreams.{streams}
+use Rattle.cut_resume.specs.OnCourse.{OnCourse}
+use Rattle.command_texts.specs.ResumeRuns.{ResumeBytes, IsCutOf}
+use Rattle.command_texts.specs.RegisterRuns.{RegisterValues, AreRegisterValues}
 use Rattle.transcript_log.specs.Frames.{IsPossible}
 use Rattle.totals_report.specs.Reading.{rows_of_text}
 use Rattle.totals_report.specs.declared.row.ReportRow.{ReportRow}
 use Rattle.audit_check.specs.Audits.{lines_in, rows_by_frames}
-use Rattle.transcript_text.specs.declared.version.Version.TheVariants.{One, Two}
-use Rattle.transcript_log.specs.Transcripts.{TranscriptView}
+use Rattle.transcript_text.specs.declared.version.Version.TheVariants.{Two, One}
 use Rattle.transcript_text.specs.Heads.{read_of}
-use Rattle.transcript_text.specs.ReadBack.{HasText}
-use Rattle.transcript_text.specs.Spelling.{text_of}
 use Rattle.group_plan.specs.Tables.{reading}
-use Rattle.mask_stream.specs.KeyStreams.{streams}
 use Rattle.transcript_log.specs.Events.{events_of}
-use Rattle.ideal_masks.specs.Offsets.{AgreeFor, Agree}
+use Rattle.ideal_masks.specs.Offsets.{Agree, AgreeFor}
 use Rattle.twin_worlds.specs.Twins.{IsRecord}
-use Rattle.plan_files.specs.PlanFiles.{PlanFileView, plan_of, public_of}
-use Rattle.run_course.specs.Beginnings.{IsSomeRun}
+use Rattle.command_texts.specs.Twins.{TwinBytes, TwinValues, AreTwinValues}
+use Rattle.command_texts.specs.RingIsolation.{AgreeOnRing}
+use Rattle.command_texts.specs.RingTwins.{ring_words}
 use Rattle.command_words.specs.declared.known.KnownMeter.{KnownMeter}
 use Rattle.command_words.specs.Known.{is_known, are_in_plan}
-use Rattle.command_words.specs.Words.{RunNames, TwinNames, Size, Command, Run, Ring, Audit, Twin, RingTwin, Pooled, Make, Load, Convert, Public, Parts, Help, Version, BillNames, HideNames, Bill, Hide, InspectNames, Inspect, Registers, RegisterNames, Resume, ResumeNames}
+use Rattle.link_lanes.specs.Fits.{hung_by}
+use Rattle.commands.specs.Ends.{made_file_of}
+use Rattle.commands.specs.Outside.{OutsideView, FaultsRose}
+use Rattle.transcript_text.specs.ReadBack.{HasText}
+use Rattle.transcript_text.specs.Spelling.{text_of}
+use Rattle.plan_files.specs.PlanFiles.{PlanFileView, plan_of, public_of}
+use Rattle.run_course.specs.Beginnings.{IsSomeRun}
+use Rattle.command_texts.specs.Inspecting.{InspectBytes}
+use Rattle.command_texts.specs.Billing.{Metered, AreMetered, HideBytes, IsTextIn}
 use Rattle.command_words.specs.declared.words.Period.{Period}
 use Rattle.command_words.specs.declared.words.Place.{Place}
 use Rattle.billing_read.specs.declared.partners.Partner.{Partner}
 use Rattle.billing_read.specs.Partners.{IsPartner}
 use Rattle.transcript_log.specs.Transcript.{shape_of_readings}
-use Rattle.cut_resume.specs.OnCourse.{OnCourse}
-use Rattle.commands.specs.Billing.{Metered, AreMetered, HideBytes, IsTextIn}
-use Rattle.commands.specs.Calls.{most_bytes}
-use Rattle.commands.specs.Ends.{made_file_of}
-use Rattle.commands.specs.Inspecting.{InspectBytes}
-use Rattle.commands.specs.Twins.{TwinBytes, TwinValues, AreTwinValues}
-use Rattle.commands.specs.RegisterRuns.{RegisterValues, AreRegisterValues}
-use Rattle.commands.specs.RingIsolation.{AgreeOnRing}
-use Rattle.commands.specs.RingTwins.{ring_words}
-use Rattle.commands.specs.ResumeRuns.{ResumeBytes, IsCutOf}
-use Rattle.commands.specs.Runs.{plan_in, Values, AreValues}
 
 -- the desk tells that the name holds these bytes, and they are not too many
 pub record HoldsFile (v : View) (name bytes : List ℕ) : Type 0 where
@@ -196,28 +209,70 @@ pub record HideAccepts (names : HideNames) (period : Period) (place : Place) (v 
   pub partner : Partner
   pub is_partner : IsPartner (shape_of_readings values.readings.plan.groups (reading values.readings.table)) (reading values.readings.table) (reverse (events_of lines.entries)) period.from period.until place.group place.round place.meter partner
 
--- the files that a command fetches are accepted
-abbrev pub Accepts : List Meaning → Command → View → Type 0
-Accepts cupboard (Run names workers) v = RunAccepts cupboard names v
-Accepts cupboard (Ring width names workers) v = RunAccepts cupboard names v
-Accepts cupboard (Resume names workers) v = ResumeAccepts cupboard names v
-Accepts cupboard (Registers count names workers) v = RegistersAccept cupboard count names v
-Accepts cupboard (Audit transcript report) v = AuditAccepts transcript report v
-Accepts cupboard (Twin names) v = TwinAccepts names v
-Accepts cupboard (RingTwin width names) v = RingTwinAccepts width names v
-Accepts cupboard (Pooled known names) v = PooledAccepts known names v
-Accepts cupboard (Make size plan readings) v = Unit {0}
-Accepts cupboard (Load size workers transcript) v = LoadAccepts cupboard size
-Accepts cupboard (Convert old transcript) v = ConvertAccepts old v
-Accepts cupboard (Public plan public) v = PublicAccepts plan v
-Accepts cupboard (Parts plan g prefix) v = PartsAccepts plan g v
-Accepts cupboard (Inspect names) v = InspectAccepts names v
-Accepts cupboard (Bill names period) v = BillAccepts names v
-Accepts cupboard (Hide names period place) v = HideAccepts names period place v
-Accepts cupboard Help v = Unit {0}
-Accepts cupboard Version v = Unit {0}
+-- ---- journals
 
--- a command whose files are accepted is done, or finds no memory, unless the desk's count of faults rose
-abbrev pub AcceptedIsDone : List Meaning → Option Command → View → (before now status : ℕ) → Type 0
-AcceptedIsDone cupboard asked v before now status =
-    (command : Command) → asked ≡ Some command → Accepts cupboard command v → ¬ Rose before now → (status ≡ 0) ⊎ (status ≡ 1)
+-- as many bytes of a journal as the head has, and all where it has fewer
+abbrev pub front_of : (head : List ℕ) → Source → List ℕ
+front_of head journal = take (min (length journal.bytes) (length head)) journal.bytes
+
+-- whichever lines come next of a journal, they can be followed, one after another
+abbrev pub CanBeFollowed : {L : Type 0} → (List L → Came → Option (List L)) → Source → Type 0
+CanBeFollowed {L} follow journal = (lines : List Came) → are_lines lines ≡ true → AreNext (Some journal) lines → (all : List L) × ComesTo follow [] lines all
+
+-- behind its head a journal has lines that can be followed; or it has a proper beginning of the head, and is begun anew
+abbrev pub GoesOnWith : {L : Type 0} → HeadFound → (List L → Came → Option (List L)) → (head : List ℕ) → Source → Type 0
+GoesOnWith Whole follow head journal = CanBeFollowed follow (record journal { place = length (front_of head journal) })
+GoesOnWith Begun follow head journal = ⊤
+GoesOnWith (Other line) follow head journal = ⊥
+
+-- the wire tells a journal by which a role with this head goes on
+pub record HoldsJournal {L : Type 0} (follow : List L → Came → Option (List L)) (head : List ℕ) (wire : WireView) : Type 0 where
+  pub journal : Source
+  pub told : wire.journal ≡ Some journal
+  pub goes_on : GoesOnWith (head_found 1 head (front_of head journal)) follow head journal
+
+-- PUBLIC has a value, and the wire tells a journal by which a head end of its plan goes on
+pub record CollectAccepts (names : CollectNames) (o : OutsideView) : Type 0 where
+  pub bytes : List ℕ
+  pub file : HoldsFile o.desk names.public bytes
+  pub plan : PlanView
+  pub value : public_of bytes ≡ Ok plan
+  pub journal : HoldsJournal (follow_logged plan) (journal_head plan) o.wire
+
+-- METER has a value, and the wire tells a journal by which its meter goes on
+pub record MeterAccepts (meter : List ℕ) (o : OutsideView) : Type 0 where
+  pub bytes : List ℕ
+  pub file : HoldsFile o.desk meter bytes
+  pub says : MeterFileView
+  pub value : part_of bytes ≡ Ok says
+  pub journal : (keys : MeterKeys) → AreKeysOf says keys → HoldsJournal (follow_noted keys) (meter_journal_head (part_with keys)) o.wire
+
+-- ---- all commands
+
+-- the files that a command fetches are accepted
+abbrev pub Accepts : List Meaning → Command → OutsideView → Type 0
+Accepts cupboard (Run names workers) o = RunAccepts cupboard names o.desk
+Accepts cupboard (Ring width names workers) o = RunAccepts cupboard names o.desk
+Accepts cupboard (Resume names workers) o = ResumeAccepts cupboard names o.desk
+Accepts cupboard (Registers count names workers) o = RegistersAccept cupboard count names o.desk
+Accepts cupboard (Audit transcript report) o = AuditAccepts transcript report o.desk
+Accepts cupboard (Twin names) o = TwinAccepts names o.desk
+Accepts cupboard (RingTwin width names) o = RingTwinAccepts width names o.desk
+Accepts cupboard (Pooled known names) o = PooledAccepts known names o.desk
+Accepts cupboard (Make size plan readings) o = Unit {0}
+Accepts cupboard (Load size workers transcript) o = LoadAccepts cupboard size
+Accepts cupboard (Convert old transcript) o = ConvertAccepts old o.desk
+Accepts cupboard (Public plan public) o = PublicAccepts plan o.desk
+Accepts cupboard (Parts plan g prefix) o = PartsAccepts plan g o.desk
+Accepts cupboard (Collect names) o = CollectAccepts names o
+Accepts cupboard (Meter meter journal) o = MeterAccepts meter o
+Accepts cupboard (Inspect names) o = InspectAccepts names o.desk
+Accepts cupboard (Bill names period) o = BillAccepts names o.desk
+Accepts cupboard (Hide names period place) o = HideAccepts names period place o.desk
+Accepts cupboard Help o = Unit {0}
+Accepts cupboard Version o = Unit {0}
+
+-- a command whose files are accepted is done, or finds no memory, unless a count of faults rose
+abbrev pub AcceptedIsDone : List Meaning → Option Command → OutsideView → OutsideView → (before now status : ℕ) → Type 0
+AcceptedIsDone cupboard asked o p before now status =
+    (command : Command) → asked ≡ Some command → Accepts cupboard command o → ¬ FaultsRose (Some command) before now o.wire p.wire → (status ≡ 0) ⊎ (status ≡ 1)

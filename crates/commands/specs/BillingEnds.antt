@@ -1,26 +1,22 @@
 -- How `bill` and `hide` end.
-use Rattle.std.specs.Prelude.{◌≡◌, ◌⊎◌, ℕ, List, [], ◌∷◌, ◌++◌, length, codes, decimal}
+use Rattle.std.specs.Prelude.{ℕ, List, [], ◌∷◌, length, ◌≡◌, ◌⊎◌}
+use Rattle.command_words.specs.Words.{BillNames, HideNames}
 use Rattle.desk_outside.specs.Desk.{View}
-use Rattle.group_plan.specs.Tables.{ReadingsView}
-use Rattle.plan_files.specs.Spelling.{readings_text}
-use Rattle.transcript_text.specs.Spelling.{ended}
-use Rattle.billing_read.specs.declared.partners.Partner.{Partner}
 use Rattle.command_words.specs.declared.outcome.Outcome.{Outcome}
 use Rattle.command_words.specs.declared.words.Period.{Period}
+use Rattle.command_files.specs.Calls.{putting, PutsEnd, IsRead, after_fetches, Unread}
+use Rattle.command_texts.specs.Billing.{Metered, AreMetered, bills_in, bills_text_in, MeteredRefuses, HideBytes, IsHidden, OfHidden, HideRefuses}
+use Rattle.command_texts.specs.Lines.{bills_line, hidden_line}
+use Rattle.group_plan.specs.Tables.{ReadingsView}
+use Rattle.plan_files.specs.Spelling.{readings_text}
+use Rattle.billing_read.specs.declared.partners.Partner.{Partner}
 use Rattle.command_words.specs.declared.words.Place.{Place}
-use Rattle.command_words.specs.Words.{BillNames, HideNames}
-use Rattle.commands.specs.Calls.{IsRead, after_fetches, Unread, putting, PutsEnd}
-use Rattle.commands.specs.Billing.{Metered, AreMetered, MeteredRefuses, bills_in, bills_text_in, HideBytes, AreHideBytes, TextRefuses, IsAlone, IsHidden, OfMetered, OfHidden}
 
 -- ---- `bill PLAN READINGS FROM UNTIL BILLS`
 
 -- the files that it fetches, in order
 abbrev pub billed_by : BillNames → List (List ℕ)
 billed_by names = names.plan ∷ names.readings ∷ []
-
--- the line that it says
-unfoldable pub bills_line : ℕ → List ℕ
-bills_line count = ended (codes "bills=" ++ decimal count)
 
 -- both files have values, whose bills are put and their number said
 abbrev pub BillsPut : BillNames → Period → (p r : List ℕ) → View → View → Outcome → Type 0
@@ -42,16 +38,11 @@ BillEnds names period v w outcome =
 abbrev pub hidden_by : HideNames → List (List ℕ)
 hidden_by names = names.plan ∷ names.readings ∷ names.transcript ∷ []
 
--- the line that it says: where the partner is
-unfoldable pub hidden_line : (round meter : ℕ) → List ℕ
-hidden_line round meter = codes "hidden: round=" ++ (decimal round ++ (codes " meter=" ++ (decimal meter ++ codes "\n")))
-
--- what the files say is refused, or the place has no partner
-abbrev pub HideRefuses : HideNames → Period → Place → HideBytes → Outcome → Type 0
-HideRefuses names period place bytes outcome =
-    MeteredRefuses names.plan names.readings bytes.plan bytes.readings outcome
-    ⊎ (OfMetered bytes (λ plan. TextRefuses names.transcript plan bytes.transcript outcome)
-    ⊎ OfHidden bytes (λ plan x t. IsAlone period place x t outcome))
+-- they were read under these names
+pub record AreHideBytes (names : HideNames) (v : View) (bytes : HideBytes) : Type 0 where
+  pub plan : IsRead (v.held names.plan) bytes.plan
+  pub readings : IsRead (v.held names.readings) bytes.readings
+  pub transcript : IsRead (v.held names.transcript) bytes.transcript
 
 -- the table that hides the place is put, and its partner said
 abbrev pub OtherPut : HideNames → Period → Place → HideBytes → View → View → Outcome → Type 0

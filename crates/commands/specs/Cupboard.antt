@@ -1,11 +1,11 @@
 -- The lanes that the program has, and that made plans get theirs.
-use Rattle.std.specs.Prelude.{◌≡◌, ◌≢◌, ◌⊎◌, ◌<◌, ◌^◌, ℕ, true, List, [], ◌∷◌, ◌++◌, Option, None, Some}
-use Rattle.desk_outside.specs.Desk.{View, Rose}
-use Rattle.load_maker.specs.Sizes.{is_within}
-use Rattle.command_words.specs.Words.{Size, Command, Run, Ring, Resume, Registers, Load}
-use Rattle.commands.specs.Ends.{made_plan_text, made_readings_text}
+use Rattle.std.specs.Prelude.{List, [], ◌∷◌, ◌++◌, None, ◌≡◌, ◌<◌, ◌^◌, true, Some, ◌≢◌, ℕ, Option, ◌⊎◌}
 use Rattle.link_lanes.specs.Lanes.{Meaning}
 use Rattle.link_lanes.specs.Kinds.{clear_by, rules_by, seeded_by, every_by, burst_by}
+use Rattle.load_maker.specs.Sizes.{is_within}
+use Rattle.command_words.specs.Words.{Size, Command, Run, Ring, Resume, Registers, Load}
+use Rattle.desk_outside.specs.Desk.{View, Rose}
+use Rattle.commands.specs.Ends.{made_plan_text, made_readings_text}
 
 -- four boxes of one lane
 abbrev pub four : Meaning → List Meaning

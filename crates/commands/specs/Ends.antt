@@ -1,40 +1,38 @@
--- What a command does to the desk, by its outcome.
-use Rattle.std.specs.Prelude.{◌≡◌, ◌⊎◌, ◌*◌, ℕ, List, [], ◌∷◌, ◌++◌, length, Option, Some, None, Ok, Err, codes, decimal, ⊤}
+-- What a command does outside, by its outcome.
+use Rattle.std.specs.Prelude.{ℕ, List, [], ◌∷◌, ◌≡◌, Err, ⊤, ◌⊎◌, Ok, ◌*◌, Option, Some, None, length}
+use Rattle.command_words.specs.Words.{RunNames, Size, Command, Run, Ring, Resume, Registers, Audit, Twin, RingTwin, Pooled, Make, Load, Convert, Public, Parts, Collect, Meter, Help, Version, Bill, Hide, Inspect}
+use Rattle.command_files.specs.Calls.{Putting, putting, PutsEnd, Unwritable, IsRead, after_fetches, Unread}
+use Rattle.command_texts.specs.Runs.{Texts, MakesBy, IsOnlyBy, RefusesLane, RefusesReadings, HasValues, Makes, IsOnly}
 use Rattle.desk_outside.specs.Desk.{View}
 use Rattle.link_lanes.specs.Lanes.{Meaning}
+use Rattle.command_words.specs.declared.outcome.Outcome.{Outcome}
+use Rattle.command_texts.specs.declared.sharing.Sharing.{Sharing}
+use Rattle.plan_files.specs.PlanFiles.{plan_of, PlanFileView, public_of}
+use Rattle.command_words.specs.declared.outcome.Outcome.TheVariants.{NoMemory, BadPlan, BadReadings, BadLane, BadTranscript, BadWords}
+use Rattle.command_texts.specs.declared.sharing.Sharing.TheVariants.{WithEach, WithNeighbours}
+use Rattle.audit_check.specs.declared.answers.AuditCounts.{AuditCounts}
+use Rattle.command_texts.specs.Audits.{Audited, AuditRefuses}
+use Rattle.command_texts.specs.Lines.{audited_line, made_line, converted_line, public_line}
+use Rattle.load_maker.specs.Made.{made_file, made_readings}
+use Rattle.plan_files.specs.Spelling.{plan_text, readings_text, public_text}
+use Rattle.load_maker.specs.MadeFiles.{AreRead}
 use Rattle.link_lanes.specs.Fits.{hung_by}
-use Rattle.plan_files.specs.PlanFiles.{PlanFileView, plan_of}
 use Rattle.transcript_text.specs.declared.version.Version.TheVariants.{One}
 use Rattle.transcript_log.specs.Transcripts.{TranscriptView}
 use Rattle.transcript_text.specs.ReadBack.{HasText}
-use Rattle.transcript_text.specs.Spelling.{text_of, transcript_text, ended}
+use Rattle.transcript_text.specs.Spelling.{text_of, transcript_text}
 use Rattle.transcript_text.specs.Heads.{read_of}
+use Rattle.command_texts.specs.Refusals.{PublicRefuses}
 use Rattle.command_words.specs.declared.usage.TheConstants.{USAGE, VERSION}
-use Rattle.command_words.specs.declared.outcome.Outcome.{Outcome}
-use Rattle.command_words.specs.declared.outcome.Outcome.TheVariants.{NoMemory, BadWords, BadPlan, BadReadings, BadTranscript, BadLane}
-use Rattle.command_words.specs.declared.known.KnownMeter.{KnownMeter}
-use Rattle.command_words.specs.Words.{RunNames, TwinNames, Size, Command, Run, Ring, Resume, Registers, Audit, Twin, RingTwin, Pooled, Make, Load, Convert, Public, Parts, Help, Version, Bill, Hide, Inspect}
-use Rattle.commands.specs.Calls.{IsRead, after_fetches, Unread, Putting, putting, PutsEnd, Unwritable}
-use Rattle.plan_files.specs.PlanFiles.{public_of}
-use Rattle.plan_files.specs.Spelling.{plan_text, public_text, readings_text}
-use Rattle.load_maker.specs.Made.{made_file, made_readings}
-use Rattle.load_maker.specs.MadeFiles.{AreRead}
-use Rattle.audit_check.specs.declared.answers.AuditCounts.{AuditCounts}
-use Rattle.commands.specs.Audits.{Audited, AuditRefuses}
-use Rattle.twin_worlds.specs.declared.rows.MovedRow.{MovedRow}
-use Rattle.twin_worlds.specs.MasksText.{masks_text}
-use Rattle.commands.specs.Twins.{TwinBytes, AreReadBy, Compared, TwinRefuses}
-use Rattle.commands.specs.Pooled.{PooledCompared, PooledRefuses}
-use Rattle.commands.specs.RingTwins.{RingCompared, RingTwinRefuses}
 use Rattle.commands.specs.RegisterEnds.{RegistersEnds}
 use Rattle.commands.specs.ResumeEnds.{ResumeCommandEnds}
-use Rattle.commands.specs.declared.sharing.Sharing.{Sharing}
-use Rattle.commands.specs.declared.sharing.Sharing.TheVariants.{WithEach, WithNeighbours}
-pub use Rattle.commands.specs.Runs.{RefusesReadings}
-use Rattle.commands.specs.Runs.{Texts, MakesBy, Makes, IsOnlyBy, IsOnly, HasValues, RefusesLane}
 use Rattle.commands.specs.BillingEnds.{BillEnds, HideEnds}
-use Rattle.commands.specs.Inspecting.{InspectCommandEnds}
+use Rattle.commands.specs.InspectEnds.{InspectCommandEnds}
 use Rattle.commands.specs.PartsEnds.{PartsEnds}
+use Rattle.commands.specs.TwinEnds.{TwinCommandEnds, PooledCommandEnds, RingTwinEnds}
+use Rattle.commands.specs.Outside.{OutsideView, OnDesk}
+use Rattle.role_commands.specs.CollectEnds.{CollectEnds}
+use Rattle.role_commands.specs.MeterEnds.{MeterEnds}
 
 -- ---- `run PLAN READINGS REPORT TRANSCRIPT [WORKERS]`, and `ring PLAN READINGS WIDTH REPORT TRANSCRIPT [WORKERS]`
 
@@ -84,10 +82,6 @@ RingEnds width = RunEndsBy (WithNeighbours width)
 
 -- ---- `audit TRANSCRIPT REPORT`
 
--- the line that it says
-unfoldable pub audited_line : (rows totals : ℕ) → List ℕ
-audited_line rows totals = codes "audit: rows=" ++ (decimal rows ++ (codes " totals=" ++ (decimal totals ++ codes "\n")))
-
 -- the report is confirmed, and its counts are said
 abbrev pub Confirms : (transcript_bytes report_bytes : List ℕ) → View → View → Outcome → Type 0
 Confirms tb rb v w outcome = (counts : AuditCounts) × Audited tb rb (Ok counts) × PutsEnd [] (audited_line counts.rows counts.totals) v w outcome
@@ -100,69 +94,6 @@ AuditCommandEnds transcript report v w outcome =
     × ((AuditRefuses transcript report tb rb outcome × (w ≡ after_fetches (transcript ∷ report ∷ []) v))
     ⊎ Confirms tb rb (after_fetches (transcript ∷ report ∷ []) v) w outcome))
 
--- ---- `twin PLAN READINGS OTHER TRANSCRIPT MASKS`
-
--- the files that it fetches, in order
-abbrev pub compared_by : TwinNames → List (List ℕ)
-compared_by names = names.plan ∷ names.readings ∷ names.other ∷ names.transcript ∷ []
-
--- the line that it says
-unfoldable pub moved_line : ℕ → List ℕ
-moved_line rows = ended (codes "twin: moved=" ++ decimal rows)
-
--- the tables agree, and the file of the moved words is put and their number said
-abbrev pub MasksPut : TwinNames → TwinBytes → View → View → Outcome → Type 0
-MasksPut names bytes v w outcome =
-    (rows : List MovedRow) × Compared bytes (Ok rows) × PutsEnd (putting names.masks (masks_text rows) ∷ []) (moved_line (length rows)) v w outcome
-
--- how it ends: a file is not read, or what they say is refused, or the file of the moved words is put
-abbrev pub TwinCommandEnds : TwinNames → View → View → Outcome → Type 0
-TwinCommandEnds names v w outcome =
-    Unread (compared_by names) v w outcome
-    ⊎ ((bytes : TwinBytes) × AreReadBy names v bytes
-    × ((TwinRefuses names bytes outcome × (w ≡ after_fetches (compared_by names) v))
-    ⊎ MasksPut names bytes (after_fetches (compared_by names) v) w outcome))
-
--- ---- `pooled KNOWN PLAN READINGS OTHER TRANSCRIPT MASKS`
-
--- the line that a command of this name says
-unfoldable pub counted_line : List ℕ → ℕ → List ℕ
-counted_line verb rows = verb ++ (codes ": moved=" ++ (decimal rows ++ codes "\n"))
-
--- the file of the moved words is put and their number said, up to this end
-abbrev pub MovedAreSaid : (verb name : List ℕ) → List MovedRow → View → View → Outcome → Type 0
-MovedAreSaid verb name rows v w outcome = PutsEnd (putting name (masks_text rows) ∷ []) (counted_line verb (length rows)) v w outcome
-
--- four files are compared, and the file of the moved words is put and their number said
-abbrev pub MovedPut : (verb : List ℕ) → (List MovedRow → Type 0) → TwinNames → View → View → Outcome → Type 0
-MovedPut verb compares names v w outcome = (rows : List MovedRow) × compares rows × MovedAreSaid verb names.masks rows v w outcome
-
--- how a command that compares four files and says this name ends: a file is not read, or what they say is refused, or the file of the moved words is put
-abbrev pub ComparedEndsAs : (verb : List ℕ) → (TwinBytes → Outcome → Type 0) → (TwinBytes → List MovedRow → Type 0) → TwinNames → View → View → Outcome → Type 0
-ComparedEndsAs verb refuses compares names v w outcome =
-    Unread (compared_by names) v w outcome
-    ⊎ ((bytes : TwinBytes) × AreReadBy names v bytes
-    × ((refuses bytes outcome × (w ≡ after_fetches (compared_by names) v))
-    ⊎ MovedPut verb (compares bytes) names (after_fetches (compared_by names) v) w outcome))
-
--- the tables agree for the known meters, and these words move
-abbrev pub MovesPooled : List KnownMeter → TwinBytes → List MovedRow → Type 0
-MovesPooled known bytes rows = PooledCompared known bytes (Ok rows)
-
--- how a command of this name ends against known meters
-abbrev pub PooledEndsAs : (verb : List ℕ) → List KnownMeter → TwinNames → View → View → Outcome → Type 0
-PooledEndsAs verb known names v w outcome = ComparedEndsAs verb (PooledRefuses known names) (MovesPooled known) names v w outcome
-
--- how `pooled` ends
-abbrev pub PooledCommandEnds : List KnownMeter → TwinNames → View → View → Outcome → Type 0
-PooledCommandEnds known names v w outcome = PooledEndsAs (codes "pooled") known names v w outcome
-
--- ---- `ringtwin PLAN READINGS OTHER WIDTH TRANSCRIPT MASKS`
-
--- how it ends; it says the line of `twin`
-abbrev pub RingTwinEnds : (width : ℕ) → TwinNames → View → View → Outcome → Type 0
-RingTwinEnds width names v w outcome = ComparedEndsAs (codes "twin") (RingTwinRefuses width names) (RingCompared width) names v w outcome
-
 -- ---- `make SEED GROUPS METERS ROUNDS PLAN READINGS`
 
 -- what the plan file of a size says, and the bytes of both files
@@ -174,10 +105,6 @@ made_plan_text size = plan_text (made_file_of size)
 
 abbrev pub made_readings_text : Size → List ℕ
 made_readings_text size = readings_text (made_readings size.seed size.groups size.meters size.rounds)
-
--- the line that it says: how many readings there are, present or not
-unfoldable pub made_line : ℕ → List ℕ
-made_line readings = ended (codes "made: readings=" ++ decimal readings)
 
 -- how it ends: both files are put, up to this end
 abbrev pub MakeEnds : Size → (plan readings : List ℕ) → View → View → Outcome → Type 0
@@ -223,10 +150,6 @@ LoadEnds cupboard size transcript v w outcome =
 
 -- ---- `convert OLD TRANSCRIPT`
 
--- the line that it says
-unfoldable pub converted_line : ℕ → List ℕ
-converted_line lines = ended (codes "converted: lines=" ++ decimal lines)
-
 -- the old bytes are the text of version 1 of a transcript, whose text of version 2 is put
 abbrev pub TranscriptPut : (transcript bytes : List ℕ) → View → View → Outcome → Type 0
 TranscriptPut transcript bytes v w outcome =
@@ -249,21 +172,11 @@ ConvertEnds old transcript v w outcome =
 
 -- ---- `public PLAN PUBLIC`
 
--- the line that it says
-unfoldable pub public_line : (groups rounds : ℕ) → List ℕ
-public_line groups rounds = codes "public: groups=" ++ (decimal groups ++ (codes " rounds=" ++ (decimal rounds ++ codes "\n")))
-
 -- the public plan of a plan file, whose text is read as its plan, is put
 abbrev pub PublicPut : (public bytes : List ℕ) → View → View → Outcome → Type 0
 PublicPut public bytes v w outcome =
     (file : PlanFileView) × (plan_of bytes ≡ Ok file) × (public_of (public_text file.plan) ≡ Ok file.plan)
     × PutsEnd (putting public (public_text file.plan) ∷ []) (public_line (length file.plan.groups) file.plan.rounds) v w outcome
-
--- the plan file is refused; want of memory is free
-abbrev pub PublicRefuses : (plan bytes : List ℕ) → Outcome → Type 0
-PublicRefuses plan bytes (BadPlan name fault) = (name.now ≡ plan) × (plan_of bytes ≡ Err fault)
-PublicRefuses plan bytes NoMemory = ⊤
-PublicRefuses plan bytes _ = ⊥
 
 -- how it ends: PLAN is not read, or what it says is refused, or the public plan is put
 abbrev pub PublicEnds : (plan public : List ℕ) → View → View → Outcome → Type 0
@@ -276,23 +189,25 @@ PublicEnds plan public v w outcome =
 -- ---- all commands
 
 -- what the words' command does, and nothing where they are no command
-abbrev pub Ends : List Meaning → Option Command → View → View → Outcome → Type 0
-Ends cupboard None v w outcome = (outcome ≡ BadWords) × (w ≡ v)
-Ends cupboard (Some (Run names workers)) v w outcome = RunEnds cupboard names v w outcome
-Ends cupboard (Some (Ring width names workers)) v w outcome = RingEnds width cupboard names v w outcome
-Ends cupboard (Some (Resume names workers)) v w outcome = ResumeCommandEnds cupboard names v w outcome
-Ends cupboard (Some (Registers count names workers)) v w outcome = RegistersEnds cupboard count names v w outcome
-Ends cupboard (Some (Audit transcript report)) v w outcome = AuditCommandEnds transcript report v w outcome
-Ends cupboard (Some (Twin names)) v w outcome = TwinCommandEnds names v w outcome
-Ends cupboard (Some (RingTwin width names)) v w outcome = RingTwinEnds width names v w outcome
-Ends cupboard (Some (Pooled known names)) v w outcome = PooledCommandEnds known names v w outcome
-Ends cupboard (Some (Make size plan readings)) v w outcome = MakeEnds size plan readings v w outcome
-Ends cupboard (Some (Load size workers transcript)) v w outcome = LoadEnds cupboard size transcript v w outcome
-Ends cupboard (Some (Convert old transcript)) v w outcome = ConvertEnds old transcript v w outcome
-Ends cupboard (Some (Public plan public)) v w outcome = PublicEnds plan public v w outcome
-Ends cupboard (Some (Parts plan g prefix)) v w outcome = PartsEnds plan g prefix v w outcome
-Ends cupboard (Some (Inspect names)) v w outcome = InspectCommandEnds names v w outcome
-Ends cupboard (Some (Bill names period)) v w outcome = BillEnds names period v w outcome
-Ends cupboard (Some (Hide names period place)) v w outcome = HideEnds names period place v w outcome
-Ends cupboard (Some Help) v w outcome = PutsEnd [] USAGE.now v w outcome
-Ends cupboard (Some Version) v w outcome = PutsEnd [] VERSION.now v w outcome
+abbrev pub Ends : List Meaning → Option Command → OutsideView → OutsideView → Outcome → Type 0
+Ends cupboard None o p outcome = (outcome ≡ BadWords) × (p ≡ o)
+Ends cupboard (Some (Run names workers)) o p outcome = OnDesk (RunEnds cupboard names) o p outcome
+Ends cupboard (Some (Ring width names workers)) o p outcome = OnDesk (RingEnds width cupboard names) o p outcome
+Ends cupboard (Some (Resume names workers)) o p outcome = OnDesk (ResumeCommandEnds cupboard names) o p outcome
+Ends cupboard (Some (Registers count names workers)) o p outcome = OnDesk (RegistersEnds cupboard count names) o p outcome
+Ends cupboard (Some (Audit transcript report)) o p outcome = OnDesk (AuditCommandEnds transcript report) o p outcome
+Ends cupboard (Some (Twin names)) o p outcome = OnDesk (TwinCommandEnds names) o p outcome
+Ends cupboard (Some (RingTwin width names)) o p outcome = OnDesk (RingTwinEnds width names) o p outcome
+Ends cupboard (Some (Pooled known names)) o p outcome = OnDesk (PooledCommandEnds known names) o p outcome
+Ends cupboard (Some (Make size plan readings)) o p outcome = OnDesk (MakeEnds size plan readings) o p outcome
+Ends cupboard (Some (Load size workers transcript)) o p outcome = OnDesk (LoadEnds cupboard size transcript) o p outcome
+Ends cupboard (Some (Convert old transcript)) o p outcome = OnDesk (ConvertEnds old transcript) o p outcome
+Ends cupboard (Some (Public plan public)) o p outcome = OnDesk (PublicEnds plan public) o p outcome
+Ends cupboard (Some (Parts plan g prefix)) o p outcome = OnDesk (PartsEnds plan g prefix) o p outcome
+Ends cupboard (Some (Collect names)) o p outcome = CollectEnds names o.desk p.desk o.wire p.wire outcome
+Ends cupboard (Some (Meter meter journal)) o p outcome = MeterEnds meter journal o.desk p.desk o.wire p.wire outcome
+Ends cupboard (Some (Inspect names)) o p outcome = OnDesk (InspectCommandEnds names) o p outcome
+Ends cupboard (Some (Bill names period)) o p outcome = OnDesk (BillEnds names period) o p outcome
+Ends cupboard (Some (Hide names period place)) o p outcome = OnDesk (HideEnds names period place) o p outcome
+Ends cupboard (Some Help) o p outcome = OnDesk (PutsEnd [] USAGE.now) o p outcome
+Ends cupboard (Some Version) o p outcome = OnDesk (PutsEnd [] VERSION.now) o p outcome

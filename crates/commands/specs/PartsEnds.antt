@@ -1,23 +1,19 @@
 -- How `parts PLAN G PREFIX` ends.
-use Rattle.std.specs.Prelude.{◌≡◌, ◌⊎◌, ℕ, true, false, nat_lt, List, [], ◌∷◌, ◌++◌, length, Ok, Err, codes, decimal, ⊤}
-use Rattle.std.specs.List.{All}
-use Rattle.desk_outside.specs.Desk.{View, Step, IsPrefixOf, Said, after_step, after_steps}
-use Rattle.group_plan.specs.Plans.{size}
-use Rattle.pair_keys.specs.Keys.{Keys}
+use Rattle.std.specs.Prelude.{◌≡◌, ◌⊎◌, ℕ, false, nat_lt, List, length, Ok, Err, ⊤, true, [], ◌∷◌}
 use Rattle.pair_keys.specs.declared.KeyError.TheVariants.{Range}
 use Rattle.plan_files.specs.Faults.{in_row}
 use Rattle.plan_files.specs.PlanFiles.{PlanFileView, plan_of}
 use Rattle.plan_files.specs.declared.fault.FileCause.TheVariants.{Key}
-use Rattle.transcript_text.specs.Spelling.{ended}
-use Rattle.meter_files.specs.Names.{names_below, part_name}
-use Rattle.meter_files.specs.Putting.{IsFree, StopsAtName, StopsAtFile, PutsSome, files_below}
 use Rattle.command_words.specs.declared.outcome.Outcome.{Outcome}
-use Rattle.command_words.specs.declared.outcome.Outcome.TheVariants.{Done, NoMemory, CannotWritePart, CannotPrint, BadPlan}
-use Rattle.commands.specs.Calls.{IsRead, Unread, after_fetches}
-
--- the line that it says
-unfoldable pub parts_line : ℕ → List ℕ
-parts_line meters = ended (codes "parts: meters=" ++ decimal meters)
+use Rattle.command_words.specs.declared.outcome.Outcome.TheVariants.{NoMemory, BadPlan, Done, CannotWritePart, CannotPrint}
+use Rattle.std.specs.List.{All}
+use Rattle.desk_outside.specs.Desk.{View, Step, IsPrefixOf, Said, after_step, after_steps}
+use Rattle.meter_files.specs.Names.{part_name, names_below}
+use Rattle.meter_files.specs.Putting.{IsFree, StopsAtName, StopsAtFile, PutsSome, files_below}
+use Rattle.group_plan.specs.Plans.{size}
+use Rattle.pair_keys.specs.Keys.{Keys}
+use Rattle.command_texts.specs.Lines.{parts_line}
+use Rattle.command_files.specs.Calls.{IsRead, Unread, after_fetches}
 
 -- the plan file is refused, or its plan has no such group; want of memory is free
 abbrev pub PartsRefuses : (plan : List ℕ) (g : ℕ) (bytes : List ℕ) → Outcome → Type 0

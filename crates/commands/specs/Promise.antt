@@ -1,12 +1,13 @@
--- What the program promises of a command, over the desk as it was found and as it is left.
+-- What the program promises of a command, over what it found outside and what it leaves there.
 use Rattle.std.specs.Prelude.{◌≡◌, ◌⊎◌, ℕ, false, true, List, Option}
-use Rattle.desk_outside.specs.Desk.{View, Complained, IsPrefixOf, after_step, Rose}
-use Rattle.link_lanes.specs.Lanes.{Meaning}
+use Rattle.desk_outside.specs.Desk.{View, Complained, IsPrefixOf, after_step}
 use Rattle.command_words.specs.declared.outcome.Outcome.{Outcome}
-use Rattle.command_words.specs.declared.outcome.Outcome.TheVariants.{Done, NoMemory, BadWords, CannotRead, TooLong, CannotWrite, CannotWritePart, CannotPrint, BadPlan, BadReadings, BadTranscript, BadReport, Impossible, NotInTime, NotThisRun, OtherRow, OtherPlan, OtherLine, OtherPresence, OtherKnown, OtherTotal, OtherComponent, BadLane, NoPartner}
+use Rattle.command_words.specs.declared.outcome.Outcome.TheVariants.{Done, NoMemory, BadWords, CannotRead, CannotHear, TooLong, CannotWrite, CannotWritePart, CannotPrint, BadPlan, BadReadings, BadTranscript, BadReport, BadJournalHead, BadJournalLine, Impossible, NotInTime, NotThisRun, OtherRow, OtherPlan, OtherLine, OtherPresence, OtherKnown, OtherTotal, OtherComponent, BadLane, NoPartner}
+use Rattle.command_words.specs.Outcomes.{complaint_of, status_of, IsFault}
+use Rattle.link_lanes.specs.Lanes.{Meaning}
 use Rattle.command_words.specs.Words.{Command}
 use Rattle.commands.specs.Ends.{Ends}
-use Rattle.command_words.specs.Outcomes.{status_of, complaint_of, IsFault}
+use Rattle.commands.specs.Outside.{OutsideView, FaultsRose, with_wire}
 
 -- the text was complained, or a prefix of it where that call failed, or nothing where no memory was found
 abbrev pub Complains : List ℕ → View → View → Type 0
@@ -20,6 +21,7 @@ Tells Done v w = w ≡ v
 Tells NoMemory v w = Complains (complaint_of NoMemory) v w
 Tells BadWords v w = Complains (complaint_of BadWords) v w
 Tells (CannotRead name) v w = Complains (complaint_of (CannotRead name)) v w
+Tells CannotHear v w = Complains (complaint_of CannotHear) v w
 Tells (TooLong name) v w = Complains (complaint_of (TooLong name)) v w
 Tells (CannotWrite name) v w = Complains (complaint_of (CannotWrite name)) v w
 Tells (CannotWritePart prefix meter file) v w = Complains (complaint_of (CannotWritePart prefix meter file)) v w
@@ -28,6 +30,8 @@ Tells (BadPlan name fault) v w = Complains (complaint_of (BadPlan name fault)) v
 Tells (BadReadings name fault) v w = Complains (complaint_of (BadReadings name fault)) v w
 Tells (BadTranscript name fault) v w = Complains (complaint_of (BadTranscript name fault)) v w
 Tells (BadReport name line) v w = Complains (complaint_of (BadReport name line)) v w
+Tells (BadJournalHead name line) v w = Complains (complaint_of (BadJournalHead name line)) v w
+Tells (BadJournalLine name line) v w = Complains (complaint_of (BadJournalLine name line)) v w
 Tells (Impossible name line) v w = Complains (complaint_of (Impossible name line)) v w
 Tells (NotInTime name line) v w = Complains (complaint_of (NotInTime name line)) v w
 Tells (NotThisRun name line) v w = Complains (complaint_of (NotThisRun name line)) v w
@@ -41,11 +45,11 @@ Tells (OtherComponent group round least first second) v w = Complains (complaint
 Tells (BadLane fault) v w = Complains (complaint_of (BadLane fault)) v w
 Tells (NoPartner group round meter) v w = Complains (complaint_of (NoPartner group round meter)) v w
 
--- the command ends with an outcome, which is told and gives the status; an outcome that is a fault comes only where the count of faults rose
-abbrev pub EndsAndTells : List Meaning → Option Command → View → View → (before now status : ℕ) → Type 0
-EndsAndTells cupboard command v w before now status =
+-- the command ends with an outcome, which is told on the desk and gives the status; an outcome that is a fault comes only where a count of faults rose
+abbrev pub EndsAndTells : List Meaning → Option Command → OutsideView → OutsideView → (before now status : ℕ) → Type 0
+EndsAndTells cupboard command o p before now status =
     (outcome : Outcome) × (middle : View)
-    × Ends cupboard command v middle outcome
-    × Tells outcome middle w
-    × (IsFault outcome → Rose before now)
+    × Ends cupboard command o (with_wire middle p.wire) outcome
+    × Tells outcome middle p.desk
+    × (IsFault outcome → FaultsRose command before now o.wire p.wire)
     × (status ≡ status_of outcome)

@@ -1,14 +1,20 @@
 -- How `resume` ends.
-use Rattle.std.specs.Prelude.{◌≡◌, ◌⊎◌, ℕ, List, [], ◌∷◌, Err, ⊤}
 use Rattle.desk_outside.specs.Desk.{View}
-use Rattle.link_lanes.specs.Lanes.{Meaning}
-use Rattle.plan_files.specs.PlanFiles.{plan_of}
-use Rattle.command_words.specs.declared.outcome.Outcome.{Outcome}
-use Rattle.command_words.specs.declared.outcome.Outcome.TheVariants.{NoMemory, BadPlan, BadReadings, BadTranscript, BadLane, NotThisRun, OtherPlan}
+use Rattle.command_files.specs.Calls.{IsRead, Putting, putting, PutsEnd, Unwritable, after_fetches, Unread}
 use Rattle.command_words.specs.Words.{ResumeNames}
-use Rattle.commands.specs.Calls.{after_fetches, Unread, Putting, putting, PutsEnd, Unwritable}
-use Rattle.commands.specs.ResumeRuns.{AreResumeBytes, HasOtherPlan, IsNotThisRun, RefusesCut, ResumeBytes, ResumeMakes}
-use Rattle.commands.specs.Runs.{HasValues, IsOnly, RefusesLane, RefusesReadings, Texts}
+use Rattle.command_texts.specs.ResumeRuns.{ResumeBytes, ResumeMakes, HasOtherPlan, IsNotThisRun, RefusesCut}
+use Rattle.std.specs.Prelude.{ℕ, List, [], ◌∷◌, ◌≡◌, Err, ⊤, ◌⊎◌}
+use Rattle.command_texts.specs.Runs.{Texts, IsOnly, RefusesLane, RefusesReadings, HasValues}
+use Rattle.link_lanes.specs.Lanes.{Meaning}
+use Rattle.command_words.specs.declared.outcome.Outcome.{Outcome}
+use Rattle.plan_files.specs.PlanFiles.{plan_of}
+use Rattle.command_words.specs.declared.outcome.Outcome.TheVariants.{NoMemory, BadPlan, BadReadings, BadTranscript, BadLane, NotThisRun, OtherPlan}
+
+-- they were read under these names
+pub record AreResumeBytes (names : ResumeNames) (v : View) (bytes : ResumeBytes) : Type 0 where
+  pub plan : IsRead (v.held names.plan) bytes.plan
+  pub readings : IsRead (v.held names.readings) bytes.readings
+  pub cut : IsRead (v.held names.cut) bytes.cut
 
 -- the files that it fetches, in order
 abbrev pub resume_fetched : ResumeNames → List (List ℕ)

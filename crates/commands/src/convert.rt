@@ -1,25 +1,17 @@
 //! The command `convert`.
 
-ghost use Rattle.std.specs.Prelude.{◌≡◌, ◌≤◌, IfOk, string_bytes};
+ghost use Rattle.std.specs.Prelude.{◌≤◌};
 ghost use Rattle.desk_outside.specs.Desk.{Rose};
-ghost use Rattle.commands.specs.Ends.{converted_line, ConvertEnds};
+ghost use Rattle.commands.specs.Ends.{ConvertEnds};
 ghost use Rattle.command_words.specs.Outcomes.{IsFault};
 
-use crate::desk_calls::{NewFile, fetch, put_one};
-use crate::source::Source;
+use command_files::{NewFile, Source, fetch, put_one};
+use command_texts::converted_line;
 use command_words::{ConvertFiles, Outcome};
 use desk_outside::{Desk, Readers};
-use std::alloc::{AllocError, Global};
+use std::alloc::Global;
 use std::thread::Threads;
 use transcript_text::{ReadError, read_old};
-
-// The line that says how many entries the transcript has.
-#[tactic(auto, unfolding(crate::specs::Ends::converted_line))]
-fn converted_line(alloc: Global, lines: usize) -> Result<String, AllocError>
-    ensures { IfOk result (λ text. string_bytes text ≡ converted_line lines) }
-{
-    format!(in alloc; "converted: lines={lines}\n")
-}
 
 /// Fetches a transcript of version 1 and puts the same transcript in version 2.
 pub fn convert<'a, R: Threads + Sync, D: Desk>(

@@ -1,173 +1,18 @@
 //! The command `hide`.
 
-ghost use Rattle.std.specs.Prelude.{◌≡◌, ◌≤◌, IfOk, IfErr, length, string_bytes};
+ghost use Rattle.std.specs.Prelude.{◌≤◌};
 ghost use Rattle.desk_outside.specs.Desk.{Rose};
-ghost use Rattle.group_plan.specs.Tables.{reading};
-ghost use Rattle.billing_read.specs.Partners.{CanExchange};
 ghost use Rattle.command_words.specs.Commands.{hide_names_of};
 ghost use Rattle.command_words.specs.Outcomes.{IsFault};
-ghost use Rattle.commands.specs.Billing.{IsTextIn, TextRefuses, IsAlone};
-ghost use Rattle.commands.specs.BillingEnds.{HideRefuses, HideEnds, hidden_line};
-ghost use Rattle.commands.specs.BillingParts.{hide_bytes_of, AreShort, IsOtherText, HidesPlace, HidesIn, FindsHidden};
+ghost use Rattle.commands.specs.BillingEnds.{HideEnds};
 
-use crate::desk_calls::{NewFile, fetch, fetch_two, put_one};
-use crate::files::read_metered;
-use crate::source::Source;
-use billing_read::{Partner, other_world, partner};
-use command_words::{HideWords, Outcome, Place};
+use billing_read::partner;
+use command_files::{NewFile, Source, fetch, fetch_two, put_one};
+use command_texts::{HideTexts, hidden_line, hidden_of_files};
+use command_words::{HideWords, Outcome};
 use desk_outside::{Desk, Readers};
-use group_plan::{Plan, Readings};
-use plan_files::write_readings;
-use std::alloc::{AllocError, Global};
+use std::alloc::Global;
 use std::thread::Threads;
-use transcript_log::Transcript;
-use twin_worlds::{TwinError, transcript_of_plan};
-
-// The bytes of the three files.
-#[derive(Clone, Copy)]
-struct HideTexts<'b> {
-    plan: &'b [u8],
-    readings: &'b [u8],
-    transcript: &'b [u8],
-}
-
-// The text of the other readings, and the partner with which they change.
-#[derive(Drop)]
-struct Hidden {
-    text: Vec<u8>,
-    partner: Partner,
-}
-
-// The transcript of a text, where it is of the plan.
-fn transcript_of<'a>(
-    alloc: Global,
-    name: &'a str,
-    plan: &Plan,
-    text: &[u8],
-) -> Result<Transcript, Outcome<'a>>
-    ensures read { IfOk result (λ transcript. IsTextIn plan.now transcript text.now) }
-    ensures refused { IfErr result (TextRefuses name.now plan.now text.now) }
-    ensures no_fault { IfErr result (λ outcome. ¬ IsFault outcome) }
-{
-    match transcript_of_plan(alloc, plan, text) {
-        Ok(transcript) => Ok(transcript),
-        Err(TwinError::Transcript(fault)) => Err(Outcome::BadTranscript(name, fault)),
-        Err(TwinError::Head) => Err(Outcome::OtherPlan(name)),
-        Err(TwinError::Memory) => Err(Outcome::NoMemory),
-        Err(_) => unreachable!(),
-    }
-}
-
-// The text of the readings in which the one of the place moves to its partner.
-fn other_text(
-    alloc: Global,
-    plan: &Plan,
-    readings: &Readings,
-    place: Place,
-    partner: &Partner,
-) -> Result<Vec<u8>, AllocError>
-    requires plan { readings.now.plan ≡ plan.now }
-    requires exchange { CanExchange (reading readings.now.table) place.group place.round place.meter partner.now }
-    ensures { IfOk result (λ text. IsOtherText plan.now readings.now place partner.now text.items) }
-{
-    let other = other_world(
-        alloc,
-        plan,
-        readings,
-        place.group,
-        place.round,
-        place.meter,
-        partner,
-    )?;
-    write_readings(alloc, plan, &other)
-}
-
-// The readings that hide the one of the place, where it has a partner.
-fn hidden_in<'a>(
-    alloc: Global,
-    words: HideWords<'a>,
-    plan: &Plan,
-    readings: &Readings,
-    transcript: &Transcript,
-) -> Result<Hidden, Outcome<'a>>
-    requires plan { readings.now.plan ≡ plan.now }
-    requires transcript { transcript.now.plan ≡ plan.now }
-    ensures hidden { IfOk result (HidesPlace words.entry.period words.entry.place plan.now readings.now transcript.now) }
-    ensures alone { IfErr result (IsAlone words.entry.period words.entry.place readings.now transcript.now) }
-    ensures no_fault { IfErr result (λ outcome. ¬ IsFault outcome) }
-{
-    let (period, place) = (words.period, words.place);
-    let found = match partner(
-        alloc,
-        readings,
-        transcript,
-        period.from,
-        period.until,
-        place.group,
-        place.round,
-        place.meter,
-    ) {
-        Ok(found) => found,
-        Err(_) => return Err(Outcome::NoMemory),
-    };
-    let Some(partner) = found else {
-        return Err(Outcome::NoPartner {
-            group: place.group,
-            round: place.round,
-            meter: place.meter,
-        });
-    };
-    match other_text(alloc, plan, readings, place, &partner) {
-        Ok(text) => Ok(Hidden { text, partner }),
-        Err(_) => Err(Outcome::NoMemory),
-    }
-}
-
-// The readings that hide the one of the place, of a plan and readings that were read.
-fn hidden_under<'a>(
-    alloc: Global,
-    words: HideWords<'a>,
-    plan: &Plan,
-    readings: &Readings,
-    text: &[u8],
-) -> Result<Hidden, Outcome<'a>>
-    requires { readings.now.plan ≡ plan.now }
-    ensures ends { FindsHidden (hide_names_of words.entry.files) words.entry.period words.entry.place plan.now readings.now text.now result }
-    ensures no_fault { IfErr result (λ outcome. ¬ IsFault outcome) }
-{
-    let transcript = or_fail!(transcript_of(alloc, words.files.transcript, plan, text));
-    hidden_in(alloc, words, plan, readings, &transcript)
-}
-
-// The readings that hide the one of the place, of the three files.
-fn hidden_of_files<'a>(
-    alloc: Global,
-    words: HideWords<'a>,
-    texts: HideTexts<'_>,
-) -> Result<Hidden, Outcome<'a>>
-    requires { AreShort (hide_bytes_of texts) }
-    ensures hidden { IfOk result (HidesIn words.entry.period words.entry.place (hide_bytes_of texts.entry)) }
-    ensures refused { IfErr result (HideRefuses (hide_names_of words.entry.files) words.entry.period words.entry.place (hide_bytes_of texts.entry)) }
-    ensures no_fault { IfErr result (λ outcome. ¬ IsFault outcome) }
-{
-    let files = words.files;
-    let (file, table) = or_fail!(read_metered(
-        alloc,
-        files.plan,
-        files.readings,
-        texts.plan,
-        texts.readings,
-    ));
-    hidden_under(alloc, words, &file.plan, &table, texts.transcript)
-}
-
-// The line that says where the partner is.
-#[tactic(auto, unfolding(crate::specs::BillingEnds::hidden_line))]
-fn hidden_line(alloc: Global, round: u32, meter: u8) -> Result<String, AllocError>
-    ensures { IfOk result (λ text. string_bytes text ≡ hidden_line round meter) }
-{
-    format!(in alloc; "hidden: round={round} meter={meter}\n")
-}
 
 /// Fetches a plan, readings and a transcript, and puts other readings that hide the one of a place: they have the same totals and
 /// the same bills of a period, and give the same transcript under other mask words.

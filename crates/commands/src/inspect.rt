@@ -1,176 +1,16 @@
 //! The command `inspect`.
 
-ghost use Rattle.std.specs.Prelude.{◌≡◌, ◌≢◌, ◌≤◌, ℕ, List, Ok, IfOk, IfErr, length, string_bytes};
+ghost use Rattle.std.specs.Prelude.{◌≤◌};
 ghost use Rattle.desk_outside.specs.Desk.{Rose};
-ghost use Rattle.group_plan.specs.Plans.{PlanView};
-ghost use Rattle.plan_files.specs.PlanFiles.{public_of};
-ghost use Rattle.transcript_log.specs.Transcripts.{TranscriptView};
-ghost use Rattle.twin_worlds.specs.Twins.{IsTextOf};
-ghost use Rattle.run_course.specs.Beginnings.{IsSomeRun};
 ghost use Rattle.command_words.specs.Commands.{inspect_names_of};
 ghost use Rattle.command_words.specs.Outcomes.{IsFault};
-ghost use Rattle.commands.specs.Calls.{most_bytes};
-ghost use Rattle.commands.specs.Inspecting.{PublicTextRefuses, TextsRefuse, TimesRefuse, InspectRefuses, OfPlan, IsInspected, line_of, InspectCommandEnds};
-ghost use Rattle.commands.specs.InspectParts.{inspect_bytes_of, TextsRead, Judged};
+ghost use Rattle.commands.specs.InspectEnds.{InspectCommandEnds};
 
-use crate::audit::report_of;
-use crate::desk_calls::{fetch, fetch_two, say};
-use audit_check::{AuditError, Inspected, inspect as inspect_lines};
+use command_files::{fetch, fetch_two, say};
+use command_texts::{InspectTexts, inspect_texts, inspected_line};
 use command_words::{InspectFiles, Outcome};
 use desk_outside::Desk;
-use group_plan::Plan;
-use plan_files::{FileCause, read_public};
-use run_course::{CourseError, in_time};
-use std::alloc::{AllocError, Global};
-use totals_report::Report;
-use transcript_log::Transcript;
-use transcript_text::entry_line;
-use twin_worlds::{TwinError, transcript_of_plan};
-
-// The bytes of the three files.
-#[derive(Clone, Copy)]
-struct InspectTexts<'b> {
-    public: &'b [u8],
-    transcript: &'b [u8],
-    report: &'b [u8],
-}
-
-// The plan of this name's bytes, or how the command ends.
-fn plan_of<'a>(alloc: Global, name: &'a str, bytes: &[u8]) -> Result<Plan, Outcome<'a>>
-    requires { length bytes.now ≤ most_bytes }
-    ensures value { IfOk result (λ plan. public_of bytes.now ≡ Ok plan) }
-    ensures refused { IfErr result (PublicTextRefuses name.now bytes.now) }
-    ensures no_fault { IfErr result (λ outcome. ¬ IsFault outcome) }
-{
-    match read_public(alloc, bytes) {
-        Ok(plan) => Ok(plan),
-        Err(fault) => match fault.cause {
-            FileCause::Memory => Err(Outcome::NoMemory),
-            _ => Err(Outcome::BadPlan(name, fault)),
-        },
-    }
-}
-
-// How the command ends where the transcript is of another plan: that is told only if the report is read.
-fn other_plan<'a>(alloc: Global, files: InspectFiles<'a>, report: &[u8]) -> Outcome<'a>
-    ensures ends { (plan : PlanView) (text : List ℕ) (t : TranscriptView) → IsTextOf t text → t.plan ≢ plan → TextsRefuse (inspect_names_of files.entry) plan text report.now result }
-    ensures no_fault { ¬ IsFault result }
-{
-    match report_of(alloc, files.report, report) {
-        Ok(_report) => Outcome::OtherPlan(files.transcript),
-        Err(outcome) => outcome,
-    }
-}
-
-// The transcript and the report of two texts, where the transcript is of the plan.
-fn read_texts<'a>(
-    alloc: Global,
-    files: InspectFiles<'a>,
-    plan: &Plan,
-    transcript: &[u8],
-    report: &[u8],
-) -> Result<(Transcript, Report), Outcome<'a>>
-    ensures ends { TextsRead (inspect_names_of files.entry) plan.now transcript.now report.now result }
-    ensures no_fault { IfErr result (λ outcome. ¬ IsFault outcome) }
-{
-    let transcript = match transcript_of_plan(alloc, plan, transcript) {
-        Ok(transcript) => transcript,
-        Err(TwinError::Head) => return Err(other_plan(alloc, files, report)),
-        Err(TwinError::Transcript(fault)) => {
-            return Err(Outcome::BadTranscript(files.transcript, fault));
-        }
-        Err(TwinError::Memory) => return Err(Outcome::NoMemory),
-        Err(_) => unreachable!(),
-    };
-    let report = or_fail!(report_of(alloc, files.report, report));
-    Ok((transcript, report))
-}
-
-// Whether the entries of the transcript of this name are a run of its plan, or how the command ends.
-fn check_times<'a>(alloc: Global, name: &'a str, transcript: &Transcript) -> Result<(), Outcome<'a>>
-    ensures run { IfOk result (λ _. IsSomeRun transcript.now.plan transcript.now.entries) }
-    ensures refused { IfErr result (TimesRefuse name.now transcript.now) }
-    ensures no_fault { IfErr result (λ outcome. ¬ IsFault outcome) }
-{
-    let plan = transcript.plan();
-    let entries = transcript.len();
-    match in_time(alloc, transcript) {
-        Ok(()) => Ok(()),
-        Err(CourseError::Entry(entry)) => { Err(Outcome::NotInTime(name, entry_line(plan, entry))) }
-        Err(CourseError::Unfinished) => {
-            Err(Outcome::NotInTime(name, entry_line(plan, entries as u64)))
-        }
-        Err(CourseError::Memory) => Err(Outcome::NoMemory),
-    }
-}
-
-// What the transcript of this name and the report come to.
-fn judge<'a>(
-    alloc: Global,
-    name: &'a str,
-    transcript: &Transcript,
-    report: &Report,
-) -> Result<Inspected, Outcome<'a>>
-    ensures ends { Judged name.now transcript.now report.now result }
-    ensures no_fault { IfErr result (λ outcome. ¬ IsFault outcome) }
-{
-    match inspect_lines(alloc, transcript, report) {
-        Ok(found) => {
-            or_fail!(check_times(alloc, name, transcript));
-            Ok(found)
-        }
-        Err(AuditError::Line(line)) => Err(Outcome::Impossible(name, line)),
-        Err(
-            AuditError::Row {
-                at,
-                from_frames,
-                reported,
-            },
-        ) => {
-            or_fail!(check_times(alloc, name, transcript));
-            Err(Outcome::OtherRow {
-                at,
-                from_frames,
-                reported,
-            })
-        }
-        Err(AuditError::Memory) => Err(Outcome::NoMemory),
-    }
-}
-
-// What the three files come to.
-fn inspect_texts<'a>(
-    alloc: Global,
-    files: InspectFiles<'a>,
-    texts: InspectTexts<'_>,
-) -> Result<Inspected, Outcome<'a>>
-    requires { length texts.public.now ≤ most_bytes }
-    ensures found { IfOk result (λ found. OfPlan (inspect_bytes_of texts.entry) (λ t rows. IsInspected t rows found)) }
-    ensures refused { IfErr result (InspectRefuses (inspect_names_of files.entry) (inspect_bytes_of texts.entry)) }
-    ensures no_fault { IfErr result (λ outcome. ¬ IsFault outcome) }
-{
-    let plan = or_fail!(plan_of(alloc, files.public, texts.public));
-    let (transcript, report) = or_fail!(read_texts(
-        alloc,
-        files,
-        &plan,
-        texts.transcript,
-        texts.report
-    ));
-    judge(alloc, files.transcript, &transcript, &report)
-}
-
-// The line that says what was counted.
-#[tactic(auto, unfolding(crate::specs::Inspecting::inspected_line))]
-fn line_of(alloc: Global, found: Inspected) -> Result<String, AllocError>
-    ensures { IfOk result (λ text. string_bytes text ≡ line_of found) }
-{
-    let Inspected { counts, opened } = found;
-    let (rows, totals) = (counts.rows, counts.totals);
-    let lacking = opened.without_total;
-    let least = opened.fewest.unwrap_or(0);
-    format!(in alloc; "inspect: rows={rows} totals={totals} opened={lacking} least={least}\n")
-}
+use std::alloc::Global;
 
 /// Fetches a public plan, a transcript and a report, and says whether the transcript is a run of the plan and the report what its
 /// frames give; and how many opened rounds have no total, and how few survivors an opened round has. It is handed no key and no
@@ -188,7 +28,7 @@ pub fn inspect<'a, D: Desk>(alloc: Global, files: InspectFiles<'a>, desk: &mut D
         report: &report,
     };
     let found = or_end!(inspect_texts(alloc, files, texts));
-    let Ok(line) = line_of(alloc, found) else {
+    let Ok(line) = inspected_line(alloc, found) else {
         return Outcome::NoMemory;
     };
     say(line.as_bytes(), desk)

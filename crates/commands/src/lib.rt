@@ -1,4 +1,4 @@
-//! The commands, over any desk: everything that the program does.
+//! The commands over any desk and any wire, and the program: everything that it does.
 #![tactic(auto)]
 
 /// The value of a result, or the command ends with the outcome that stands in its place.
@@ -21,32 +21,26 @@ macro_rules! or_fail {
     };
 }
 
-mod ahead;
 mod audit;
 mod bill;
 mod convert;
 mod cupboard;
-mod desk_calls;
-mod files;
 mod hide;
 mod inspect;
 mod load;
 mod make;
+mod outside;
 mod parts;
 mod program;
 mod public;
-mod register_texts;
 mod registers;
 mod resume;
-mod resume_texts;
 mod ring_twin;
 mod run;
-mod run_ahead;
-mod sharing;
-mod source;
-mod texts;
+mod run_texts;
 mod twin;
 
 pub use command_words::{USAGE, VERSION};
 pub use cupboard::with_lanes;
+pub use outside::Outside;
 pub use program::meteragg;

@@ -1,18 +1,16 @@
 //! The command `load`.
 
-ghost use Rattle.std.specs.Prelude.{◌≡◌, ◌≤◌, IsTrue, map};
+ghost use Rattle.std.specs.Prelude.{◌≤◌, IsTrue, map};
 ghost use Rattle.desk_outside.specs.Desk.{Rose};
 ghost use Rattle.load_maker.specs.Sizes.{is_within};
 ghost use Rattle.command_words.specs.Commands.{size_in, name_in};
 ghost use Rattle.commands.specs.Ends.{LoadEnds};
 ghost use Rattle.command_words.specs.Outcomes.{IsFault};
 
-use crate::ahead::Ahead;
-use crate::desk_calls::{begin, commit_failed, commit_one, say};
-use crate::files::read_run;
-use crate::sharing::Sharing;
-use crate::texts::{run_texts, texts_in_memory};
+use crate::run_texts::run_texts;
 use collector_workers::Gate;
+use command_files::{Ahead, begin, commit_failed, commit_one, say};
+use command_texts::{Sharing, read_run, texts_in_memory};
 use command_words::{LoadWords, Outcome};
 use desk_outside::{BegunFile, Desk, Readers};
 use link_lanes::Lane;

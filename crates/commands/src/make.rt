@@ -1,27 +1,19 @@
 //! The command `make`.
 
-ghost use Rattle.std.specs.Prelude.{◌≡◌, ◌≤◌, IsTrue, IfOk, string_bytes};
+ghost use Rattle.std.specs.Prelude.{◌≤◌, IsTrue};
 ghost use Rattle.desk_outside.specs.Desk.{Rose};
 ghost use Rattle.load_maker.specs.Sizes.{is_within};
 ghost use Rattle.command_words.specs.Commands.{size_in};
-ghost use Rattle.commands.specs.Ends.{made_line, MakeEnds};
+ghost use Rattle.commands.specs.Ends.{MakeEnds};
 ghost use Rattle.command_words.specs.Outcomes.{IsFault};
 
-use crate::desk_calls::{NewFile, put_two};
-use crate::source::Source;
+use command_files::{NewFile, Source, put_two};
+use command_texts::made_line;
 use command_words::{MakeWords, Outcome};
 use desk_outside::{Desk, Readers};
 use load_maker::{MakeError, make as make_files};
-use std::alloc::{AllocError, Global};
+use std::alloc::Global;
 use std::thread::Threads;
-
-// The line that says how many readings there are, present or not.
-#[tactic(auto, unfolding(crate::specs::Ends::made_line))]
-fn made_line(alloc: Global, readings: u64) -> Result<String, AllocError>
-    ensures { IfOk result (λ text. string_bytes text ≡ made_line readings) }
-{
-    format!(in alloc; "made: readings={readings}\n")
-}
 
 /// Makes the two files of a size, puts the plan and then the readings, and says how many readings there are.
 pub fn make<'a, R: Threads + Sync, D: Desk>(

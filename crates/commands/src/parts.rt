@@ -1,20 +1,20 @@
 //! The command `parts`.
 
-ghost use Rattle.std.specs.Prelude.{◌≡◌, ◌≤◌, ◌<◌, nat_lt, IfOk, length, string_bytes};
+ghost use Rattle.std.specs.Prelude.{◌≡◌, ◌<◌, nat_lt, length, ◌≤◌};
 ghost use Rattle.desk_outside.specs.Desk.{Rose};
 ghost use Rattle.pair_keys.specs.Keys.{table_of};
 ghost use Rattle.command_words.specs.Outcomes.{IsFault};
-ghost use Rattle.commands.specs.PartsEnds.{parts_line, PartsPut, PartsEnds};
+ghost use Rattle.commands.specs.PartsEnds.{PartsPut, PartsEnds};
 
-use crate::desk_calls::{fetch, say};
-use crate::files::plan_in;
+use command_files::{fetch, say};
+use command_texts::{parts_line, plan_in};
 use command_words::{Outcome, PartsWords};
 use desk_outside::Desk;
 use group_plan::Plan;
 use meter_files::{PartFailure, put_parts};
 use pair_keys::{KeyError, KeyTable};
 use plan_files::{FileCause, FileError};
-use std::alloc::{AllocError, Global};
+use std::alloc::Global;
 
 /// The fault of a plan that hasn't the group.
 const NO_GROUP: FileError = FileError {
@@ -28,14 +28,6 @@ fn has_group(plan: &Plan, group: u16) -> bool
     ensures { result ≡ nat_lt group (length plan.now.groups) }
 {
     (group as usize) < plan.groups().len()
-}
-
-// The line that says how many meters the group has.
-#[tactic(auto, unfolding(crate::specs::PartsEnds::parts_line))]
-fn parts_line(alloc: Global, meters: u32) -> Result<String, AllocError>
-    ensures { IfOk result (λ text. string_bytes text ≡ parts_line meters) }
-{
-    format!(in alloc; "parts: meters={meters}\n")
 }
 
 // Puts the files of the meters of a group, and says how many meters it has.

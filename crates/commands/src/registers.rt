@@ -1,15 +1,14 @@
 //! The command `registers`.
 
-ghost use Rattle.std.specs.Prelude.{◌≡◌, ◌≤◌, map};
+ghost use Rattle.std.specs.Prelude.{◌≤◌, map};
 ghost use Rattle.desk_outside.specs.Desk.{Rose};
 ghost use Rattle.command_words.specs.Commands.{register_names_of};
 ghost use Rattle.command_words.specs.Outcomes.{IsFault};
 ghost use Rattle.commands.specs.RegisterEnds.{RegistersEnds};
 
-use crate::desk_calls::{ThreeSources, begin_three, commit_three, fetch_two, first_of_three};
-use crate::register_texts::{read_register_run, register_texts};
-use crate::source::Source;
 use collector_workers::Gate;
+use command_files::{Source, ThreeSources, begin_three, commit_three, fetch_two, first_of_three};
+use command_texts::{read_register_run, register_texts};
 use command_words::{Outcome, RegisterWords};
 use desk_outside::Desk;
 use link_lanes::Lane;

@@ -1,18 +1,14 @@
 //! The command `resume`.
 
-ghost use Rattle.std.specs.Prelude.{◌≡◌, ◌≤◌, map};
+ghost use Rattle.std.specs.Prelude.{◌≤◌, map};
 ghost use Rattle.desk_outside.specs.Desk.{Rose};
 ghost use Rattle.command_words.specs.Commands.{resume_names_of};
 ghost use Rattle.command_words.specs.Outcomes.{IsFault};
 ghost use Rattle.commands.specs.ResumeEnds.{ResumeCommandEnds};
 
-use crate::ahead::Ahead;
-use crate::desk_calls::{begin, commit_two, fetch, fetch_two};
-use crate::files::read_run;
-use crate::resume_texts::{cut_in, resume_texts};
-use crate::run::first_failed;
-use crate::source::Source;
 use collector_workers::Gate;
+use command_files::{Ahead, Source, begin, commit_two, fetch, fetch_two, first_of_two};
+use command_texts::{cut_in, read_run, resume_texts};
 use command_words::{Outcome, ResumeWords};
 use cut_resume::{ResumeError, begun_bytes};
 use desk_outside::{BegunFile, Desk, Readers};
@@ -50,7 +46,7 @@ pub fn resume<'a, R: Threads + Wait + Sync, D: Desk, G: Gate>(
     let input = or_end!(read_run(alloc, files.plan, files.readings, plan, readings, cupboard));
     let cut = or_end!(cut_in(alloc, files.cut, &input.file.plan, &text));
     if transcript.file.has_failed() || report.file.has_failed() {
-        return first_failed(transcript, report, desk);
+        return first_of_two(transcript, report, desk);
     }
     let ahead = Ahead::behind(rt, alloc, transcript, begun_bytes(&text, &cut), cut.len());
     drop(text);

@@ -1,19 +1,15 @@
 //! The commands `run` and `ring`.
 
-ghost use Rattle.std.specs.Prelude.{◌≡◌, ◌≤◌, ◌||◌, [], ◌∷◌, true, map};
+ghost use Rattle.std.specs.Prelude.{◌≤◌, map};
 ghost use Rattle.desk_outside.specs.Desk.{Rose};
 ghost use Rattle.command_words.specs.Words.{names_of};
-ghost use Rattle.commands.specs.Calls.{Unwritable};
-ghost use Rattle.commands.specs.Ends.{RunEndsBy, RunEnds, RingEnds};
+ghost use Rattle.commands.specs.Ends.{RunEnds, RingEnds, RunEndsBy};
 ghost use Rattle.command_words.specs.Outcomes.{IsFault};
 
-use crate::ahead::Ahead;
-use crate::desk_calls::{Begun, begin, commit_failed, commit_two, fetch_two};
-use crate::files::read_run;
-use crate::sharing::Sharing;
-use crate::source::Source;
-use crate::texts::run_texts;
+use crate::run_texts::run_texts;
 use collector_workers::Gate;
+use command_files::{Ahead, Source, begin, commit_two, fetch_two, first_of_two};
+use command_texts::{Sharing, read_run};
 use command_words::{Outcome, RingWords, RunFiles, RunWords};
 use desk_outside::{BegunFile, Desk, Readers};
 use link_lanes::Lane;
@@ -100,7 +96,7 @@ fn run_order<'a, R: Threads + Wait + Sync, D: Desk, G: Gate>(
     };
     let input = or_end!(read_run(alloc, files.plan, files.readings, plan, readings, cupboard));
     if transcript.file.has_failed() || report.file.has_failed() {
-        return first_failed(transcript, report, desk);
+        return first_of_two(transcript, report, desk);
     }
     let crew = Crew {
         rt,
@@ -117,22 +113,4 @@ fn run_order<'a, R: Threads + Wait + Sync, D: Desk, G: Gate>(
     let report_bytes = Source::Bytes(texts.report.as_slice());
     let line = texts.summary.as_slice();
     commit_two(rt, alloc, transcript, report, report_bytes, line, desk)
-}
-
-/// Says which of two files has failed, the first one before the second, and can't be written.
-pub(crate) fn first_failed<'a, B: BegunFile + Drop, D: Desk<Begun = B>>(
-    first: Begun<'a, B>,
-    second: Begun<'a, B>,
-    desk: &mut D,
-) -> Outcome<'a>
-    requires { (B.failed first.file || B.failed second.file) ≡ true }
-    ensures ends { Unwritable (first.entry.name.now ∷ second.entry.name.now ∷ []) (D.view desk.old) (D.view desk.new) result }
-    ensures later { D.faults desk.old ≤ D.faults desk.new }
-    ensures cause { IsFault result → Rose (D.faults desk.old) (D.faults desk.new) }
-{
-    if first.file.has_failed() {
-        commit_failed(first, desk)
-    } else {
-        commit_failed(second, desk)
-    }
 }

@@ -2,13 +2,14 @@
 #![tactic(auto)]
 
 use collector_workers::Free;
-use commands::with_lanes;
-use file_desk::FileDesk;
+use commands::{Outside, with_lanes};
+use file_desk::{FileDesk, FileWire};
 use std::alloc::{AllocError, Global};
-use std::env;
 use std::env::Args;
+use std::fs::File;
 use std::io::ErrorKind;
 use std::process::ExitCode;
+use std::{env, fs};
 
 // The words that follow the program's name.
 fn words_after_name(alloc: Global, all: Args) -> Result<Vec<String>, AllocError> {
@@ -40,13 +41,34 @@ fn keep_freed_memory(alloc: Global) {
     let _block: Result<Vec<u8>, AllocError> = Vec::with_capacity(alloc, KEPT_BLOCK);
 }
 
+// Opens a file in place of a standard stream that is closed. Else the next file that a command opens, as a journal, would stand there, and
+// get what is said.
+fn stand_in(rt: &HostRuntime, stream: &str) -> Option<File> {
+    match fs::metadata(rt, stream) {
+        Ok(_) => None,
+        Err(_) => fs::open(rt, "/dev/null").ok(),
+    }
+}
+
 fn main(rt: HostRuntime) -> ExitCode {
+    let _stood_in = [
+        stand_in(&rt, "/dev/stdin"),
+        stand_in(&rt, "/dev/stdout"),
+        stand_in(&rt, "/dev/stderr"),
+    ];
     let Ok(words) = command_words(&rt) else {
         return ExitCode::from(1);
     };
     keep_freed_memory(rt.alloc());
-    let mut desk = FileDesk::new(&rt);
-    match with_lanes(&rt, rt.alloc(), &words, &mut desk, &Free) {
+    // Only a command that hears lines reads the input.
+    let Ok(wire) = FileWire::new(&rt, rt.stdin()) else {
+        return ExitCode::from(1);
+    };
+    let mut outside = Outside {
+        desk: FileDesk::new(&rt),
+        wire,
+    };
+    match with_lanes(&rt, rt.alloc(), &words, &mut outside, &Free) {
         Ok(status) => ExitCode::from(status),
         Err(AllocError) => ExitCode::from(1),
     }

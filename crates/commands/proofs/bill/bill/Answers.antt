@@ -1,6 +1,6 @@
 use Rattle.std.proofs.Common.{◌∙◌}
 use Rattle.command_words.specs.Commands.{bill_names_of}
-use Rattle.commands.proofs.BillingLemmas.{bill_refused, bill_ends}
+use Rattle.commands.proofs.BillingEndings.{bill_refused, bill_ends}
 use Rattle.commands.proofs.bill.bill.Goals as goal
 
 pub returns-in-Err-bills_of_files-clause-ends : goal.returns-in-Err-bills_of_files-clause-ends

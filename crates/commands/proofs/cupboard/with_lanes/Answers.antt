@@ -4,6 +4,7 @@ use Rattle.link_lanes.specs.Kinds.{clear_by, rules_by, seeded_by, every_by, burs
 use Rattle.link_lanes.specs.MadeLanes.{clear_lane, rules_lane, seeded_lane, every_lane, burst_lane}
 use Rattle.commands.specs.Cupboard.{four}
 use Rattle.command_words.specs.Words.{command_of}
+use Rattle.commands.specs.Outside.{with_wire}
 use Rattle.commands.proofs.CupboardLemmas.{boxed, one_more, ends_with_full, done_with_full}
 use Rattle.commands.proofs.MadePlanLemmas.{made_files_are_done, made_plans_get_lanes}
 use Rattle.commands.proofs.cupboard.with_lanes.OwnLists.{own-1}
@@ -40,7 +41,7 @@ returns-clause-ends g c =
 
 pub returns-clause-accepted : goal.returns-clause-accepted
 returns-clause-accepted g c =
-    done_with_full _ _ (command_of (map string_bytes c.args.words.now)) _ _ _ _ c.loop-5.invariant (omega arith) c.meteragg.ensures.accepted
+    done_with_full _ _ (command_of (map string_bytes c.args.words.now)) _ (with_wire (g.D.Desk.view c.meteragg.new.outside.desk) _) _ _ _ c.loop-5.invariant (omega arith) c.meteragg.ensures.accepted
 
 pub returns-clause-lanes : goal.returns-clause-lanes
 returns-clause-lanes g c =
@@ -49,5 +50,5 @@ returns-clause-lanes g c =
 
 pub returns-clause-made : goal.returns-clause-made
 returns-clause-made g c =
-    made_files_are_done (command_of (map string_bytes c.args.words.now)) _ _ _ _
-    (done_with_full _ _ (command_of (map string_bytes c.args.words.now)) _ _ _ _ c.loop-5.invariant (omega arith) c.meteragg.ensures.accepted)
+    made_files_are_done (command_of (map string_bytes c.args.words.now)) _ (with_wire (g.D.Desk.view c.meteragg.new.outside.desk) _) _ _ _
+    (done_with_full _ _ (command_of (map string_bytes c.args.words.now)) _ (with_wire (g.D.Desk.view c.meteragg.new.outside.desk) _) _ _ _ c.loop-5.invariant (omega arith) c.meteragg.ensures.accepted)

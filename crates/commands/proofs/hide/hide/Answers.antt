@@ -1,7 +1,7 @@
 use Rattle.std.proofs.Common.{[], ◌∷◌, inl, ◌∙◌}
 use Rattle.command_words.specs.Commands.{hide_names_of}
-use Rattle.commands.proofs.CommandEndings.{then_unread}
-use Rattle.commands.proofs.BillingLemmas.{hide_refused, hide_ends}
+use Rattle.command_files.proofs.CallLemmas.{then_unread}
+use Rattle.commands.proofs.BillingEndings.{hide_refused, hide_ends}
 use Rattle.commands.proofs.hide.hide.Goals as goal
 
 pub returns-in-Err-fetch-clause-ends : goal.returns-in-Err-fetch-clause-ends

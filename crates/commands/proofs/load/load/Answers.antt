@@ -1,7 +1,7 @@
 use Rattle.std.proofs.Common.{[], ◌∷◌, inl, refl, ap, sym, ◌∙◌}
 use Rattle.std.specs.Prelude.{None, Some}
 use Rattle.command_words.specs.Commands.{size_in, name_in}
-use Rattle.commands.specs.RunTexts.{texts_of}
+use Rattle.command_texts.specs.RunTexts.{texts_of}
 use Rattle.commands.proofs.CommandEndings.{load_ends, load_refused, load_unwritable}
 use Rattle.commands.proofs.load.load.Goals as goal
 

@@ -3,7 +3,7 @@ use Rattle.group_plan.specs.Plans.{PlanView, size}
 use Rattle.pair_keys.specs.Keys.{table_of}
 use Rattle.meter_files.specs.Names.{names_below}
 use Rattle.meter_files.specs.Putting.{files_below}
-use Rattle.commands.specs.PartsEnds.{parts_line}
+use Rattle.command_texts.specs.Lines.{parts_line}
 use Rattle.commands.proofs.PartsLemmas.{line_said}
 use Rattle.commands.proofs.parts.put_and_say.Goals as goal
 

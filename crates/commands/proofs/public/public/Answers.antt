@@ -1,5 +1,5 @@
 use Rattle.std.proofs.Common.{◌∙◌, refl}
-use Rattle.commands.proofs.PublicLemmas.{line_is, public_ends, public_refused}
+use Rattle.commands.proofs.PublicEndings.{line_is, public_ends, public_refused}
 use Rattle.commands.proofs.public.public.Goals as goal
 
 pub returns-in-Err-plan_in-clause-ends : goal.returns-in-Err-plan_in-clause-ends

@@ -1,7 +1,7 @@
 use Rattle.std.proofs.Common.{◌∙◌, refl}
 use Rattle.command_words.specs.Commands.{register_names_of}
-use Rattle.commands.proofs.CommitLemmas.{three_named}
-use Rattle.commands.proofs.RegisterLemmas.{registers_end, registers_refused, registers_unwritable}
+use Rattle.command_files.proofs.CommitLemmas.{three_named}
+use Rattle.commands.proofs.RegisterEndings.{registers_end, registers_refused, registers_unwritable}
 use Rattle.commands.proofs.registers.registers.Goals as goal
 
 pub returns-clause-ends : goal.returns-clause-ends

@@ -1,7 +1,8 @@
 use Rattle.std.proofs.Common.{◌∙◌, [], ◌∷◌, inl, refl, arith, rules}
 use Rattle.command_words.specs.Commands.{resume_names_of}
-use Rattle.commands.proofs.CommandEndings.{then_unread}
-use Rattle.commands.proofs.ResumeLemmas.{begun_with, cut_refused, off_course, resume_ends, resume_refused, resume_unwritable}
+use Rattle.command_files.proofs.CallLemmas.{then_unread}
+use Rattle.command_texts.proofs.ResumeLemmas.{begun_with}
+use Rattle.commands.proofs.ResumeEndings.{cut_refused, off_course, resume_ends, resume_refused, resume_unwritable}
 use Rattle.commands.proofs.resume.resume.Goals as goal
 
 pub returns-in-Err-fetch-clause-ends : goal.returns-in-Err-fetch-clause-ends
@@ -22,7 +23,7 @@ pub returns-then-has_failed-clause-ends : goal.returns-then-has_failed-clause-en
 returns-then-has_failed-clause-ends g c =
     resume_unwritable _ (resume_names_of c.args.words.files) _ _ _ _ _ _ _ c.in-Ok.ensures.ends.0 c.in-Ok.ensures.ends.1 c.in-Ok.ensures.ends.2 c.in-Ok-fetch.ensures.ends.0 c.in-Ok-fetch.ensures.ends.1
     (c.in-Ok-begin-2.ensures.same_view ∙ c.in-Ok-begin.ensures.same_view) _ _ _ _ _ c.in-Ok-read_run.ensures.values c.in-Ok-begin.ensures.begun.0 c.in-Ok-begin-2.ensures.begun.0
-    c.first_failed.ensures.ends
+    c.first_of_two.ensures.ends
 
 pub returns-in-NotThis-clause-ends : goal.returns-in-NotThis-clause-ends
 returns-in-NotThis-clause-ends g c =

@@ -1,7 +1,8 @@
 use Rattle.std.proofs.Common.{◌∙◌, ap, refl}
 use Rattle.command_words.specs.Words.{names_of}
-use Rattle.commands.specs.RunTexts.{texts_of}
-use Rattle.commands.proofs.CommandEndings.{puts_named, run_ends, run_refused, run_unwritable}
+use Rattle.command_texts.specs.RunTexts.{texts_of}
+use Rattle.command_files.proofs.CallLemmas.{puts_named}
+use Rattle.commands.proofs.CommandEndings.{run_ends, run_refused, run_unwritable}
 use Rattle.commands.proofs.run.run_order.Goals as goal
 
 pub returns-clause-ends : goal.returns-clause-ends
@@ -23,4 +24,4 @@ pub returns-then-has_failed-clause-ends : goal.returns-then-has_failed-clause-en
 returns-then-has_failed-clause-ends g c =
     run_unwritable _ _ (names_of c.args.order.files) _ _ _ _ _ _ _ _ _ c.in-Ok.ensures.ends.0 c.in-Ok.ensures.ends.1
     (c.in-Ok-begin-2.ensures.same_view ∙ c.in-Ok-begin.ensures.same_view ∙ c.in-Ok.ensures.ends.2)
-    c.in-Ok-read_run.ensures.values c.in-Ok-begin.ensures.begun.0 c.in-Ok-begin-2.ensures.begun.0 c.first_failed.ensures.ends
+    c.in-Ok-read_run.ensures.values c.in-Ok-begin.ensures.begun.0 c.in-Ok-begin-2.ensures.begun.0 c.first_of_two.ensures.ends

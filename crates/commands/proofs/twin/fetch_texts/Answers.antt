@@ -1,6 +1,7 @@
 use Rattle.std.proofs.Common.{[], ◌∷◌}
 use Rattle.command_words.specs.Commands.{twin_names_of}
-use Rattle.commands.proofs.CommandEndings.{four_read, then_unread}
+use Rattle.commands.proofs.CommandEndings.{four_read}
+use Rattle.command_files.proofs.CallLemmas.{then_unread}
 use Rattle.commands.proofs.twin.fetch_texts.Goals as goal
 
 pub returns-in-Err-fetch_two-clause-ends : goal.returns-in-Err-fetch_two-clause-ends

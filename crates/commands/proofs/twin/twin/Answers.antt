@@ -1,6 +1,6 @@
 use Rattle.command_words.specs.Commands.{twin_names_of}
 use Rattle.command_words.specs.Known.{known_of}
-use Rattle.commands.proofs.TwinLemmas.{nobody_named, ends_of_nobody}
+use Rattle.commands.proofs.TwinEndings.{nobody_named, ends_of_nobody}
 use Rattle.commands.proofs.twin.twin.Goals as goal
 
 pub twin_for-requires-after_bounds : goal.twin_for-requires-after_bounds

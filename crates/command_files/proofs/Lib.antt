@@ -1,0 +1,4 @@
+pub mod CallLemmas
+pub mod CommitLemmas
+pub mod WordsPieces
+pub mod AheadLemmas

@@ -1,0 +1,13 @@
+pub mod StreamLemmas
+pub mod RingLemmas
+pub mod RunLemmas
+pub mod StoredLemmas
+pub mod InspectedRuns
+pub mod RegisterLemmas
+pub mod ResumeLemmas
+pub mod AuditLemmas
+pub mod TwinLemmas
+pub mod RingTwinLemmas
+pub mod PublicLemmas
+pub mod BillingLemmas
+pub mod InspectLemmas

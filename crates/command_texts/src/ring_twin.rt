@@ -1,0 +1,106 @@
+//! The words that move from one table of readings to another, between neighbours on a ring.
+
+ghost use Rattle.command_words.specs.Outcomes.{IsFault};
+ghost use Rattle.command_texts.specs.RingTwinParts.{IsDisagreement, RingTablesCompared};
+ghost use Rattle.std.specs.Prelude.{◌≡◌, IfErr};
+ghost use Rattle.pair_keys.specs.Keys.{table_of};
+ghost use Rattle.plan_files.specs.PlanFiles.{view_of};
+ghost use Rattle.command_words.specs.Commands.{twin_names_of};
+ghost use Rattle.command_texts.specs.RingTwins.{RingBytesCompared};
+ghost use Rattle.command_texts.specs.TwinTexts.{AreShort, bytes_of};
+
+use crate::twin::{Tables, TwinTexts, read_tables, world_refusal};
+use crate::values::plan_in;
+use command_words::{Outcome, TwinFiles};
+use mask_stream::ChaMasks;
+use plan_files::PlanFile;
+use sparse_masks::{RingDiffer, RingMasks, ring_offsets};
+use std::alloc::{AllocError, Global};
+use twin_worlds::{MovedWords, moved_rows, same_world};
+
+// The outcome of tables that disagree on a ring.
+fn disagreement<'a>(cause: RingDiffer) -> Outcome<'a>
+    ensures ends { IsDisagreement cause result }
+    ensures no_fault { ¬ IsFault result }
+{
+    match cause {
+        RingDiffer::Presence {
+            group,
+            round,
+            meter,
+        } => Outcome::OtherPresence {
+            group,
+            round,
+            meter,
+        },
+        RingDiffer::Component {
+            group,
+            round,
+            least,
+            first,
+            second,
+        } => Outcome::OtherComponent {
+            group,
+            round,
+            least,
+            first,
+            second,
+        },
+        RingDiffer::Memory => Outcome::NoMemory,
+    }
+}
+
+// The words of neighbours that move from the first readings to the other ones.
+fn compare_tables<'a>(
+    alloc: Global,
+    width: u8,
+    transcript: &'a str,
+    file: &PlanFile,
+    tables: &Tables,
+    text: &[u8],
+) -> Result<MovedWords, Outcome<'a>>
+    requires keys { (table_of file.now.keys).plan ≡ file.now.plan }
+    requires first { tables.now.first.plan ≡ file.now.plan }
+    requires second { tables.now.second.plan ≡ file.now.plan }
+    ensures ends { RingTablesCompared width transcript.now (view_of file.now) tables.now.first tables.now.second text.now result }
+    ensures no_fault { IfErr result (λ outcome. ¬ IsFault outcome) }
+{
+    let _rounds = file.plan.rounds();
+    let words = ChaMasks::new(&file.keys);
+    let masks = RingMasks::new(&words, &file.plan, width);
+    let recorded = match same_world(alloc, &file.plan, &masks, &tables.first, text) {
+        Ok(recorded) => recorded,
+        Err(error) => return Err(world_refusal(transcript, error)),
+    };
+    let offsets = match ring_offsets(alloc, &tables.first, &tables.second, &recorded, width) {
+        Ok(offsets) => offsets,
+        Err(cause) => return Err(disagreement(cause)),
+    };
+    match moved_rows(alloc, &masks, &offsets) {
+        Ok(moved) => Ok(moved),
+        Err(AllocError) => Err(Outcome::NoMemory),
+    }
+}
+
+/// The mask words of neighbours that move from the first readings to the other ones, for rings of this width.
+pub fn ring_words_moved<'a>(
+    alloc: Global,
+    width: u8,
+    files: TwinFiles<'a>,
+    texts: &TwinTexts,
+) -> Result<MovedWords, Outcome<'a>>
+    requires short { AreShort (bytes_of texts.now) }
+    ensures ends { RingBytesCompared width (twin_names_of files.entry) (bytes_of texts.now) result }
+    ensures no_fault { IfErr result (λ outcome. ¬ IsFault outcome) }
+{
+    let file = or_fail!(plan_in(alloc, files.plan, &texts.plan));
+    let tables = or_fail!(read_tables(alloc, files, &file.plan, texts));
+    compare_tables(
+        alloc,
+        width,
+        files.transcript,
+        &file,
+        &tables,
+        &texts.transcript,
+    )
+}

@@ -1,0 +1,4 @@
+pub mod Told
+pub mod CollectEnds
+pub mod MeterEnds
+pub mod Parts
