@@ -1,13 +1,16 @@
 //! Worked runs.
 
-ghost use Rattle.std.specs.Prelude.{◌≡◌, [], IfOk};
+ghost use Rattle.std.specs.Prelude.{◌≡◌, ◌≤◌, [], IfOk};
+ghost use Rattle.group_plan.specs.Plans.{last_tick};
 ghost use Rattle.link_lanes.specs.Racks.{posts_of, HasRoom};
 ghost use Rattle.transcript_log.specs.Events.{lines_of};
 
 use crate::fixtures::{check, check_same, is_same, reading_frame};
 use crate::twin_worlds_table_rows::ideal_table;
 use collector_workers::Free;
+use group_plan::Readings;
 use link_lanes::Rack;
+use mask_stream::Masks;
 use round_machine::Ending;
 use row_fixtures::{keys_of_north, plan_of_north, reading_tag, table};
 use std::alloc::Global;
@@ -120,6 +123,45 @@ fn ideal_words_total_60(rt: HostRuntime) -> Result<(), Fail> {
     Ok(())
 }
 
+// How many entries a run has behind its first one.
+fn entries_behind_first<R: Threads + Sync, M: Masks + Sync>(
+    run: &Run<'_, R, M, Free>,
+) -> Result<usize, Fail> {
+    if run.len() < 1 {
+        return Ok(0);
+    }
+    let newest = run.newest(1)?;
+    Ok(newest.len())
+}
+
+// How many ticks are left of a run after its next tick, how many entries it has, and how many of them behind the first.
+fn told_after_tick<R: Threads + Wait + Sync, M: Masks + Sync>(
+    run: Run<'_, R, M, Free>,
+    rack: &mut Rack,
+) -> Result<(u32, usize, usize), Fail>
+    requires left { run.tick ≤ last_tick run.readings.plan }
+    requires room { HasRoom (λ b. meaning (b.vtable, b.value)) rack.old }
+{
+    let run = run.tick(rack)?;
+    let behind = entries_behind_first(&run)?;
+    Ok((run.ticks_left(), run.len(), behind))
+}
+
+// The same of a run after its first tick.
+fn told_after_first<R: Threads + Wait + Sync, M: Masks + Sync>(
+    crew: &Crew<'_, R, Free>,
+    readings: &Readings,
+    masks: &M,
+    rack: &mut Rack,
+) -> Result<(u32, usize, usize), Fail>
+    requires masks { M.plan masks.now ≡ readings.now.plan }
+    requires posts { posts_of rack.old ≡ [] }
+    requires room { HasRoom (λ b. meaning (b.vtable, b.value)) rack.old }
+{
+    let run = Run::begin(crew, readings, masks, rack)?;
+    told_after_tick(run, rack)
+}
+
 /// Of the 36 ticks 35 are left then.
 #[test]
 fn first_tick_sends_three_readings(rt: HostRuntime) -> Result<(), Fail> {
@@ -127,20 +169,11 @@ fn first_tick_sends_three_readings(rt: HostRuntime) -> Result<(), Fail> {
     let plan = plan_of_north(alloc, 1)?;
     let readings = table(alloc, &plan, &[10, 20, 30])?;
     let masks = ideal_table(alloc, &plan)?;
-    let Ok(rack) = Rack::fit(alloc, Vec::new(alloc), &[]) else {
+    let Ok(mut rack) = Rack::fit(alloc, Vec::new(alloc), &[]) else {
         return Err(Fail::new("an empty rack"));
     };
-    let mut rack = rack;
     let crew = crew_of_two(&rt, alloc);
-    let run = Run::begin(&crew, &readings, &masks, &mut rack)?;
-    check_same(&rt, &run.ticks_left(), &36, "the ticks");
-    let run = run.tick(&mut rack)?;
-    check_same(&rt, &run.ticks_left(), &35, "the ticks left");
-    check_same(&rt, &run.len(), &3, "the entries");
-    if run.len() < 1 {
-        return Ok(());
-    }
-    let newest = run.newest(1)?;
-    check_same(&rt, &newest.len(), &2, "the newest entries");
+    let told = told_after_first(&crew, &readings, &masks, &mut rack)?;
+    check_same(&rt, &told, &(35, 3, 2), "what the run tells");
     Ok(())
 }

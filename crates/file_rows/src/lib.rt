@@ -23,6 +23,8 @@ mod plan_files_readings_rows;
 #[cfg(test)]
 mod plan_files_registers_rows;
 #[cfg(test)]
+mod read_ahead_rows;
+#[cfg(test)]
 mod run_course_rows;
 #[cfg(test)]
 mod totals_report_rows;

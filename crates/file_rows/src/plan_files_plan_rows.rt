@@ -98,7 +98,7 @@ const ROUNDS: FileCause = FileCause::Plan(PlanError::Rounds);
 const FIRST_SPAN: FileCause = FileCause::Member(SpanError::Range(0));
 
 // Which rows are replaced, by which text, what comes at the end, and the row and the cause of the first fault.
-static FAULTS: [(usize, usize, &str, &str, u32, FileCause); 103] = [
+static FAULTS: [(usize, usize, &str, &str, u32, FileCause); 118] = [
     // row 1
     (1, 1, "plan,2", "", 1, FileCause::Row),
     (1, 1, "plan,01", "", 1, FileCause::Row),
@@ -185,6 +185,35 @@ static FAULTS: [(usize, usize, &str, &str, u32, FileCause); 103] = [
     ),
     (8, 8, "pair,0,0,Z", "", 8, FileCause::Fields),
     (8, 8, "pair,0,0,-1,Z", "", 8, FileCause::Number),
+    // keys nearly as they are written
+    (
+        8,
+        8,
+        "pair,0,0,1,000000000000000000000000000000000000000000000000000000000000000",
+        "",
+        8,
+        FileCause::Hex,
+    ),
+    (8, 8, "pair,0,0,1,Z0", "", 8, FileCause::Hex),
+    (8, 8, "pair,0,0,1,Z ", "", 8, FileCause::Hex),
+    (8, 8, "pair,00,0,1,Z", "", 8, FileCause::Number),
+    (8, 8, "pair,0,0,01,Z", "", 8, FileCause::Number),
+    (8, 8, "pair,0,,1,Z", "", 8, FileCause::Number),
+    (8, 8, "pair,0,0,4294967296,Z", "", 8, FileCause::Number),
+    (8, 8, "pair,0,0,1,Z,", "", 8, FileCause::Fields),
+    (8, 8, "pair,0,0,0,1,Z", "", 8, FileCause::Fields),
+    (8, 8, "pair,0,0,1\n,Z", "", 8, FileCause::Fields),
+    (8, 8, " pair,0,0,1,Z", "", 8, FileCause::Row),
+    (8, 8, "pairs,0,0,1,Z", "", 8, FileCause::Row),
+    (
+        10,
+        10,
+        "",
+        "pair,0,1,2,000000000000000000000000000000000000000000000000000000000000000",
+        10,
+        FileCause::Hex,
+    ),
+    (10, 10, "", "own,0", 10, FileCause::Fields),
     // lanes and members
     (1, 1, "plan,1", "lane,clear,0,0", 11, FileCause::Fields),
     (1, 1, "plan,1", "lane,,a b,0,0", 11, FileCause::Name),
@@ -253,6 +282,7 @@ static FAULTS: [(usize, usize, &str, &str, u32, FileCause); 103] = [
     (5, 5, "own,65536,0,Z", "", 5, KEY_RANGE),
     (5, 5, "own,0,256,Z", "", 5, KEY_RANGE),
     (8, 8, "pair,0,0,65537,Z", "", 8, KEY_RANGE),
+    (8, 8, "pair,0,0,4294967295,Z", "", 8, KEY_RANGE),
     (1, 1, "plan,1", "own,0,0,Z", 11, TWICE_OWN_0),
     (
         8,
@@ -351,7 +381,7 @@ fn first_faults_of_plans(rt: HostRuntime) -> Result<(), Fail> {
 }
 
 // Which rows are replaced, by which text, and what comes at the end.
-static ACCEPTED: [(usize, usize, &str, &str); 14] = [
+static ACCEPTED: [(usize, usize, &str, &str); 24] = [
     (1, 1, "plan,1", ""),
     (1, 1, "\u{feff}plan,1", ""),
     (1, 1, "\u{feff}\"plan\",\"1\"\r", ""),
@@ -371,6 +401,22 @@ static ACCEPTED: [(usize, usize, &str, &str); 14] = [
     (1, 1, "plan,1", "lane,rules,\"a,\"\"b\",0,0\n"),
     (1, 1, "plan,1", "member,0,2,0,1\r\n\r\n"),
     (2, 2, "rounds,2", "member,0,2,1,2\nmember,0,1,0,2"),
+    // keys nearly as they are written
+    (8, 8, "\"pair\",0,0,1,Z", ""),
+    (8, 8, "pair,\"0\",0,1,Z", ""),
+    (8, 8, "pair,0,0,1,\"Z\"", ""),
+    (8, 8, "pair,0,0,1,Z\r", ""),
+    (8, 8, "pair,0,0,1,Z\n\r\n", ""),
+    (8, 8, "\npair,0,0,1,Z", ""),
+    (
+        8,
+        8,
+        "pair,0,0,1,0123456789abcdefABCDEF0123456789abcdefABCDEF0123456789abcdefABCD",
+        "",
+    ),
+    (5, 5, "own,0,0,\"Z\"\r", ""),
+    (10, 10, "", "pair,0,1,2,Z"),
+    (10, 10, "", "\"pair\",0,1,2,Z\n\n"),
 ];
 
 #[test]
