@@ -32,8 +32,8 @@ MOST_SECONDS = 60
 MOST_PROCESSOR_SECONDS = 10
 MAY_PUT = {0, 1, 4}
 
-# Each command with its words and the statuses that it may end with. <NAME is a file that it reads and >NAME one that it
-# puts; for `parts`, what the names of the files begin with. A command that the program doesn't have is left out.
+# Each command with its words and the statuses that it may end with. <NAME is a file that it reads, >NAME one that it puts, and +NAME a
+# journal that it goes on with; for `parts`, what the names of the files begin with. A command that the program doesn't have is left out.
 COMMANDS = [
     ("run <plan <readings >report >transcript", {0, 1, 2, 3, 4, 5, 6, 10}),
     ("run <plan <readings >report >transcript 3", {0, 1, 2, 3, 4, 5, 6, 10}),
@@ -46,6 +46,8 @@ COMMANDS = [
     ("convert <old >transcript", {0, 1, 2, 3, 4, 7}),
     ("public <plan >public", {0, 1, 2, 3, 4, 5}),
     ("parts <plan 0 >m", {0, 1, 2, 3, 4, 5}),
+    ("collect <public +journal >report", {0, 1, 2, 3, 4, 5, 7}),
+    ("meter <part +noted", {0, 1, 2, 3, 4, 5, 7}),
     ("inspect <public <transcript <report", {0, 1, 2, 3, 4, 5, 7, 9}),
     ("registers 2 <plan <tables >report >transcript >words", {0, 1, 2, 3, 4, 5, 6, 10}),
     ("bill <plan <readings 0 1 >bills", {0, 1, 2, 3, 4, 5, 6}),
@@ -180,12 +182,19 @@ def two_registers(readings):
     return b"".join(b",".join(row[:2] + [field and b"%s+%d" % (field, int(field) // 3) for field in row[2:]]) + b"\n" for row in rows)
 
 
-def names_in(command, mark):
-    return [word[1:] for word in command.split() if word[0] == mark]
+def names_in(command, marks):
+    return [word[1:] for word in command.split() if word[0] in marks]
 
 
 def words_of(command):
-    return [word.lstrip("<>") for word in command.split()]
+    return [word.lstrip("<>+") for word in command.split()]
+
+
+def journal_of(program, room, transcript):
+    """The journal of a head end that took each reading of a transcript, and then let all ticks pass."""
+    readings = (b"frame," + line.split(b",")[7] for line in transcript.split(b"\n") if re.match(rb"\d+,s,.*,r,.*,4d02", line))
+    given = b"\n".join([*readings, *(b"tick,%d" % tick for tick in range(200)), b""])
+    subprocess.run([program, "collect", "public", "journal", "report"], cwd=room, input=given, capture_output=True)
 
 
 def write_files(room, files):
@@ -251,6 +260,7 @@ def sample_files(program, room):
         files = files_in(room)
         files["other"] = files["readings"]
         files.setdefault("ringed", b"")
+        add_roles(program, room, files)
         files["public"] = public_text(files["plan"])
         files["tables"] = two_registers(files["readings"])
         files["old"] = old_text(files["transcript"])
@@ -259,11 +269,22 @@ def sample_files(program, room):
     return sets
 
 
+def add_roles(program, room, files):
+    """Adds what a head end and a meter have, each with a journal; nothing where the program has none."""
+    with tempfile.TemporaryDirectory(prefix="fuzz-") as other:
+        write_files(other, {"plan": files["plan"], "public": public_text(files["plan"])})
+        run_in(other, program, "parts plan 0 m".split())
+        journal_of(program, other, files["transcript"])
+        made = files_in(other)
+    files["journal"], files["part"] = made.get("journal", b""), made.get("m1.csv", b"")
+    files["noted"] = made.get("m1.journal", b"") + b"r,0,5\ns,0,-\n"
+
+
 def known_commands(program, room, files):
     """The commands that the program has: on sample files each of them is done, or looks in vain."""
     known = []
     for command, statuses in COMMANDS:
-        write_files(room, {name: files[name] for name in names_in(command, "<")})
+        write_files(room, {name: files[name] for name in names_in(command, "<+")})
         ended = run_in(room, program, words_of(command))
         if ended.returncode in (0, 11):
             known.append((command, statuses))
@@ -277,7 +298,7 @@ def one_case(draw, known, sets, room):
     command, statuses = draw.choice(known)
     # A small example is as good as the large one for most changes, and much faster.
     files = sets[draw.choice((0, 0, 0, 1, 2, 2, 2, 2))]
-    read = names_in(command, "<")
+    read = names_in(command, "<+")
     files = {name: files[name] for name in read}
     words = words_of(command)
     if read and draw.random() < 0.95:
@@ -298,7 +319,7 @@ def try_case(options, known, sets, number):
     unchanged = words == words_of(command)
     # `./plan` is the file `plan`.
     paths = [os.path.normpath(word) for word in words]
-    named = names_in(command, ">") if unchanged else [path for path in paths if path not in before]
+    named = names_in(command, ">+") if unchanged else [path for path in paths if path not in before]
     if not unchanged:
         statuses = set(range(12))
     started = time.monotonic()
