@@ -7,7 +7,7 @@ use Rattle.shared_book.proofs.Crossings.{slot_send, seat_send, shared_sync, leas
 use Rattle.shared_book.specs.contracts.parcel.Parcel as Parcel
 use Rattle.transcript_log.specs.contracts.lines.Lines as Lines
 use Rattle.collector_workers.specs.contracts.crew.Worker as Worker
-use Rattle.collector_workers.specs.contracts.desk.Desk as Desk
+use Rattle.collector_workers.specs.contracts.workload.Workload as Workload
 use Rattle.collector_workers.specs.contracts.outcome.Outcome as Outcome
 
 pub pass_send : IsSend Pass.the_row
@@ -22,8 +22,8 @@ parcel_send = search (sendable, crosses) depth 60
 pub outcome_send : IsSend Outcome.the_row
 outcome_send = search (sendable, crosses) depth 60 fits 100000
 
-pub desk_send : IsSend Desk.the_row
-desk_send = search (sendable, crosses, lines_send, parcel_send, outcome_send) depth 60 fits 100000
+pub workload_send : IsSend Workload.the_row
+workload_send = search (sendable, crosses, lines_send, parcel_send, outcome_send) depth 60 fits 100000
 
 pub worker_send : IsSend Worker.the_row
 worker_send = search (sendable, crosses, slot_send, seat_send, lines_send, parcel_send, outcome_send) depth 60 fits 100000

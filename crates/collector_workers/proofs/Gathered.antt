@@ -15,10 +15,10 @@ use Rattle.shared_book.specs.Parcels.{request_of, group_in}
 use Rattle.shared_book.specs.Turns.{turns_by, turns_of}
 use Rattle.shared_book.specs.Passes.{PassView}
 use Rattle.collector_workers.specs.declared.crew.Worker.{Worker}
-use Rattle.collector_workers.specs.declared.desk.Desk.{Desk}
+use Rattle.collector_workers.specs.declared.workload.Workload.{Workload}
 use Rattle.collector_workers.specs.declared.outcome.Outcome.{Outcome}
 use Rattle.collector_workers.specs.Outcomes.{Becomes, lines_told, worker_if_read, worker_for, parcels_for}
-use Rattle.collector_workers.specs.Gathering.{IsDeskFor, AreDesks, SplitsAll, IsNewWorker, IsNewCrew, AllWork, Works, Merges, told_by, AreWhole, numbers_of, JoinsAll, Gathers}
+use Rattle.collector_workers.specs.Gathering.{IsWorkloadFor, AreWorkloads, SplitsAll, IsNewWorker, IsNewCrew, AllWork, Works, Merges, told_by, AreWhole, numbers_of, JoinsAll, Gathers}
 use Rattle.collector_workers.proofs.Told.{all_wider, starts_same}
 use Rattle.collector_workers.proofs.Dealing.{all_told, lines_dealt}
 
@@ -51,18 +51,18 @@ written_back new old n long same =
 
 -- a worker has told of all its parcels, and its turns are the lines of these
 pub record HasTold (o : BookView) (v : PassView) (batch : List Parcel) (n k : ℕ) (w : Worker) : Type 0 where
-  pub told : AllZip (Becomes o v.seen (view w.pass).seen) (parcels_for n k batch) w.desk.outcomes.items
+  pub told : AllZip (Becomes o v.seen (view w.pass).seen) (parcels_for n k batch) w.workload.outcomes.items
   pub number : (view w.pass).number ≡ v.made + 1 + k
-  pub mine : (view w.pass).mine ≡ turns_of (v.made + 1 + k) (lines_told w.desk.outcomes.items)
+  pub mine : (view w.pass).mine ≡ turns_of (v.made + 1 + k) (lines_told w.workload.outcomes.items)
 
-has_told : (book : SharedBook) (v : PassView) (batch : List Parcel) (n k : ℕ) (desk : Desk) (a b : Worker) → IsDeskFor batch n k desk → IsNewWorker book v (v.made + 1 + k) desk a → Works book a b → HasTold (opening book) v batch n k b
-has_told book v batch n k desk a b for new works =
+has_told : (book : SharedBook) (v : PassView) (batch : List Parcel) (n k : ℕ) (workload : Workload) (a b : Worker) → IsWorkloadFor batch n k workload → IsNewWorker book v (v.made + 1 + k) workload a → Works book a b → HasTold (opening book) v batch n k b
+has_told book v batch n k workload a b for new works =
     let number : ℕ = v.made + 1 + k in
-    let parcels : a.desk.parcels.items ≡ parcels_for n k batch = ap (λ (x : Desk). x.parcels.items) new.2 ∙ for.0 in
+    let parcels : a.workload.parcels.items ≡ parcels_for n k batch = ap (λ (x : Workload). x.parcels.items) new.2 ∙ for.0 in
     let seen : (view a.pass).seen ≡ v.seen = ap (λ (x : PassView). x.seen) new.1 in
     let own : (view a.pass).number ≡ number = ap (λ (x : PassView). x.number) new.1 in
     let none : (view a.pass).mine ≡ [] = ap (λ (x : PassView). x.mine) new.1 in
-    let xs : List Outcome = b.desk.outcomes.items in record {
+    let xs : List Outcome = b.workload.outcomes.items in record {
       told = subst (λ (x : List Turn × List Parcel). AllZip (Becomes (opening book) x.0 (view b.pass).seen) x.1 xs) (λ i. (seen i, parcels i)) works.1.told;
       number = works.1.number ∙ own;
       mine = works.1.mine ∙ (λ i. none i ++ turns_of (own i) (lines_told xs));
@@ -70,20 +70,20 @@ has_told book v batch n k desk a b for new works =
 
 -- ---- all of them
 
-module _ (book : SharedBook) (v : PassView) (batch : List Parcel) (n : ℕ) (desks : List Desk) (crew0 crew1 : List Worker)
-    (many : length desks ≡ n) (are : AreDesks batch n desks) (new : IsNewCrew book v desks crew0) (work : AllWork book crew0 crew1) where
+module _ (book : SharedBook) (v : PassView) (batch : List Parcel) (n : ℕ) (workloads : List Workload) (crew0 crew1 : List Worker)
+    (many : length workloads ≡ n) (are : AreWorkloads batch n workloads) (new : IsNewCrew book v workloads crew0) (work : AllWork book crew0 crew1) where
   pub crew_long : length crew1 ≡ n
   crew_long = work.0 ∙ new.0 ∙ many
 
   pub each_told : (k : ℕ) (d : Worker) → k < n → HasTold (opening book) v batch n k (get_or crew1 k d)
   each_told k d lt =
       let in0 : k < length crew0 = (let e = new.0 in omega arith) in
-      has_told book v batch n k (get_or desks k d.desk) (get_or crew0 k d) (get_or crew1 k d) (are k d.desk (omega arith)) (new.1 k d in0) (work.1 k d in0)
+      has_told book v batch n k (get_or workloads k d.workload) (get_or crew0 k d) (get_or crew1 k d) (are k d.workload (omega arith)) (new.1 k d in0) (work.1 k d in0)
 
   pub are_whole : AreWhole batch crew1
   are_whole k d lt =
       let t = each_told k d (let e = crew_long in omega arith) in
-      sym (zip_long (Becomes (opening book) v.seen (view (get_or crew1 k d).pass).seen) (parcels_for n k batch) (get_or crew1 k d).desk.outcomes.items t.told)
+      sym (zip_long (Becomes (opening book) v.seen (view (get_or crew1 k d).pass).seen) (parcels_for n k batch) (get_or crew1 k d).workload.outcomes.items t.told)
       ∙ ap (λ (m : ℕ). length (parcels_for m k batch)) (sym crew_long)
 
   pub are_ready : All (λ worker. (view worker.pass).held ≡ None) crew1
@@ -95,11 +95,11 @@ module _ (book : SharedBook) (v : PassView) (batch : List Parcel) (n : ℕ) (des
       let joins : JoinsAll (record v { made = v.made + n; out = v.out + n }) crew1 w2 = subst (λ (x : PassView). JoinsAll x crew1 w2) split joins1 in
       let d : Worker = one_of crew1 (let e = crew_long in omega arith) in
       let at : (k : ℕ) → Worker = λ k. get_or crew1 k d in
-      let outs_at : (k : ℕ) → k < n → told_by n k batch outs ≡ (at k).desk.outcomes.items = λ k lt.
+      let outs_at : (k : ℕ) → k < n → told_by n k batch outs ≡ (at k).workload.outcomes.items = λ k lt.
       ap (λ (m : ℕ). told_by m k batch outs) (sym crew_long) ∙ merges.1 k d (let e = crew_long in omega arith) in
       let told : AllZip (Becomes o v.seen w2.seen) batch outs = all_told (Becomes o v.seen w2.seen) n batch outs (λ p. worker_below n p some) merges.0 (λ k lt.
       subst (λ (xs : List Outcome). AllZip (Becomes o v.seen w2.seen) (parcels_for n k batch) xs) (sym (outs_at k lt))
-      (all_wider o v.seen v.seen (view (at k).pass).seen w2.seen (parcels_for n k batch) (at k).desk.outcomes.items (starts_same v.seen) (joins.all k d (let e = crew_long in omega arith)).0 (each_told k d lt).told)) in record {
+      (all_wider o v.seen v.seen (view (at k).pass).seen w2.seen (parcels_for n k batch) (at k).workload.outcomes.items (starts_same v.seen) (joins.all k d (let e = crew_long in omega arith)).0 (each_told k d lt).told)) in record {
         seen = joins.seen;
         mine = joins.mine;
         number = joins.number;

@@ -12,43 +12,43 @@ use Rattle.shared_book.specs.Turns.{turns_by}
 use Rattle.shared_book.specs.Passes.{PassView, JoinEnds}
 use Rattle.shared_book.proofs.Turning.{starts_on}
 use Rattle.collector_workers.specs.declared.crew.Worker.{Worker}
-use Rattle.collector_workers.specs.declared.desk.Desk.{Desk}
-use Rattle.collector_workers.specs.Gathering.{IsDeskFor, AreDesks, SplitsAll, IsNewWorker, IsNewCrew, IsJoined, numbers_of, JoinsAll}
+use Rattle.collector_workers.specs.declared.workload.Workload.{Workload}
+use Rattle.collector_workers.specs.Gathering.{IsWorkloadFor, AreWorkloads, SplitsAll, IsNewWorker, IsNewCrew, IsJoined, numbers_of, JoinsAll}
 use Rattle.collector_workers.proofs.Told.{starts_same}
 
 abbrev number_of : Worker → ℕ
 number_of worker = (view worker.pass).number
 
--- ---- desks
+-- ---- workloads
 
--- one desk more
-pub desks_more : (batch : List Parcel) (n : ℕ) (desks : List Desk) (desk : Desk) → AreDesks batch n desks → IsDeskFor batch n (length desks) desk → AreDesks batch n (desks ++ desk ∷ [])
-desks_more batch n desks desk old new k d lt =
-    let one = length_push desks desk in
-    dite (ℕ_discrete k (length desks))
-    (λ (e : k ≡ length desks). subst (λ (x : ℕ × Desk). IsDeskFor batch n x.0 x.1) (λ i. (sym e i, sym (get_or_push desks desk d k (sym e)) i)) new)
-    (λ (ne : k ≢ length desks). subst (IsDeskFor batch n k) (sym (get_or_append_left desks (desk ∷ []) d k (omega arith))) (old k d (omega arith)))
+-- one workload more
+pub workloads_more : (batch : List Parcel) (n : ℕ) (workloads : List Workload) (workload : Workload) → AreWorkloads batch n workloads → IsWorkloadFor batch n (length workloads) workload → AreWorkloads batch n (workloads ++ workload ∷ [])
+workloads_more batch n workloads workload old new k d lt =
+    let one = length_push workloads workload in
+    dite (ℕ_discrete k (length workloads))
+    (λ (e : k ≡ length workloads). subst (λ (x : ℕ × Workload). IsWorkloadFor batch n x.0 x.1) (λ i. (sym e i, sym (get_or_push workloads workload d k (sym e)) i)) new)
+    (λ (ne : k ≢ length workloads). subst (IsWorkloadFor batch n k) (sym (get_or_append_left workloads (workload ∷ []) d k (omega arith))) (old k d (omega arith)))
 
 -- ---- split
 
 -- one worker more
-pub crew_more : (book : SharedBook) (v : PassView) (desks : List Desk) (crew : List Worker) (desk : Desk) (worker : Worker) → IsNewCrew book v desks crew → IsNewWorker book v (v.made + 1 + length crew) desk worker
-    → IsNewCrew book v (desks ++ desk ∷ []) (crew ++ worker ∷ [])
-crew_more book v desks crew desk worker old new =
+pub crew_more : (book : SharedBook) (v : PassView) (workloads : List Workload) (crew : List Worker) (workload : Workload) (worker : Worker) → IsNewCrew book v workloads crew → IsNewWorker book v (v.made + 1 + length crew) workload worker
+    → IsNewCrew book v (workloads ++ workload ∷ []) (crew ++ worker ∷ [])
+crew_more book v workloads crew workload worker old new =
     let long = old.0 in
     let one = length_push crew worker in
-    let two = length_push desks desk in (
+    let two = length_push workloads workload in (
       omega arith,
       λ k d lt. dite (ℕ_discrete k (length crew))
           (λ (e : k ≡ length crew).
-          let at_desk : get_or (desks ++ desk ∷ []) k d.desk ≡ desk = get_or_push desks desk d.desk k (omega arith) in
+          let at_workload : get_or (workloads ++ workload ∷ []) k d.workload ≡ workload = get_or_push workloads workload d.workload k (omega arith) in
           let at_crew : get_or (crew ++ worker ∷ []) k d ≡ worker = get_or_push crew worker d k (sym e) in
-          subst (λ (x : ℕ × Desk × Worker). IsNewWorker book v (v.made + 1 + x.0) x.1 x.2) (λ i. (sym e i, sym at_desk i, sym at_crew i)) new)
+          subst (λ (x : ℕ × Workload × Worker). IsNewWorker book v (v.made + 1 + x.0) x.1 x.2) (λ i. (sym e i, sym at_workload i, sym at_crew i)) new)
           (λ (n : k ≢ length crew).
           let before : k < length crew = omega arith in
-          let at_desk : get_or (desks ++ desk ∷ []) k d.desk ≡ get_or desks k d.desk = get_or_append_left desks (desk ∷ []) d.desk k (omega arith) in
+          let at_workload : get_or (workloads ++ workload ∷ []) k d.workload ≡ get_or workloads k d.workload = get_or_append_left workloads (workload ∷ []) d.workload k (omega arith) in
           let at_crew : get_or (crew ++ worker ∷ []) k d ≡ get_or crew k d = get_or_append_left crew (worker ∷ []) d k before in
-          subst (λ (x : Desk × Worker). IsNewWorker book v (v.made + 1 + k) x.0 x.1) (λ i. (sym at_desk i, sym at_crew i)) (old.1 k d before)),
+          subst (λ (x : Workload × Worker). IsNewWorker book v (v.made + 1 + k) x.0 x.1) (λ i. (sym at_workload i, sym at_crew i)) (old.1 k d before)),
     )
 
 -- ---- join
@@ -100,11 +100,11 @@ joins_more v w w' crew x old j apart =
 
 -- ---- counts
 
-pub splits_more : (v w w' : PassView) (desks : List Desk) (desk : Desk) → SplitsAll v (length desks) w → w' ≡ record w { made = w.made + 1; out = w.out + 1 } → SplitsAll v (length (desks ++ desk ∷ [])) w'
-splits_more v w w' desks desk old new =
-    let long = length_push desks desk in
-    let made : v.made + length desks + 1 ≡ v.made + length (desks ++ desk ∷ []) = omega arith in
-    let out : v.out + length desks + 1 ≡ v.out + length (desks ++ desk ∷ []) = omega arith in
+pub splits_more : (v w w' : PassView) (workloads : List Workload) (workload : Workload) → SplitsAll v (length workloads) w → w' ≡ record w { made = w.made + 1; out = w.out + 1 } → SplitsAll v (length (workloads ++ workload ∷ [])) w'
+splits_more v w w' workloads workload old new =
+    let long = length_push workloads workload in
+    let made : v.made + length workloads + 1 ≡ v.made + length (workloads ++ workload ∷ []) = omega arith in
+    let out : v.out + length workloads + 1 ≡ v.out + length (workloads ++ workload ∷ []) = omega arith in
     new ∙ ap (λ (x : PassView). record x { made = x.made + 1; out = x.out + 1 }) old ∙ (λ i. record v { made = made i; out = out i })
 
 -- the passes of one worker more

@@ -12,7 +12,7 @@ use Rattle.collector_workers.proofs.Dealing.{before_one, told_long, told_push}
 
 -- what a worker of the crew told
 abbrev pub outs_of : List Worker → ℕ → Worker → List Outcome
-outs_of crew k d = (get_or crew k d).desk.outcomes.items
+outs_of crew k d = (get_or crew k d).workload.outcomes.items
 
 -- each worker told of the parcels so far
 abbrev pub HasMerged : List Parcel → List Worker → List ℕ → List Outcome → ℕ → Type 0

@@ -116,7 +116,7 @@ pub told-append : (xs ys : List Outcome) → lines_told (xs ++ ys) ≡ lines_tol
 told-append [] ys = refl
 told-append (x ∷ xs) ys = ap (line_before x.line) (told-append xs ys) ∙ sym (line_before-append x.line (lines_told xs) (lines_told ys))
 
-pub does_none : (o : BookView) (a : Worker) → a.desk.outcomes.items ≡ [] → (view a.pass).held ≡ None → Does o a [] a
+pub does_none : (o : BookView) (a : Worker) → a.workload.outcomes.items ≡ [] → (view a.pass).held ≡ None → Does o a [] a
 does_none o a none free = record {
   parcels_same = refl;
   told = subst (λ (xs : List Outcome). AllZip (Becomes o (view a.pass).seen (view a.pass).seen) [] xs) (sym none) tt;
@@ -131,7 +131,7 @@ pub does_more : (o : BookView) (a b c : Worker) (ps : List Parcel) (p : Parcel) 
 does_more o a b c ps p d m =
     let from : List Turn = (view a.pass).seen in
     let n : ℕ = (view a.pass).number in
-    let xs : List Outcome = b.desk.outcomes.items in
+    let xs : List Outcome = b.workload.outcomes.items in
     let one : List Outcome = m.outcome ∷ [] in
     let R : Parcel → Outcome → Type 0 = Becomes o from (view c.pass).seen in
     let old = all_wider o from from (view b.pass).seen (view c.pass).seen ps xs (starts_same from) m.seen d.told in
@@ -152,15 +152,15 @@ does_more o a b c ps p d m =
     }
 
 -- the next of a worker's parcels
-pub worked_more : (o : BookView) (a b c : Worker) (at : ℕ) → at < length a.desk.parcels.items → Does o a (take at a.desk.parcels.items) b → ((d : Parcel) → Commits o b (get_or b.desk.parcels.items at d) c) → Does o a (take (at + 1) a.desk.parcels.items) c
-worked_more o a b c at lt d m = next a.desk.parcels.items refl lt
+pub worked_more : (o : BookView) (a b c : Worker) (at : ℕ) → at < length a.workload.parcels.items → Does o a (take at a.workload.parcels.items) b → ((d : Parcel) → Commits o b (get_or b.workload.parcels.items at d) c) → Does o a (take (at + 1) a.workload.parcels.items) c
+worked_more o a b c at lt d m = next a.workload.parcels.items refl lt
   where
-    next : (ps : List Parcel) → a.desk.parcels.items ≡ ps → at < length a.desk.parcels.items → Does o a (take (at + 1) a.desk.parcels.items) c
+    next : (ps : List Parcel) → a.workload.parcels.items ≡ ps → at < length a.workload.parcels.items → Does o a (take (at + 1) a.workload.parcels.items) c
     next [] e lt = absurd (let z = ap length e in omega arith)
     next (p ∷ ps) e lt =
-        let same : get_or b.desk.parcels.items at p ≡ get_or a.desk.parcels.items at p = ap (λ (x : Vec Parcel Global). get_or x.items at p) d.parcels_same in
-        let one : Commits o b (get_or a.desk.parcels.items at p) c = subst (λ (q : Parcel). Commits o b q c) same (m p) in
-        subst (λ (qs : List Parcel). Does o a qs c) (sym (take_more a.desk.parcels.items at p lt)) (does_more o a b c (take at a.desk.parcels.items) (get_or a.desk.parcels.items at p) d one)
+        let same : get_or b.workload.parcels.items at p ≡ get_or a.workload.parcels.items at p = ap (λ (x : Vec Parcel Global). get_or x.items at p) d.parcels_same in
+        let one : Commits o b (get_or a.workload.parcels.items at p) c = subst (λ (q : Parcel). Commits o b q c) same (m p) in
+        subst (λ (qs : List Parcel). Does o a qs c) (sym (take_more a.workload.parcels.items at p lt)) (does_more o a b c (take at a.workload.parcels.items) (get_or a.workload.parcels.items at p) d one)
 
 -- ---- in the order of the batch
 

@@ -11,26 +11,26 @@ use Rattle.shared_book.specs.Ends.{opening, view, IsPassOf}
 use Rattle.shared_book.specs.Turns.{StartsWith, turns_by, turns_of}
 use Rattle.shared_book.specs.Passes.{PassView, new_pass}
 use Rattle.collector_workers.specs.declared.crew.Worker.{Worker}
-use Rattle.collector_workers.specs.declared.desk.Desk.{Desk}
+use Rattle.collector_workers.specs.declared.workload.Workload.{Workload}
 use Rattle.collector_workers.specs.declared.outcome.Outcome.{Outcome}
 use Rattle.collector_workers.specs.Outcomes.{Becomes, lines_told, lines_by, worker_for, parcels_for}
 
--- ---- desks
+-- ---- workloads
 
--- a desk on which nothing was done, with room for what becomes of its parcels
-pub record IsNewDesk (desk : Desk) : Type 0 where
-  pub none : desk.outcomes.items ≡ []
-  pub empty : vec_len desk.outcomes ≡ 0
-  pub room : length desk.parcels.items ≤ vec_capacity desk.outcomes
-  pub lines : length desk.parcels.items ≤ desk.lines.spare
+-- a workload on which nothing was done, with room for what becomes of its parcels
+pub record IsNewWorkload (workload : Workload) : Type 0 where
+  pub none : workload.outcomes.items ≡ []
+  pub empty : vec_len workload.outcomes ≡ 0
+  pub room : length workload.parcels.items ≤ vec_capacity workload.outcomes
+  pub lines : length workload.parcels.items ≤ workload.lines.spare
 
--- the desk of one of so many workers
-abbrev pub IsDeskFor : List Parcel → ℕ → ℕ → Desk → Type 0
-IsDeskFor batch workers k desk = (desk.parcels.items ≡ parcels_for workers k batch) × IsNewDesk desk
+-- the workload of one of so many workers
+abbrev pub IsWorkloadFor : List Parcel → ℕ → ℕ → Workload → Type 0
+IsWorkloadFor batch workers k workload = (workload.parcels.items ≡ parcels_for workers k batch) × IsNewWorkload workload
 
--- the desks of so many workers, from the first on
-abbrev pub AreDesks : List Parcel → ℕ → List Desk → Type 0
-AreDesks batch workers desks = (k : ℕ) (d : Desk) → k < length desks → IsDeskFor batch workers k (slice_index_or desks k d)
+-- the workloads of so many workers, from the first on
+abbrev pub AreWorkloads : List Parcel → ℕ → List Workload → Type 0
+AreWorkloads batch workers workloads = (k : ℕ) (d : Workload) → k < length workloads → IsWorkloadFor batch workers k (slice_index_or workloads k d)
 
 -- ---- a worker
 
@@ -38,13 +38,13 @@ AreDesks batch workers desks = (k : ℕ) (d : Desk) → k < length desks → IsD
 pub record IsReady (book : SharedBook) (worker : Worker) : Type 0 where
   pub pass : IsPassOf book worker.pass
   pub free : (view worker.pass).held ≡ None
-  pub desk : IsNewDesk worker.desk
+  pub workload : IsNewWorkload worker.workload
 
 -- a worker commits a parcel
 pub record Commits (o : BookView) (a : Worker) (parcel : Parcel) (b : Worker) : Type 0 where
   pub outcome : Outcome
-  pub outcomes : b.desk.outcomes.items ≡ a.desk.outcomes.items ++ outcome ∷ []
-  pub parcels : b.desk.parcels ≡ a.desk.parcels
+  pub outcomes : b.workload.outcomes.items ≡ a.workload.outcomes.items ++ outcome ∷ []
+  pub parcels : b.workload.parcels ≡ a.workload.parcels
   pub becomes : Becomes o (view a.pass).seen (view b.pass).seen parcel outcome
   pub seen : StartsWith (view b.pass).seen (view a.pass).seen
   pub mine : (view b.pass).mine ≡ (view a.pass).mine ++ turns_of (view a.pass).number (lines_told (outcome ∷ []))
@@ -53,16 +53,16 @@ pub record Commits (o : BookView) (a : Worker) (parcel : Parcel) (b : Worker) : 
 
 -- a worker has committed these parcels: each became what it was judged when it was committed, and its turns are those of their lines
 pub record Does (o : BookView) (a : Worker) (parcels : List Parcel) (b : Worker) : Type 0 where
-  pub parcels_same : b.desk.parcels ≡ a.desk.parcels
-  pub told : AllZip (Becomes o (view a.pass).seen (view b.pass).seen) parcels b.desk.outcomes.items
+  pub parcels_same : b.workload.parcels ≡ a.workload.parcels
+  pub told : AllZip (Becomes o (view a.pass).seen (view b.pass).seen) parcels b.workload.outcomes.items
   pub seen : StartsWith (view b.pass).seen (view a.pass).seen
-  pub mine : (view b.pass).mine ≡ (view a.pass).mine ++ turns_of (view a.pass).number (lines_told b.desk.outcomes.items)
+  pub mine : (view b.pass).mine ≡ (view a.pass).mine ++ turns_of (view a.pass).number (lines_told b.workload.outcomes.items)
   pub number : (view b.pass).number ≡ (view a.pass).number
   pub held : (view b.pass).held ≡ None
 
 -- a worker has committed all its parcels
 abbrev pub Works : SharedBook → Worker → Worker → Type 0
-Works book a b = IsPassOf book b.pass × Does (opening book) a a.desk.parcels.items b
+Works book a b = IsPassOf book b.pass × Does (opening book) a a.workload.parcels.items b
 
 -- ---- all workers
 
@@ -70,14 +70,14 @@ Works book a b = IsPassOf book b.pass × Does (opening book) a a.desk.parcels.it
 abbrev pub SplitsAll : PassView → ℕ → PassView → Type 0
 SplitsAll v count w = w ≡ record v { made = v.made + count; out = v.out + count }
 
--- a worker with a new pass of this number and this desk
-abbrev pub IsNewWorker : SharedBook → PassView → ℕ → Desk → Worker → Type 0
-IsNewWorker book v number desk worker = IsPassOf book worker.pass × (view worker.pass ≡ new_pass number v.seen) × (worker.desk ≡ desk)
+-- a worker with a new pass of this number and this workload
+abbrev pub IsNewWorker : SharedBook → PassView → ℕ → Workload → Worker → Type 0
+IsNewWorker book v number workload worker = IsPassOf book worker.pass × (view worker.pass ≡ new_pass number v.seen) × (worker.workload ≡ workload)
 
--- a worker for each desk, whose passes have the next numbers
-abbrev pub IsNewCrew : SharedBook → PassView → List Desk → List Worker → Type 0
-IsNewCrew book v desks crew = (length crew ≡ length desks)
-    × ((k : ℕ) (d : Worker) → k < length crew → IsNewWorker book v (v.made + 1 + k) (slice_index_or desks k d.desk) (slice_index_or crew k d))
+-- a worker for each workload, whose passes have the next numbers
+abbrev pub IsNewCrew : SharedBook → PassView → List Workload → List Worker → Type 0
+IsNewCrew book v workloads crew = (length crew ≡ length workloads)
+    × ((k : ℕ) (d : Worker) → k < length crew → IsNewWorker book v (v.made + 1 + k) (slice_index_or workloads k d.workload) (slice_index_or crew k d))
 
 -- each worker has committed all its parcels
 abbrev pub AllWork : SharedBook → List Worker → List Worker → Type 0
@@ -118,12 +118,12 @@ told_by workers k (p ∷ ps) (x ∷ xs) = if worker_for workers p == k then x �
 
 -- each worker has told of all its parcels
 abbrev pub AreWhole : List Parcel → List Worker → Type 0
-AreWhole batch crew = (k : ℕ) (d : Worker) → k < length crew → length (slice_index_or crew k d).desk.outcomes.items ≡ length (parcels_for (length crew) k batch)
+AreWhole batch crew = (k : ℕ) (d : Worker) → k < length crew → length (slice_index_or crew k d).workload.outcomes.items ≡ length (parcels_for (length crew) k batch)
 
 -- what the workers told, in the order of the batch
 abbrev pub Merges : List Parcel → List Worker → List Outcome → Type 0
 Merges batch crew outcomes = (length outcomes ≡ length batch)
-    × ((k : ℕ) (d : Worker) → k < length crew → told_by (length crew) k batch outcomes ≡ (slice_index_or crew k d).desk.outcomes.items)
+    × ((k : ℕ) (d : Worker) → k < length crew → told_by (length crew) k batch outcomes ≡ (slice_index_or crew k d).workload.outcomes.items)
 
 -- ---- gather
 

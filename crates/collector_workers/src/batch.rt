@@ -9,10 +9,10 @@ ghost use Rattle.collector_workers.specs.Gathering.{GatherEnds};
 ghost use Rattle.collector_workers.specs.Batch.{CollectEnds};
 
 use crate::crew::{join_all, merge, split_all, work_all};
-use crate::desk::all_desks;
 use crate::gate::Gate;
 use crate::mark::{CollectRefused, Collected, Mark};
 use crate::outcome::Outcome;
+use crate::workload::all_workloads;
 use group_book::{Book, Parts};
 use shared_book::{BeginRefused, Parcel, Pass, SharedBook};
 use std::alloc::{AllocError, Global};
@@ -43,8 +43,8 @@ pub fn gather<R: Threads + Wait + Sync, G: Gate>(
     let mut outcomes = Vec::with_capacity(alloc, batch.len())?;
     let mut taken = vec![in alloc; 0usize; count]?;
     let mut crew = Vec::with_capacity(alloc, count)?;
-    let desks = all_desks(alloc, batch, count)?;
-    split_all(shared, first, desks, &mut crew);
+    let workloads = all_workloads(alloc, batch, count)?;
+    split_all(shared, first, workloads, &mut crew);
     work_all(rt, shared, crew.as_mut_slice(), gate);
     merge(batch, crew.as_slice(), taken.as_mut_slice(), &mut outcomes);
     join_all(shared, first, crew);

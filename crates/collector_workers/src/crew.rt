@@ -3,11 +3,11 @@
 ghost use Rattle.std.specs.Prelude.{◌≡◌, ◌∷◌, [], ◌+◌, ◌^◌, ◌<◌, ◌≤◌, None, length, slice_index_or, vec_len, vec_capacity, All, ℕ};
 ghost use Rattle.shared_book.specs.Ends.{opening, view, IsPassOf};
 ghost use Rattle.shared_book.specs.declared.parcel.Parcel.{Parcel as ParcelView};
-ghost use Rattle.collector_workers.specs.Gathering.{AreDesks, IsReady, Commits, Works, SplitsAll, IsNewCrew, AllWork, JoinsAll, AreLast, Merges, AreWhole};
+ghost use Rattle.collector_workers.specs.Gathering.{AreWorkloads, IsReady, Commits, Works, SplitsAll, IsNewCrew, AllWork, JoinsAll, AreLast, Merges, AreWhole};
 
-use crate::desk::{Desk, worker_for};
 use crate::gate::Gate;
 use crate::outcome::{Outcome, outcome_at, outcome_of};
+use crate::workload::{Workload, worker_for};
 use shared_book::{Parcel, Pass, SharedBook};
 use std::sync::Wait;
 use std::thread;
@@ -17,28 +17,28 @@ use std::thread::Threads;
 #[derive(Drop)]
 pub struct Worker {
     pub pass: Pass,
-    pub desk: Desk,
+    pub workload: Workload,
 }
 
-/// Splits a pass for each desk from the first.
+/// Splits a pass for each workload from the first.
 pub(crate) fn split_all(
     shared: &SharedBook,
     first: &mut Pass,
-    desks: Vec<Desk>,
+    workloads: Vec<Workload>,
     crew: &mut Vec<Worker>,
 )
     requires pass { IsPassOf shared.now first.old }
     requires first { ((view first.old).number ≡ 0) × ((view first.old).held ≡ None) }
-    requires few { (view first.old).made + length desks.items < 2 ^ 32 }
+    requires few { (view first.old).made + length workloads.items < 2 ^ 32 }
     requires empty { (crew.old.items ≡ []) × (vec_len crew.old ≡ 0) }
-    requires room { length desks.items ≤ vec_capacity crew.old }
+    requires room { length workloads.items ≤ vec_capacity crew.old }
     ensures pass { IsPassOf shared.now first.new }
-    ensures first { SplitsAll (view first.old) (length desks.items) (view first.new) }
-    ensures crew { IsNewCrew shared.now (view first.old) desks.items crew.new.items }
+    ensures first { SplitsAll (view first.old) (length workloads.items) (view first.new) }
+    ensures crew { IsNewCrew shared.now (view first.old) workloads.items crew.new.items }
 {
-    for desk in desks {
+    for workload in workloads {
         let pass = shared.split(first);
-        crew.push_reserved(Worker { pass, desk });
+        crew.push_reserved(Worker { pass, workload });
     }
 }
 
@@ -46,16 +46,16 @@ pub(crate) fn split_all(
 fn commit_one<R: Wait>(rt: &R, shared: &SharedBook, worker: &mut Worker, place: usize)
     requires pass { IsPassOf shared.now worker.old.pass }
     requires free { (view worker.old.pass).held ≡ None }
-    requires place { place < length worker.old.desk.parcels.items }
-    requires room { (vec_len worker.old.desk.outcomes < vec_capacity worker.old.desk.outcomes) × (1 ≤ worker.old.desk.lines.spare) }
+    requires place { place < length worker.old.workload.parcels.items }
+    requires room { (vec_len worker.old.workload.outcomes < vec_capacity worker.old.workload.outcomes) × (1 ≤ worker.old.workload.lines.spare) }
     ensures pass { IsPassOf shared.now worker.new.pass }
-    ensures committed { (d : ParcelView) → Commits (opening shared.now) worker.old (slice_index_or worker.old.desk.parcels.items place d) worker.new }
-    ensures room { (vec_capacity worker.new.desk.outcomes ≡ vec_capacity worker.old.desk.outcomes) × (vec_len worker.new.desk.outcomes ≡ vec_len worker.old.desk.outcomes + 1) × (worker.old.desk.lines.spare ≤ worker.new.desk.lines.spare + 1) }
+    ensures committed { (d : ParcelView) → Commits (opening shared.now) worker.old (slice_index_or worker.old.workload.parcels.items place d) worker.new }
+    ensures room { (vec_capacity worker.new.workload.outcomes ≡ vec_capacity worker.old.workload.outcomes) × (vec_len worker.new.workload.outcomes ≡ vec_len worker.old.workload.outcomes + 1) × (worker.old.workload.lines.spare ≤ worker.new.workload.lines.spare + 1) }
 {
-    let parcel = worker.desk.parcels[place];
-    let came = shared.commit(rt, &mut worker.pass, &parcel, &mut worker.desk.lines);
-    let outcome = outcome_of(&came, &worker.desk.lines);
-    worker.desk.outcomes.push_reserved(outcome);
+    let parcel = worker.workload.parcels[place];
+    let came = shared.commit(rt, &mut worker.pass, &parcel, &mut worker.workload.lines);
+    let outcome = outcome_of(&came, &worker.workload.lines);
+    worker.workload.outcomes.push_reserved(outcome);
 }
 
 /// One worker: for each of its parcels it calls the gate and commits it.
@@ -63,7 +63,7 @@ fn work<R: Wait, G: Gate>(rt: &R, shared: &SharedBook, worker: &mut Worker, gate
     requires { IsReady shared.now worker.old }
     ensures { Works shared.now worker.old worker.new }
 {
-    for place in 0..worker.desk.parcels.len() {
+    for place in 0..worker.workload.parcels.len() {
         gate.at(number);
         commit_one(rt, shared, worker, place);
     }
@@ -108,7 +108,7 @@ pub(crate) fn merge(
 {
     for place in 0..batch.len() {
         let worker = worker_for(&batch[place], crew.len());
-        let outcome = outcome_at(&crew[worker].desk.outcomes, taken[worker]);
+        let outcome = outcome_at(&crew[worker].workload.outcomes, taken[worker]);
         outcomes.push_reserved(outcome);
         taken[worker] += 1;
     }
@@ -124,7 +124,7 @@ pub(crate) fn join_all(shared: &SharedBook, first: &mut Pass, crew: Vec<Worker>)
     ensures joined { JoinsAll (view first.old) crew.items (view first.new) }
 {
     for worker in crew {
-        let Worker { pass, desk: _ } = worker;
+        let Worker { pass, workload: _ } = worker;
         shared.join(first, pass);
     }
 }

@@ -3,10 +3,10 @@
 
 mod batch;
 mod crew;
-mod desk;
 mod gate;
 mod mark;
 mod outcome;
+mod workload;
 
 pub use batch::{collect, gather};
 pub use gate::{Free, Gate};

@@ -14,7 +14,7 @@ use std::sync::Wait;
 
 /// Where the bytes of a begun file go.
 #[derive(Drop)]
-pub(crate) enum Place<R: Files<File = File> + Copy> {
+pub(crate) enum Target<R: Files<File = File> + Copy> {
     /// Nowhere: the name can't be written.
     Nowhere,
     /// To a part, which will take a path.
@@ -31,7 +31,7 @@ pub struct BegunOnDisk<R: Files<File = File> + Copy> {
     pub(crate) rt: R,
     pub(crate) alloc: Global,
     pub(crate) name: String,
-    pub(crate) place: Place<R>,
+    pub(crate) place: Target<R>,
     /// What has failed.
     pub(crate) error: Option<DeskError>,
     /// Whether nothing was appended after the last flush.
@@ -55,8 +55,8 @@ impl<R: Files<File = File> + Print + Wait + Copy> BegunOnDisk<R> {
             return Ok(());
         };
         let error = match self.place {
-            Place::AsItIs(_) | Place::Output => DeskError::Failed,
-            Place::Nowhere | Place::Beside(_, _) => put_error(error),
+            Target::AsItIs(_) | Target::Output => DeskError::Failed,
+            Target::Nowhere | Target::Beside(_, _) => put_error(error),
         };
         self.error = Some(error);
         Err(error)
@@ -68,10 +68,10 @@ impl<R: Files<File = File> + Print + Wait + Copy> BegunOnDisk<R> {
         ensures error { self.new.error ≡ self.old.error }
     {
         match &mut self.place {
-            Place::Nowhere => Ok(()),
-            Place::Beside(part, tail) => tail.push(&self.rt, &mut part.handle, piece),
-            Place::AsItIs(open) => opened(&self.rt, &self.name, open)?.write_all(&piece),
-            Place::Output => Print::write_all(&self.rt, &piece),
+            Target::Nowhere => Ok(()),
+            Target::Beside(part, tail) => tail.push(&self.rt, &mut part.handle, piece),
+            Target::AsItIs(open) => opened(&self.rt, &self.name, open)?.write_all(&piece),
+            Target::Output => Print::write_all(&self.rt, &piece),
         }
     }
 
@@ -97,9 +97,9 @@ impl<R: Files<File = File> + Print + Wait + Copy> BegunOnDisk<R> {
         ensures error { self.new.error ≡ self.old.error }
     {
         match &mut self.place {
-            Place::Nowhere | Place::Output => Ok(()),
-            Place::Beside(part, tail) => tail.flush(&self.rt, &mut part.handle),
-            Place::AsItIs(open) => {
+            Target::Nowhere | Target::Output => Ok(()),
+            Target::Beside(part, tail) => tail.flush(&self.rt, &mut part.handle),
+            Target::AsItIs(open) => {
                 let _ = opened(&self.rt, &self.name, open)?;
                 *open = None;
                 Ok(())

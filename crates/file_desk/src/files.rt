@@ -4,7 +4,7 @@ ghost use Rattle.std.specs.Prelude.{◌≡◌, ◌≤◌, ◌<◌, ◌^◌, stri
 ghost use Rattle.desk_outside.specs.Begun.{CommitEnds};
 ghost use Rattle.desk_outside.specs.Desk.{FetchEnds, SayEnds, ComplainEnds, Rose, one_more, untold};
 
-use crate::begun::{BegunOnDisk, Place, put_error};
+use crate::begun::{BegunOnDisk, Target, put_error};
 use crate::parts::{FileId, Part, part_name, take_name};
 use crate::writing::{Group, Tail, start_writer};
 use crossbeam_channel::Sender;
@@ -151,7 +151,7 @@ impl<R: Files<File = File> + Print + Wait + Copy> FileDesk<R> {
         found: Metadata,
         name: &str,
         readers: Readers,
-    ) -> Result<Place<R>, DeskError>
+    ) -> Result<Target<R>, DeskError>
         ensures { faults_of self.new ≡ faults_of self.old }
     {
         let file = FileId::of(&found);
@@ -159,11 +159,11 @@ impl<R: Files<File = File> + Print + Wait + Copy> FileDesk<R> {
             return Err(DeskError::Failed);
         }
         if self.is_output(file) {
-            return Ok(Place::Output);
+            return Ok(Target::Output);
         }
         // A pipe isn't opened ahead of its bytes, since that waits for its reader.
         if !found.is_file() {
-            return Ok(Place::AsItIs(None));
+            return Ok(Target::AsItIs(None));
         }
         let writable = OpenOptions::new()
             .write(true)
@@ -185,7 +185,7 @@ impl<R: Files<File = File> + Print + Wait + Copy> FileDesk<R> {
     }
 
     // Where the bytes go for a name that leads nowhere.
-    fn place_new(&mut self, name: &str, readers: Readers) -> Result<Place<R>, DeskError>
+    fn place_new(&mut self, name: &str, readers: Readers) -> Result<Target<R>, DeskError>
         ensures { faults_of self.new ≡ faults_of self.old }
     {
         if fs::symlink_metadata(&self.rt, name).is_ok() {
@@ -200,7 +200,7 @@ impl<R: Files<File = File> + Print + Wait + Copy> FileDesk<R> {
     }
 
     // Where the bytes go for a name.
-    fn place(&mut self, name: &str, readers: Readers) -> Result<Place<R>, DeskError>
+    fn place(&mut self, name: &str, readers: Readers) -> Result<Target<R>, DeskError>
         ensures { faults_of self.new ≡ faults_of self.old }
     {
         match fs::metadata(&self.rt, name) {
@@ -217,7 +217,7 @@ impl<R: Files<File = File> + Print + Wait + Copy> FileDesk<R> {
         name: &str,
         mode: u32,
         permissions: Option<Permissions>,
-    ) -> io::Result<Place<R>>
+    ) -> io::Result<Target<R>>
         ensures { faults_of self.new ≡ faults_of self.old }
     {
         let last = String::from_str(self.alloc, path.file_name().unwrap_or(""))?;
@@ -235,7 +235,7 @@ impl<R: Files<File = File> + Print + Wait + Copy> FileDesk<R> {
         }
         let name = String::from_str(self.alloc, name)?;
         self.begun.push(BegunPath { folder, last, name })?;
-        Ok(Place::Beside(part, Tail::new(self.alloc, &self.writer)))
+        Ok(Target::Beside(part, Tail::new(self.alloc, &self.writer)))
     }
 
     // Makes a part of the path. Its name is the path's with `.part` behind it; where another command writes that, or it is a file
@@ -285,14 +285,14 @@ impl<R: Files<File = File> + Print + Wait + Copy> FileDesk<R> {
     fn begun_at(
         &self,
         name: String,
-        place: Result<Place<R>, DeskError>,
+        place: Result<Target<R>, DeskError>,
         is_new: bool,
     ) -> BegunOnDisk<R>
         ensures { begun_name result ≡ string_bytes name }
     {
         let (place, error) = match place {
             Ok(place) => (place, None),
-            Err(error) => (Place::Nowhere, Some(error)),
+            Err(error) => (Target::Nowhere, Some(error)),
         };
         BegunOnDisk {
             rt: self.rt,
@@ -319,9 +319,9 @@ impl<R: Files<File = File> + Print + Wait + Copy> FileDesk<R> {
             is_new,
         } = file;
         match place {
-            Place::Nowhere => Err(DeskError::Failed),
-            Place::Beside(part, _tail) => self.take_path(part, name, is_new),
-            Place::AsItIs(_) | Place::Output => Ok(()),
+            Target::Nowhere => Err(DeskError::Failed),
+            Target::Beside(part, _tail) => self.take_path(part, name, is_new),
+            Target::AsItIs(_) | Target::Output => Ok(()),
         }
     }
 }

@@ -13,7 +13,7 @@ mod size;
 
 use plan::plan_text;
 use readings::readings_text;
-use size::Size;
+use size::PlanSize;
 pub use size::is_within;
 use std::alloc::{AllocError, Global};
 
@@ -56,7 +56,7 @@ pub fn make(
     ensures made { Makes seed groups meters rounds result }
     ensures read { IfOk result (λ _. AreRead seed groups meters rounds) }
 {
-    let Some(size) = Size::new(groups, meters, rounds) else {
+    let Some(size) = PlanSize::new(groups, meters, rounds) else {
         return Err(MakeError::Range);
     };
     Ok(Made {

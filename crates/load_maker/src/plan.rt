@@ -11,7 +11,7 @@ ghost use Rattle.load_maker.specs.Made.{made_file, made_lane, made_plan};
 ghost use Rattle.load_maker.specs.Writing.{after_keys, group_text, keys_text, lane_text, start_text};
 
 use crate::drawing::{draw_key, stream_of};
-use crate::size::Size;
+use crate::size::PlanSize;
 use field_texts::put_number;
 use rand_chacha::ChaCha20Rng;
 use std::alloc::{AllocError, Global};
@@ -200,7 +200,7 @@ fn put_lane(out: &mut Vec<u8>, seed: u64, last_tick: u64) -> Result<(), AllocErr
 }
 
 /// The plan file.
-pub fn plan_text(alloc: Global, seed: u64, size: Size) -> Result<Vec<u8>, AllocError>
+pub fn plan_text(alloc: Global, seed: u64, size: PlanSize) -> Result<Vec<u8>, AllocError>
     ensures { IfOk result (λ text. text.items ≡ plan_text (made_file seed size.groups size.meters size.rounds)) }
 {
     let mut out = Vec::new(alloc);

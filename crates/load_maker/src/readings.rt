@@ -7,7 +7,7 @@ ghost use Rattle.load_maker.specs.Made.{made_readings};
 ghost use Rattle.load_maker.specs.Writing.{field_text, fields_text, group_rows_text, row_drawn};
 
 use crate::drawing::{draw_reading, stream_of};
-use crate::size::Size;
+use crate::size::PlanSize;
 use field_texts::put_number;
 use rand_chacha::ChaCha20Rng;
 use std::alloc::{AllocError, Global};
@@ -66,7 +66,7 @@ fn put_group(
     out: &mut Vec<u8>,
     stream: &mut ChaCha20Rng,
     group: u64,
-    size: Size,
+    size: PlanSize,
 ) -> Result<(), AllocError>
     requires { stream.old.word_pos < 2 ^ 40 }
     ensures written { OnOk result (out.new.items ≡ out.old.items ++ group_rows_text stream.old group size.meters size.rounds) }
@@ -79,7 +79,7 @@ fn put_group(
 }
 
 /// The readings file.
-pub fn readings_text(alloc: Global, seed: u64, size: Size) -> Result<Vec<u8>, AllocError>
+pub fn readings_text(alloc: Global, seed: u64, size: PlanSize) -> Result<Vec<u8>, AllocError>
     ensures { IfOk result (λ text. text.items ≡ readings_text (made_readings seed size.groups size.meters size.rounds)) }
 {
     let mut out = Vec::new(alloc);

@@ -4,7 +4,7 @@ ghost use Rattle.load_maker.specs.Sizes.{is_within};
 
 /// The numbers of groups, of meters in each group, and of rounds, within the limits of plans.
 #[derive(Clone, Copy)]
-pub struct Size {
+pub struct PlanSize {
     pub groups: u64,
     pub meters: u64,
     pub rounds: u64,
@@ -23,15 +23,15 @@ pub fn is_within(groups: u64, meters: u64, rounds: u64) -> bool
     groups * meters * rounds <= 131_072 && groups * (meters * (meters - 1) / 2) <= 1_048_576
 }
 
-impl Size {
+impl PlanSize {
     /// The size of these numbers, where they are within the limits.
-    pub fn new(groups: u64, meters: u64, rounds: u64) -> Option<Size>
+    pub fn new(groups: u64, meters: u64, rounds: u64) -> Option<PlanSize>
         ensures { MatchOption result (is_within groups meters rounds ≡ false) (λ size. (size.groups ≡ groups) × (size.meters ≡ meters) × (size.rounds ≡ rounds)) }
     {
         if !is_within(groups, meters, rounds) {
             return None;
         }
-        Some(Size {
+        Some(PlanSize {
             groups,
             meters,
             rounds,

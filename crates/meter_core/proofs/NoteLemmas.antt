@@ -7,8 +7,8 @@ use Rattle.std.proofs.lemmas.List.Sums.{sum_by-set}
 use Rattle.missing_round.specs.Sets.{IsSet, members, blocks_of}
 use Rattle.missing_round.proofs.BlockLemmas.{members-blocks_of}
 use Rattle.meter_core.specs.Notes.{Note}
-use Rattle.meter_core.specs.declared.notes.Place.{Place}
-use Rattle.meter_core.specs.declared.notes.Place.TheVariants.{Nowhere, One, Four}
+use Rattle.meter_core.specs.declared.notes.SetPlace.{SetPlace}
+use Rattle.meter_core.specs.declared.notes.SetPlace.TheVariants.{Nowhere, One, Four}
 use Rattle.meter_core.specs.declared.notes.SmallNote.{SmallNote}
 use Rattle.meter_core.specs.Meters.{blank}
 use Rattle.meter_core.specs.SmallNotes.{bits_at, set_of, set_at, note_in, IsPlaced, IsNotePlaced, StandsAt, Grows, blocks_for, blocks_to_come, AreKept}
@@ -19,7 +19,7 @@ nothing = record { members = Nowhere; kept = Nowhere }
 
 -- ---- a longer list of blocks has the same sets, where their places are in the shorter one
 
-bits-grown : (xs ys : List ℕ) (p : Place) → Grows xs ys → IsPlaced (length xs) p → bits_at ys p ≡ bits_at xs p
+bits-grown : (xs ys : List ℕ) (p : SetPlace) → Grows xs ys → IsPlaced (length xs) p → bits_at ys p ≡ bits_at xs p
 bits-grown xs ys Nowhere grows lt = refl
 bits-grown xs ys (One at) grows lt = ap (λ (b : ℕ). Some (b ∷ 0 ∷ 0 ∷ 0 ∷ [])) (grows.same at lt)
 bits-grown xs ys (Four at) grows lt =
@@ -29,7 +29,7 @@ bits-grown xs ys (Four at) grows lt =
     let d = grows.same (at + 3) lt in
     λ k. Some (a k ∷ b k ∷ c k ∷ d k ∷ [])
 
-set-grown : (xs ys : List ℕ) (p : Place) → Grows xs ys → IsPlaced (length xs) p → set_at ys p ≡ set_at xs p
+set-grown : (xs ys : List ℕ) (p : SetPlace) → Grows xs ys → IsPlaced (length xs) p → set_at ys p ≡ set_at xs p
 set-grown xs ys p grows lt = ap set_of (bits-grown xs ys p grows lt)
 
 notes-grown : (xs ys : List ℕ) (ns : List SmallNote) → Grows xs ys → All (IsNotePlaced (length xs)) ns → map (note_in ys) ns ≡ map (note_in xs) ns
@@ -43,7 +43,7 @@ notes-grown xs ys (n ∷ ns) grows placed =
 
 -- ---- a place among n blocks is one among more
 
-placed-more : (n m : ℕ) (p : Place) → n ≤ m → IsPlaced n p → IsPlaced m p
+placed-more : (n m : ℕ) (p : SetPlace) → n ≤ m → IsPlaced n p → IsPlaced m p
 placed-more n m Nowhere le lt = tt
 placed-more n m (One at) le lt = omega (arith, le, lt)
 placed-more n m (Four at) le lt = omega (arith, le, lt)
@@ -54,13 +54,13 @@ note_placed-more n m x le is = (placed-more n m x.members le is.0, placed-more n
 -- ---- room
 
 -- where there is no set, four blocks may be needed
-pub none-blocks : (blocks : List ℕ) (p : Place) → set_at blocks p ≡ None → blocks_for p ≡ 4
+pub none-blocks : (blocks : List ℕ) (p : SetPlace) → set_at blocks p ≡ None → blocks_for p ≡ 4
 none-blocks blocks Nowhere h = refl
 none-blocks blocks (One at) h = cc
 none-blocks blocks (Four at) h = cc
 
 -- where a set stands, none are
-stands-blocks : (blocks bits : List ℕ) (p : Place) → StandsAt blocks bits p → blocks_for p ≡ 0
+stands-blocks : (blocks bits : List ℕ) (p : SetPlace) → StandsAt blocks bits p → blocks_for p ≡ 0
 stands-blocks blocks bits Nowhere h = cc
 stands-blocks blocks bits (One at) h = refl
 stands-blocks blocks bits (Four at) h = refl
@@ -83,7 +83,7 @@ note-placed : (n : ℕ) (ns : List SmallNote) (r : ℕ) (x : SmallNote) → All 
 note-placed n ns r x placed lt at = subst (IsNotePlaced n) (sym at) (All-get_or (IsNotePlaced n) ns r x lt placed)
 
 -- the set whose bits stand at a place stands there
-pub set-stands : (ys bits named : List ℕ) (p : Place) → StandsAt ys bits p → bits ≡ blocks_of named → IsSet named → set_at ys p ≡ Some named
+pub set-stands : (ys bits named : List ℕ) (p : SetPlace) → StandsAt ys bits p → bits ≡ blocks_of named → IsSet named → set_at ys p ≡ Some named
 set-stands ys bits named p stands is ok = ap set_of stands.1 ∙ ap Some (ap members is ∙ members-blocks_of named ok)
 
 -- a note that may need four blocks has room for them
@@ -114,7 +114,7 @@ room-to_mark xs capacity ns view r kept is lt none =
     let needs : blocks_for x.members ≡ 4 = none-blocks xs x.members (ap (λ (n : Note). n.members) (note-is xs ns view r x is lt at) ∙ none) in
     has-room xs capacity ns r nothing kept (long xs ns view r is lt) (omega (arith, needs))
 
-pub kept-marked : (xs ys bits : List ℕ) (capacity : ℕ) (ns : List SmallNote) (view : List Note) (r : ℕ) (x : SmallNote) (p : Place) → AreKept xs capacity ns → Grows xs ys → map (note_in xs) ns ≡ view → r < length view → x ≡ get_or ns r x → (get_or view r blank).members ≡ None → StandsAt ys bits p → AreKept ys capacity (set ns r (record { members = p; kept = x.kept }))
+pub kept-marked : (xs ys bits : List ℕ) (capacity : ℕ) (ns : List SmallNote) (view : List Note) (r : ℕ) (x : SmallNote) (p : SetPlace) → AreKept xs capacity ns → Grows xs ys → map (note_in xs) ns ≡ view → r < length view → x ≡ get_or ns r x → (get_or view r blank).members ≡ None → StandsAt ys bits p → AreKept ys capacity (set ns r (record { members = p; kept = x.kept }))
 kept-marked xs ys bits capacity ns view r x p kept grows is lt at none stands =
     let within = long xs ns view r is lt in
     let needs : blocks_for x.members ≡ 4 = none-blocks xs x.members (ap (λ (n : Note). n.members) (note-is xs ns view r x is lt at) ∙ none) in
@@ -122,7 +122,7 @@ kept-marked xs ys bits capacity ns view r x p kept grows is lt at none stands =
     change_kept xs ys capacity ns r x (record { members = p; kept = x.kept }) kept grows within at
     (omega (arith, needs, stands-blocks ys bits p stands)) (stands.0, placed-more (length xs) (length ys) x.kept grows.least old.1)
 
-pub seen-marked : (xs ys named : List ℕ) (ns : List SmallNote) (view : List Note) (r : ℕ) (x : SmallNote) (p : Place) → Grows xs ys → All (IsNotePlaced (length xs)) ns → map (note_in xs) ns ≡ view → r < length view → x ≡ get_or ns r x → set_at ys p ≡ Some named
+pub seen-marked : (xs ys named : List ℕ) (ns : List SmallNote) (view : List Note) (r : ℕ) (x : SmallNote) (p : SetPlace) → Grows xs ys → All (IsNotePlaced (length xs)) ns → map (note_in xs) ns ≡ view → r < length view → x ≡ get_or ns r x → set_at ys p ≡ Some named
     → map (note_in ys) (set ns r (record { members = p; kept = x.kept })) ≡ set view r (record { members = Some named; kept = (get_or view r blank).kept })
 seen-marked xs ys named ns view r x p grows placed is lt at stands =
     let old : IsNotePlaced (length xs) x = note-placed (length xs) ns r x placed (long xs ns view r is lt) at in
@@ -138,7 +138,7 @@ room-to_keep xs capacity ns view r kept is lt none =
     let needs : blocks_for x.kept ≡ 4 = none-blocks xs x.kept (ap (λ (n : Note). n.kept) (note-is xs ns view r x is lt at) ∙ none) in
     has-room xs capacity ns r nothing kept (long xs ns view r is lt) (omega (arith, needs))
 
-pub kept-keeping : (xs ys bits : List ℕ) (capacity : ℕ) (ns : List SmallNote) (view : List Note) (r : ℕ) (x : SmallNote) (p : Place) → AreKept xs capacity ns → Grows xs ys → map (note_in xs) ns ≡ view → r < length view → x ≡ get_or ns r x → (get_or view r blank).kept ≡ None → StandsAt ys bits p → AreKept ys capacity (set ns r (record { members = x.members; kept = p }))
+pub kept-keeping : (xs ys bits : List ℕ) (capacity : ℕ) (ns : List SmallNote) (view : List Note) (r : ℕ) (x : SmallNote) (p : SetPlace) → AreKept xs capacity ns → Grows xs ys → map (note_in xs) ns ≡ view → r < length view → x ≡ get_or ns r x → (get_or view r blank).kept ≡ None → StandsAt ys bits p → AreKept ys capacity (set ns r (record { members = x.members; kept = p }))
 kept-keeping xs ys bits capacity ns view r x p kept grows is lt at none stands =
     let within = long xs ns view r is lt in
     let needs : blocks_for x.kept ≡ 4 = none-blocks xs x.kept (ap (λ (n : Note). n.kept) (note-is xs ns view r x is lt at) ∙ none) in
@@ -146,7 +146,7 @@ kept-keeping xs ys bits capacity ns view r x p kept grows is lt at none stands =
     change_kept xs ys capacity ns r x (record { members = x.members; kept = p }) kept grows within at
     (omega (arith, needs, stands-blocks ys bits p stands)) (placed-more (length xs) (length ys) x.members grows.least old.0, stands.0)
 
-pub seen-keeping : (xs ys named : List ℕ) (ns : List SmallNote) (view : List Note) (r : ℕ) (x : SmallNote) (p : Place) → Grows xs ys → All (IsNotePlaced (length xs)) ns → map (note_in xs) ns ≡ view → r < length view → x ≡ get_or ns r x → set_at ys p ≡ Some named
+pub seen-keeping : (xs ys named : List ℕ) (ns : List SmallNote) (view : List Note) (r : ℕ) (x : SmallNote) (p : SetPlace) → Grows xs ys → All (IsNotePlaced (length xs)) ns → map (note_in xs) ns ≡ view → r < length view → x ≡ get_or ns r x → set_at ys p ≡ Some named
     → map (note_in ys) (set ns r (record { members = x.members; kept = p })) ≡ set view r (record { members = (get_or view r blank).members; kept = Some named })
 seen-keeping xs ys named ns view r x p grows placed is lt at stands =
     let old : IsNotePlaced (length xs) x = note-placed (length xs) ns r x placed (long xs ns view r is lt) at in

@@ -2,14 +2,14 @@
 use Rattle.std.specs.Prelude.{◌≡◌, ℕ, ◌+◌, ◌^◌, ◌<◌, ◌≤◌, List, [], ◌∷◌, length, All, sum_by, slice_index, Option, Some, None}
 use Rattle.missing_round.specs.Sets.{members}
 use Rattle.meter_core.specs.Notes.{Note}
-use Rattle.meter_core.specs.declared.notes.Place.{Place}
-use Rattle.meter_core.specs.declared.notes.Place.TheVariants.{Nowhere, One, Four}
+use Rattle.meter_core.specs.declared.notes.SetPlace.{SetPlace}
+use Rattle.meter_core.specs.declared.notes.SetPlace.TheVariants.{Nowhere, One, Four}
 use Rattle.meter_core.specs.declared.notes.SmallNote.{SmallNote}
 
 -- ---- what a small note stands for
 
 -- the four blocks that stand at a place, where there is a set
-abbrev pub bits_at : List ℕ → Place → Option (List ℕ)
+abbrev pub bits_at : List ℕ → SetPlace → Option (List ℕ)
 bits_at blocks Nowhere = None
 bits_at blocks (One at) = Some (slice_index blocks at ∷ 0 ∷ 0 ∷ 0 ∷ [])
 bits_at blocks (Four at) = Some (slice_index blocks at ∷ slice_index blocks (at + 1) ∷ slice_index blocks (at + 2) ∷ slice_index blocks (at + 3) ∷ [])
@@ -20,7 +20,7 @@ set_of None = None
 set_of (Some bits) = Some (members bits)
 
 -- the set that stands at a place, where there is one
-abbrev pub set_at : List ℕ → Place → Option (List ℕ)
+abbrev pub set_at : List ℕ → SetPlace → Option (List ℕ)
 set_at blocks place = set_of (bits_at blocks place)
 
 -- the note that a small one stands for
@@ -30,7 +30,7 @@ note_in blocks n = record { members = set_at blocks n.members; kept = set_at blo
 -- ---- the places that it names
 
 -- the blocks of a place are among the first n
-abbrev pub IsPlaced : ℕ → Place → Type 0
+abbrev pub IsPlaced : ℕ → SetPlace → Type 0
 IsPlaced n Nowhere = Unit {0}
 IsPlaced n (One at) = at < n
 IsPlaced n (Four at) = at + 3 < n
@@ -40,7 +40,7 @@ abbrev pub IsNotePlaced : ℕ → SmallNote → Type 0
 IsNotePlaced n note = IsPlaced n note.members × IsPlaced n note.kept
 
 -- these bits stand at the place
-abbrev pub StandsAt : List ℕ → List ℕ → Place → Type 0
+abbrev pub StandsAt : List ℕ → List ℕ → SetPlace → Type 0
 StandsAt blocks bits place = IsPlaced (length blocks) place × (bits_at blocks place ≡ Some bits)
 
 -- ---- the list of blocks
@@ -52,7 +52,7 @@ pub record Grows (old new : List ℕ) : Type 0 where
   pub same : (at : ℕ) → at < length old → slice_index new at ≡ slice_index old at
 
 -- how many blocks more a place may need
-abbrev pub blocks_for : Place → ℕ
+abbrev pub blocks_for : SetPlace → ℕ
 blocks_for Nowhere = 4
 blocks_for _ = 0
 

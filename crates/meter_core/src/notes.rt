@@ -15,7 +15,7 @@ const BLOCKS_A_ROUND: usize = 8;
 
 /// Where a set stands in a list of blocks of 64 bits.
 #[derive(Clone, Copy)]
-enum Place {
+enum SetPlace {
     /// There is no set.
     Nowhere,
     /// In the block here: its meters are below 64.
@@ -27,8 +27,8 @@ enum Place {
 /// Where the two sets of a note stand.
 #[derive(Clone, Copy)]
 struct SmallNote {
-    members: Place,
-    kept: Place,
+    members: SetPlace,
+    kept: SetPlace,
 }
 
 // A meter has one for each round, so its size counts.
@@ -36,8 +36,8 @@ const _: () = prove!(size_of::<SmallNote>() <= 8);
 
 /// The note of a round of which nothing is known.
 const BLANK: SmallNote = SmallNote {
-    members: Place::Nowhere,
-    kept: Place::Nowhere,
+    members: SetPlace::Nowhere,
+    kept: SetPlace::Nowhere,
 };
 
 /// A note for each round. A set that is the same as in the round before is kept once.
@@ -59,14 +59,14 @@ impl Model for Notes {
     ghost invariant = { λ n. AreKept n.blocks.items (vec_capacity n.blocks) n.notes.items };
 }
 
-fn bits_at(blocks: &[u64], place: Place) -> Option<[u64; 4]>
+fn bits_at(blocks: &[u64], place: SetPlace) -> Option<[u64; 4]>
     requires { IsPlaced (length blocks.now) place }
     ensures { result ≡ bits_at blocks.now place }
 {
     match place {
-        Place::Nowhere => None,
-        Place::One(at) => Some([blocks[at as usize], 0, 0, 0]),
-        Place::Four(at) => {
+        SetPlace::Nowhere => None,
+        SetPlace::One(at) => Some([blocks[at as usize], 0, 0, 0]),
+        SetPlace::Four(at) => {
             let at = at as usize;
             Some([blocks[at], blocks[at + 1], blocks[at + 2], blocks[at + 3]])
         }
@@ -82,7 +82,7 @@ fn set_of(bits: [u64; 4]) -> MeterSet
     set
 }
 
-fn set_at(blocks: &[u64], place: Place) -> Option<MeterSet>
+fn set_at(blocks: &[u64], place: SetPlace) -> Option<MeterSet>
     requires { IsPlaced (length blocks.now) place }
     ensures { result ≡ set_at blocks.now place }
 {
@@ -93,7 +93,7 @@ fn set_at(blocks: &[u64], place: Place) -> Option<MeterSet>
 }
 
 /// Whether these bits stand at the place.
-fn stands_at(blocks: &[u64], place: Place, bits: [u64; 4]) -> bool
+fn stands_at(blocks: &[u64], place: SetPlace, bits: [u64; 4]) -> bool
     requires { IsPlaced (length blocks.now) place }
     ensures { IsTrue result ↔ (bits_at blocks.now place ≡ Some bits) }
 {
@@ -116,7 +116,7 @@ fn push_all(blocks: &mut Vec<u64>, bits: [u64; 4])
 }
 
 /// Adds the bits of a set, in one block where this is enough.
-fn add_bits(blocks: &mut Vec<u64>, bits: [u64; 4]) -> Place
+fn add_bits(blocks: &mut Vec<u64>, bits: [u64; 4]) -> SetPlace
     requires room { vec_len blocks.old + 4 ≤ vec_capacity blocks.old }
     requires few { vec_capacity blocks.old ≤ 2 ^ 15 }
     ensures place { StandsAt blocks.new.items bits result }
@@ -127,14 +127,14 @@ fn add_bits(blocks: &mut Vec<u64>, bits: [u64; 4]) -> Place
     let [low, second, third, fourth] = bits;
     if second == 0 && third == 0 && fourth == 0 {
         blocks.push_reserved(low);
-        return Place::One(at);
+        return SetPlace::One(at);
     }
     push_all(blocks, bits);
-    Place::Four(at)
+    SetPlace::Four(at)
 }
 
 /// The place of a set's bits, which are added where others stand at the place before.
-fn place_of(blocks: &mut Vec<u64>, before: Place, bits: [u64; 4]) -> Place
+fn place_of(blocks: &mut Vec<u64>, before: SetPlace, bits: [u64; 4]) -> SetPlace
     requires room { vec_len blocks.old + 4 ≤ vec_capacity blocks.old }
     requires few { vec_capacity blocks.old ≤ 2 ^ 15 }
     requires before { IsPlaced (length blocks.old.items) before }

@@ -17,7 +17,7 @@ use Rattle.plan_files.specs.PlanFiles.{stated_plan}
 use Rattle.plan_files.specs.PlanForms.{after, first_due}
 use Rattle.plan_files.specs.PlanRows.{rounds_row}
 use Rattle.plan_files.specs.declared.fault.FileCause.TheVariants as cause
-use Rattle.plan_files.specs.declared.head.Head.{Head}
+use Rattle.plan_files.specs.declared.head.PlanHead.{PlanHead}
 use Rattle.plan_files.specs.declared.fault.FileCause.{FileCause}
 use Rattle.plan_files.specs.declared.fault.FileError.{FileError}
 use Rattle.meter_files.specs.PartRows.{entries_from, entry_in, head_of, home_in, self_in, title_in}
@@ -113,7 +113,7 @@ unfolding stated_home
 too_many rounds n home many is = rw (lt-ltb 255 home.number many, is) refl
 
 -- the head with which the plan of a group alone is stated
-abbrev pub alone : ℕ → Head
+abbrev pub alone : ℕ → PlanHead
 alone rounds = record { rounds = rounds; windows = record { reading = 1; recovery = 2 } }
 
 pub is_stated : (rounds : ℕ) (home : HomeGroup) (r : Result Plan FileError) → home.number ≤ 255

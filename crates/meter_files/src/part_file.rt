@@ -16,7 +16,7 @@ use crate::part_row::{
 };
 use group_plan::{Plan, PlanError, Span, SpanError};
 use pair_keys::{KeyError, KeyId};
-use plan_files::rows::{Head, RowReader, Windows, check_member, settle, stated_plan};
+use plan_files::rows::{PlanHead, RowReader, Windows, check_member, settle, stated_plan};
 use plan_files::{FileCause, FileError, NO_MEMORY};
 use std::alloc::{AllocError, Global};
 
@@ -114,7 +114,7 @@ fn stated_home(alloc: Global, rounds: u32, home: &HomeGroup) -> Result<Plan, Fil
             cause: FileCause::Plan(PlanError::TooManyGroups(u64::from(home.number) + 1)),
         });
     }
-    let head = Head {
+    let head = PlanHead {
         rounds,
         windows: Windows {
             reading: 1,

@@ -34,12 +34,12 @@ use Rattle.plan_files.specs.PlanForms.{entries_from, groups_from, head_of}
 use Rattle.plan_files.specs.PlanRows.{group_row, has_fields, name_in, number_in, starts_with, text}
 use Rattle.plan_files.specs.Readings.{Says, reading_at, reading_in, reading_of, reading_or_none, readings_by, readings_of, rows_fault, within_range}
 use Rattle.plan_files.specs.Rows.{file_rows}
-use Rattle.plan_files.specs.declared.entry.Entry.{Entry}
+use Rattle.plan_files.specs.declared.entry.PlanRow.{PlanRow}
 use Rattle.plan_files.specs.declared.fault.FileCause.{FileCause}
 use Rattle.plan_files.specs.declared.fault.FileCause.TheVariants as cause
 use Rattle.plan_files.specs.declared.fault.FileError.{FileError}
 use Rattle.plan_files.specs.declared.form.PlanForm.TheVariants.{Whole}
-use Rattle.plan_files.specs.declared.head.Head.{Head}
+use Rattle.plan_files.specs.declared.head.PlanHead.{PlanHead}
 use Rattle.plan_files.proofs.GatherLemmas.{gather_keeps}
 use Rattle.plan_files.proofs.KeyOrder.{keys_all}
 use Rattle.plan_files.proofs.SpelledKeys.{same_is}
@@ -282,11 +282,11 @@ pub accepted_plans : AcceptedPlansAreWhole
 unfolding plan_of plan_from opened_from stated_plan with_entries
 accepted_plans bytes file is =
     let rows = file_rows bytes in
-    let opened : PlanView → List GroupPlan → List Entry → Opened = λ plan groups entries. record { plan = plan; first = 4 + length groups; entries = entries } in
+    let opened : PlanView → List GroupPlan → List PlanRow → Opened = λ plan groups entries. record { plan = plan; first = 4 + length groups; entries = entries } in
     let filled : Opened → Result PlanFileView FileError = λ o. with_entries o.plan o.first o.entries in
-    let last : Head → List GroupPlan → List Entry → Result Opened FileError = λ head groups entries. stated_plan head groups >>= (λ plan. Ok (opened plan groups entries)) in
-    let third : Head → List GroupPlan → Result Opened FileError = λ head groups. entries_from Whole (4 + length groups) (drop (3 + length groups) rows) >>= last head groups in
-    let second : Head → Result Opened FileError = λ head. groups_from 4 (drop 3 rows) >>= third head in
+    let last : PlanHead → List GroupPlan → List PlanRow → Result Opened FileError = λ head groups entries. stated_plan head groups >>= (λ plan. Ok (opened plan groups entries)) in
+    let third : PlanHead → List GroupPlan → Result Opened FileError = λ head groups. entries_from Whole (4 + length groups) (drop (3 + length groups) rows) >>= last head groups in
+    let second : PlanHead → Result Opened FileError = λ head. groups_from 4 (drop 3 rows) >>= third head in
     let o = went_well (opened_from Whole rows) filled file is in
     let a = went_well (head_of Whole rows) second o.0 o.1 in
     let b = went_well (groups_from 4 (drop 3 rows)) (third a.0) o.0 a.2 in

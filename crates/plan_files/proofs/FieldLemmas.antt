@@ -11,7 +11,7 @@ use Rattle.csv.proofs.RoundTrip.{record-same}
 use Rattle.memchr.specs.Find.{is_byte3}
 use Rattle.plan_files.specs.Fields.{IsStep, behind_fields, ends_field, field_from, first_field, is_quoted, state_of}
 use Rattle.plan_files.specs.KeptRows.{is_at_comma, is_line_end, next_row, starts_row}
-use Rattle.plan_files.specs.declared.fields.Place.{Place}
+use Rattle.plan_files.specs.declared.fields.QuoteState.{QuoteState}
 use Rattle.plan_files.specs.declared.fields.Step.TheVariants as a_step
 use Rattle.plan_files.proofs.ReadingLemmas.{drop_at, drop_end}
 
@@ -210,18 +210,18 @@ quoted_starts [] h = cc h
 quoted_starts (c ∷ cs) h = rw h refl
 
 -- a byte of the field
-pub goes_within : (at next : Place) (is_text : Bool) (text bytes : List ℕ) (n : ℕ) → n < length bytes → IsStep at (get_or bytes n 0) (a_step.Within next is_text)
+pub goes_within : (at next : QuoteState) (is_text : Bool) (text bytes : List ℕ) (n : ℕ) → n < length bytes → IsStep at (get_or bytes n 0) (a_step.Within next is_text)
     → field_from (state_of at) text (drop n bytes) ≡ field_from (state_of next) (if is_text then text ++ (get_or bytes n 0 ∷ []) else text) (drop (n + 1) bytes)
 unfolding field_from
 goes_within at next is_text text bytes n h is = ap (field_from (state_of at) text) (drop_at bytes n 0 h) ∙ over at next is_text text (get_or bytes n 0) (drop (n + 1) bytes) is
   where
-    over : (at next : Place) (is_text : Bool) (text : List ℕ) (c : ℕ) (cs : List ℕ) → IsStep at c (a_step.Within next is_text)
+    over : (at next : QuoteState) (is_text : Bool) (text : List ℕ) (c : ℕ) (cs : List ℕ) → IsStep at c (a_step.Within next is_text)
         → field_from (state_of at) text (c ∷ cs) ≡ field_from (state_of next) (if is_text then text ++ (c ∷ []) else text) cs
     over at next true text c cs is = rw is refl
     over at next false text c cs is = rw is refl
 
 -- the byte behind the field
-pub goes_out : (at : Place) (text bytes : List ℕ) (n : ℕ) → n < length bytes → IsStep at (get_or bytes n 0) a_step.End
+pub goes_out : (at : QuoteState) (text bytes : List ℕ) (n : ℕ) → n < length bytes → IsStep at (get_or bytes n 0) a_step.End
     → field_from (state_of at) text (drop n bytes) ≡ (text, drop n bytes)
 unfolding field_from
 goes_out at text bytes n h is =

@@ -12,7 +12,7 @@ use Rattle.link_lanes.specs.declared.row.ArgError.TheVariants.{Byte, Memory}
 use Rattle.plan_files.specs.Faults.{◌>>=◌, ButMemory, at_row, in_row}
 use Rattle.plan_files.specs.PlanForms.{after, entries_from, first_due, groups_from, head_of, row_due}
 use Rattle.plan_files.specs.PlanRows.{entry_of, group_row, rounds_row, starts_with, version_row, windows_row}
-use Rattle.plan_files.specs.declared.entry.Entry.{Entry}
+use Rattle.plan_files.specs.declared.entry.PlanRow.{PlanRow}
 use Rattle.plan_files.specs.declared.fault.FileCause.{FileCause}
 use Rattle.plan_files.specs.declared.fault.FileCause.TheVariants as cause
 use Rattle.plan_files.specs.declared.fault.FileError.{FileError}
@@ -117,17 +117,17 @@ groups_end rows n groups none = rw none (after_none groups)
 
 -- ---- the rows after the groups
 
-pub entries_more : (form : PlanForm) (rows rest : List (List (List ℕ))) (n : ℕ) (row : List (List ℕ)) (entries : List Entry) (entry : Entry) → rows ≡ row ∷ rest
+pub entries_more : (form : PlanForm) (rows rest : List (List (List ℕ))) (n : ℕ) (row : List (List ℕ)) (entries : List PlanRow) (entry : PlanRow) → rows ≡ row ∷ rest
     → entry_of form n row ≡ Ok entry → after entries (entries_from form n rows) ≡ after (entries ++ entry ∷ []) (entries_from form (n + 1) rest)
 unfolding entries_from
 entries_more form rows rest n row entries entry is read = rw (is, read) (after_one entries entry (entries_from form (n + 1) rest))
 
-pub entries_fault : (form : PlanForm) (rows rest : List (List (List ℕ))) (n : ℕ) (row : List (List ℕ)) (entries : List Entry) (what : FileCause) → rows ≡ row ∷ rest
+pub entries_fault : (form : PlanForm) (rows rest : List (List (List ℕ))) (n : ℕ) (row : List (List ℕ)) (entries : List PlanRow) (what : FileCause) → rows ≡ row ∷ rest
     → entry_of form n row ≡ Err what → after entries (entries_from form n rows) ≡ Err (in_row n what)
 unfolding entries_from
 entries_fault form rows rest n row entries what is read = rw (is, read) refl
 
-pub entries_end : (form : PlanForm) (rows : List (List (List ℕ))) (n : ℕ) (entries : List Entry) → rows ≡ [] → after entries (entries_from form n rows) ≡ Ok entries
+pub entries_end : (form : PlanForm) (rows : List (List (List ℕ))) (n : ℕ) (entries : List PlanRow) → rows ≡ [] → after entries (entries_from form n rows) ≡ Ok entries
 unfolding entries_from
 entries_end form rows n entries none = rw none (after_none entries)
 

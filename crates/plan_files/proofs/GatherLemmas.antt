@@ -16,8 +16,8 @@ use Rattle.plan_files.proofs.FormLemmas.{always, but_memory}
 use Rattle.plan_files.specs.Faults.{◌>>=◌, at_row, in_row}
 use Rattle.plan_files.specs.Gathering.{Gathered, HangsLane, PutsKey, TakesEntry, gather, hang_lane, member_fault, put_key, spans_of, take_entry}
 use Rattle.plan_files.specs.declared.fault.FileCause.{FileCause}
-use Rattle.plan_files.specs.declared.entry.Entry.{Entry}
-use Rattle.plan_files.specs.declared.entry.Entry.TheVariants as entry
+use Rattle.plan_files.specs.declared.entry.PlanRow.{PlanRow}
+use Rattle.plan_files.specs.declared.entry.PlanRow.TheVariants as entry
 use Rattle.plan_files.specs.declared.fault.FileCause.TheVariants as cause
 use Rattle.plan_files.specs.declared.fault.FileError.{FileError}
 
@@ -35,7 +35,7 @@ key_refused old new which key (of_key.Missing lacking) put = absurd put
 
 -- ---- spans
 
-pub spans_end : (entries : List Entry) (i : ℕ) → length entries ≤ i → spans_of (drop i entries) ≡ []
+pub spans_end : (entries : List PlanRow) (i : ℕ) → length entries ≤ i → spans_of (drop i entries) ≡ []
 spans_end [] i h = rw (drop-nil i) refl
 spans_end (e ∷ es) zero h = absurd (omega arith)
 spans_end (e ∷ es) (suc i) h = spans_end es i (omega arith)
@@ -72,17 +72,17 @@ member_refused last fault before span what wrong = rw wrong refl
 
 -- ---- all rows
 
-pub gather_more : (last : ℕ) (fault : Option SpanError) (n : ℕ) (before more : Gathered) (entries rest : List Entry) (x : Entry) → entries ≡ x ∷ rest → take_entry last fault before x ≡ Ok more
+pub gather_more : (last : ℕ) (fault : Option SpanError) (n : ℕ) (before more : Gathered) (entries rest : List PlanRow) (x : PlanRow) → entries ≡ x ∷ rest → take_entry last fault before x ≡ Ok more
     → gather last fault n before entries ≡ gather last fault (n + 1) more rest
 unfolding gather
 gather_more last fault n before more entries rest x is took = rw (is, took) refl
 
-pub gather_refused : (last : ℕ) (fault : Option SpanError) (n : ℕ) (before : Gathered) (entries rest : List Entry) (x : Entry) (what : FileCause) → entries ≡ x ∷ rest → take_entry last fault before x ≡ Err what
+pub gather_refused : (last : ℕ) (fault : Option SpanError) (n : ℕ) (before : Gathered) (entries rest : List PlanRow) (x : PlanRow) (what : FileCause) → entries ≡ x ∷ rest → take_entry last fault before x ≡ Err what
     → gather last fault n before entries ≡ Err (in_row n what)
 unfolding gather
 gather_refused last fault n before entries rest x what is refused = rw (is, refused) refl
 
-pub gather_end : (last : ℕ) (fault : Option SpanError) (n : ℕ) (before : Gathered) (entries : List Entry) → length entries ≡ 0 → gather last fault n before entries ≡ Ok before
+pub gather_end : (last : ℕ) (fault : Option SpanError) (n : ℕ) (before : Gathered) (entries : List PlanRow) → length entries ≡ 0 → gather last fault n before entries ≡ Ok before
 unfolding gather
 gather_end last fault n before [] none = refl
 gather_end last fault n before (e ∷ es) none = absurd (omega arith)
@@ -117,7 +117,7 @@ ok_more (Err e) P Q h p = tt
 abbrev HasPlan : PlanView → Gathered → Type 0
 HasPlan plan gathered = gathered.keys.plan ≡ plan
 
-take_keeps : (last : ℕ) (fault : Option SpanError) (before : Gathered) (e : Entry) → IfOk (take_entry last fault before e) (HasPlan before.keys.plan)
+take_keeps : (last : ℕ) (fault : Option SpanError) (before : Gathered) (e : PlanRow) → IfOk (take_entry last fault before e) (HasPlan before.keys.plan)
 unfolding take_entry
 take_keeps last fault before (entry.Own group meter key) =
     bind_ok (put_key before.keys (id.Own group meter) key) (λ keys. Ok (record before { keys = keys })) (HasPlan before.keys.plan) (put_keeps before.keys (id.Own group meter) key)
@@ -129,7 +129,7 @@ take_keeps last fault before (entry.Member span) =
     bind_ok (member_fault fault before.members) (λ _. Ok (record before { members = before.members + 1 })) (HasPlan before.keys.plan)
     (ok_always (member_fault fault before.members) (λ _. before.keys.plan ≡ before.keys.plan) (λ _. refl))
 
-gather_ok : (last : ℕ) (fault : Option SpanError) (n : ℕ) (before : Gathered) (entries : List Entry) → IfOk (gather last fault n before entries) (HasPlan before.keys.plan)
+gather_ok : (last : ℕ) (fault : Option SpanError) (n : ℕ) (before : Gathered) (entries : List PlanRow) → IfOk (gather last fault n before entries) (HasPlan before.keys.plan)
 unfolding gather
 gather_ok last fault n before [] = refl
 gather_ok last fault n before (e ∷ es) =
@@ -139,5 +139,5 @@ gather_ok last fault n before (e ∷ es) =
     (λ more same. ok_more (gather last fault (n + 1) more es) (HasPlan more.keys.plan) (HasPlan before.keys.plan) (λ after kept. kept ∙ same) (gather_ok last fault (n + 1) more es))
     (take_keeps last fault before e)))
 
-pub gather_keeps : (last : ℕ) (fault : Option SpanError) (n : ℕ) (before after : Gathered) (entries : List Entry) → gather last fault n before entries ≡ Ok after → after.keys.plan ≡ before.keys.plan
+pub gather_keeps : (last : ℕ) (fault : Option SpanError) (n : ℕ) (before after : Gathered) (entries : List PlanRow) → gather last fault n before entries ≡ Ok after → after.keys.plan ≡ before.keys.plan
 gather_keeps last fault n before after entries is = subst (λ (r : Result Gathered FileError). IfOk r (HasPlan before.keys.plan)) is (gather_ok last fault n before entries)

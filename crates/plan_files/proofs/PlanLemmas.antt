@@ -17,19 +17,19 @@ use Rattle.plan_files.specs.Gathering.{Gathered, Settles, gather, nothing, settl
 use Rattle.plan_files.specs.MissingKeys.{first_missing}
 use Rattle.plan_files.specs.PlanFiles.{Opened, PlanEnds, PlanFileView, completed, filled_in, opened_from, place_of, stated_plan, with_entries, with_members}
 use Rattle.plan_files.specs.PlanForms.{entries_from, groups_from, head_of}
-use Rattle.plan_files.specs.declared.entry.Entry.{Entry}
-use Rattle.plan_files.specs.declared.entry.Entry.TheVariants as entry
+use Rattle.plan_files.specs.declared.entry.PlanRow.{PlanRow}
+use Rattle.plan_files.specs.declared.entry.PlanRow.TheVariants as entry
 use Rattle.plan_files.specs.declared.fault.FileCause.TheVariants as cause
 use Rattle.plan_files.specs.declared.fault.FileError.{FileError}
 use Rattle.plan_files.specs.declared.form.PlanForm.{PlanForm}
-use Rattle.plan_files.specs.declared.head.Head.{Head}
+use Rattle.plan_files.specs.declared.head.PlanHead.{PlanHead}
 
-pub stated : (head : Head) (groups : List GroupPlan) (plan : PlanView) → MakesPlan groups head.rounds head.windows.reading head.windows.recovery (Ok plan)
+pub stated : (head : PlanHead) (groups : List GroupPlan) (plan : PlanView) → MakesPlan groups head.rounds head.windows.reading head.windows.recovery (Ok plan)
     → stated_plan head groups ≡ Ok plan
 unfolding stated_plan
 stated head groups plan made = rw made.0 (ap Ok (sym made.1))
 
-pub not_stated : (head : Head) (groups : List GroupPlan) (error : PlanError) → MakesPlan groups head.rounds head.windows.reading head.windows.recovery (Err error)
+pub not_stated : (head : PlanHead) (groups : List GroupPlan) (error : PlanError) → MakesPlan groups head.rounds head.windows.reading head.windows.recovery (Err error)
     → ButMemory (plan_cause error) (stated_plan head groups ≡ Err (in_row 0 (plan_cause error)))
 unfolding stated_plan
 not_stated head groups of_plan.NoGroup wrong = rw wrong refl
@@ -60,19 +60,19 @@ fails x f error wrong = but_memory error.cause (λ (w : x ≡ Err error). rw w r
 behind : (u v : Result PlanFileView FileError) (error : FileError) → u ≡ v → ButMemory error.cause (v ≡ Err error) → ButMemory error.cause (u ≡ Err error)
 behind u v error same wrong = subst (λ (r : Result PlanFileView FileError). ButMemory error.cause (r ≡ Err error)) (sym same) wrong
 
-pub filled : (plan new : PlanView) (fault : Option SpanError) (n : ℕ) (entries : List Entry) (spans : List Span) → spans ≡ spans_of entries → Settles plan spans new fault
+pub filled : (plan new : PlanView) (fault : Option SpanError) (n : ℕ) (entries : List PlanRow) (spans : List Span) → spans ≡ spans_of entries → Settles plan spans new fault
     → with_entries plan n entries ≡ filled_in new fault n entries
 unfolding with_entries
 filled plan new fault n entries spans is settles =
     ap (λ (s : List Span). filled_in (settled plan s) (span_fault plan s) n entries) (sym is)
     ∙ (ap (λ (p : PlanView). filled_in p (span_fault plan spans) n entries) (sym settles.plan) ∙ ap (λ (f : Option SpanError). filled_in new f n entries) (sym settles.faulty))
 
-pub bad_entries : (plan new : PlanView) (fault : Option SpanError) (n : ℕ) (entries : List Entry) (spans : List Span) (error : FileError) → spans ≡ spans_of entries → Settles plan spans new fault
+pub bad_entries : (plan new : PlanView) (fault : Option SpanError) (n : ℕ) (entries : List PlanRow) (spans : List Span) (error : FileError) → spans ≡ spans_of entries → Settles plan spans new fault
     → ButMemory error.cause (gather (last_tick new) fault n (nothing new) entries ≡ Err error) → PlanEnds (with_entries plan n entries) (Err error)
 bad_entries plan new fault n entries spans error is settles wrong =
     behind (with_entries plan n entries) (filled_in new fault n entries) error (filled plan new fault n entries spans is settles) (fails (gather (last_tick new) fault n (nothing new) entries) completed error wrong)
 
-pub good_entries : (plan new : PlanView) (fault : Option SpanError) (n : ℕ) (entries : List Entry) (spans : List Span) (gathered : Gathered) → spans ≡ spans_of entries → Settles plan spans new fault
+pub good_entries : (plan new : PlanView) (fault : Option SpanError) (n : ℕ) (entries : List PlanRow) (spans : List Span) (gathered : Gathered) → spans ≡ spans_of entries → Settles plan spans new fault
     → gather (last_tick new) fault n (nothing new) entries ≡ Ok gathered → with_entries plan n entries ≡ completed gathered
 good_entries plan new fault n entries spans gathered is settles right = filled plan new fault n entries spans is settles ∙ rw right refl
 
@@ -95,7 +95,7 @@ fault_within plan before (s ∷ ss) e is =
     by_tests true true later is = here (of_span.Twice (length before)) refl cc
     by_tests true false later is = let lt = later is in omega (arith, lt, length-append before (s ∷ []))
 
-pub few_spans : (entries : List Entry) → length (spans_of entries) ≤ length entries
+pub few_spans : (entries : List PlanRow) → length (spans_of entries) ≤ length entries
 few_spans [] = omega arith
 few_spans (entry.Own g i key ∷ es) = let rest = few_spans es in omega (arith, rest)
 few_spans (entry.Pair g low high key ∷ es) = let rest = few_spans es in omega (arith, rest)
@@ -121,35 +121,35 @@ unfolding opened_from
 bad_head form rows error wrong = but_memory error.cause (λ (w : head_of form rows ≡ Err error). rw w refl) wrong
 
 -- the first steps went well
-pub record IsBegun (form : PlanForm) (rows : List (List (List ℕ))) (first : Head) (named : List GroupPlan) : Type 0 where
+pub record IsBegun (form : PlanForm) (rows : List (List (List ℕ))) (first : PlanHead) (named : List GroupPlan) : Type 0 where
   pub head : head_of form rows ≡ Ok first
   pub groups : groups_from 4 (drop 3 rows) ≡ Ok named
 
 -- all rows have their form
-pub record IsFormed (form : PlanForm) (rows : List (List (List ℕ))) (first : Head) (named : List GroupPlan) (others : List Entry) : Type 0 where
+pub record IsFormed (form : PlanForm) (rows : List (List (List ℕ))) (first : PlanHead) (named : List GroupPlan) (others : List PlanRow) : Type 0 where
   pub begun : IsBegun form rows first named
   pub entries : entries_from form (4 + length named) (drop (3 + length named) rows) ≡ Ok others
 
-pub bad_groups : (form : PlanForm) (rows rest : List (List (List ℕ))) (head : Head) (error : FileError) → head_of form rows ≡ Ok head → rest ≡ drop 3 rows
+pub bad_groups : (form : PlanForm) (rows rest : List (List (List ℕ))) (head : PlanHead) (error : FileError) → head_of form rows ≡ Ok head → rest ≡ drop 3 rows
     → ButMemory error.cause (groups_from 4 rest ≡ Err error) → ButMemory error.cause (opened_from form rows ≡ Err error)
 unfolding opened_from
 bad_groups form rows rest head error first is wrong =
     but_memory error.cause (λ (w : groups_from 4 rest ≡ Err error). let found = ap (groups_from 4) (sym is) ∙ w in rw (first, found) refl) wrong
 
-pub bad_rows : (form : PlanForm) (rows rest : List (List (List ℕ))) (n : ℕ) (head : Head) (groups : List GroupPlan) (error : FileError) → IsBegun form rows head groups → n ≡ 4 + length groups → rest ≡ drop (3 + length groups) rows
+pub bad_rows : (form : PlanForm) (rows rest : List (List (List ℕ))) (n : ℕ) (head : PlanHead) (groups : List GroupPlan) (error : FileError) → IsBegun form rows head groups → n ≡ 4 + length groups → rest ≡ drop (3 + length groups) rows
     → ButMemory error.cause (entries_from form n rest ≡ Err error) → ButMemory error.cause (opened_from form rows ≡ Err error)
 unfolding opened_from
 bad_rows form rows rest n head groups error begun number is wrong =
     but_memory error.cause (λ (w : entries_from form n rest ≡ Err error).
     let found = ap (entries_from form (4 + length groups)) (sym is) ∙ (ap (λ m. entries_from form m rest) (sym number) ∙ w) in rw (begun.head, begun.groups, found) refl) wrong
 
-pub bad_plan : (form : PlanForm) (rows : List (List (List ℕ))) (head : Head) (groups : List GroupPlan) (entries : List Entry) (error : FileError) → IsFormed form rows head groups entries
+pub bad_plan : (form : PlanForm) (rows : List (List (List ℕ))) (head : PlanHead) (groups : List GroupPlan) (entries : List PlanRow) (error : FileError) → IsFormed form rows head groups entries
     → ButMemory error.cause (stated_plan head groups ≡ Err error) → ButMemory error.cause (opened_from form rows ≡ Err error)
 unfolding opened_from
 bad_plan form rows head groups entries error formed wrong =
     but_memory error.cause (λ (w : stated_plan head groups ≡ Err error). rw (formed.begun.head, formed.begun.groups, formed.entries, w) refl) wrong
 
-pub well_opened : (form : PlanForm) (rows : List (List (List ℕ))) (n : ℕ) (head : Head) (groups : List GroupPlan) (entries : List Entry) (plan : PlanView) → IsFormed form rows head groups entries
+pub well_opened : (form : PlanForm) (rows : List (List (List ℕ))) (n : ℕ) (head : PlanHead) (groups : List GroupPlan) (entries : List PlanRow) (plan : PlanView) → IsFormed form rows head groups entries
     → n ≡ 4 + length groups → stated_plan head groups ≡ Ok plan → opened_from form rows ≡ Ok (record { plan = plan; first = n; entries = entries })
 unfolding opened_from
 well_opened form rows n head groups entries plan formed number made =

@@ -22,13 +22,13 @@ use Rattle.plan_files.specs.PlanForms.{after, entries_from, groups_from, head_of
 use Rattle.plan_files.specs.PlanRows.{arg_in, entry_of, group_row, has_fields, key_in, key_or_lane, lane_row, member_row, name_in, number_in, or_cause, own_row, pair_row, rounds_row, starts_with, text, title, version_row, windows_row}
 use Rattle.plan_files.specs.SpelledFiles.{AreInRows, IsKey, IsLaneOf}
 use Rattle.plan_files.specs.Spelling.{first_rows, group_fields, key_fields, lane_fields, member_fields}
-use Rattle.plan_files.specs.declared.entry.Entry.{Entry}
-use Rattle.plan_files.specs.declared.entry.Entry.TheVariants as entry
+use Rattle.plan_files.specs.declared.entry.PlanRow.{PlanRow}
+use Rattle.plan_files.specs.declared.entry.PlanRow.TheVariants as entry
 use Rattle.plan_files.specs.declared.fault.FileCause.TheVariants as cause
 use Rattle.plan_files.specs.declared.fault.FileError.{FileError}
 use Rattle.plan_files.specs.declared.form.PlanForm.{PlanForm}
 use Rattle.plan_files.specs.declared.form.PlanForm.TheVariants.{Whole, Public}
-use Rattle.plan_files.specs.declared.head.Head.{Head}
+use Rattle.plan_files.specs.declared.head.PlanHead.{PlanHead}
 
 -- ---- fields
 
@@ -61,7 +61,7 @@ arg_at fields place arg is good = rw is (rw good refl)
 -- ---- the first rows
 
 -- what the first rows say
-abbrev pub head_by : PlanView → Head
+abbrev pub head_by : PlanView → PlanHead
 head_by plan = record { rounds = plan.rounds; windows = record { reading = plan.w1; recovery = plan.w2 } }
 
 pub rounds_read : (n : ℕ) → n < 2 ^ 32 → rounds_row (codes "rounds" ∷ decimal n ∷ []) ≡ Ok n
@@ -138,7 +138,7 @@ key_or None = []
 key_or (Some key) = key
 
 -- what the row of a key says
-abbrev pub key_entry : KeyId → List ℕ → Entry
+abbrev pub key_entry : KeyId → List ℕ → PlanRow
 key_entry (Own g i) key = entry.Own g i key
 key_entry (Pair g low high) key = entry.Pair g low high key
 
@@ -175,7 +175,7 @@ after_cons x xs (Ok ys) = refl
 after_cons x xs (Err e) = refl
 
 -- the entries of keys
-abbrev pub key_entries : Keys → List KeyId → List Entry
+abbrev pub key_entries : Keys → List KeyId → List PlanRow
 key_entries keys ids = map (λ which. key_entry which (key_or (keys.key which))) ids
 
 -- each can be spelled
@@ -190,7 +190,7 @@ keys_read keys good n m [] rest can same =
     let here : n ≡ m = omega (arith, same) in ap (λ k. entries_from Whole k rest) here ∙ after_nil (entries_from Whole m rest)
 keys_read keys good n m (x ∷ xs) rest can same =
     rw (some_read n x (keys.key x) can.0.small can.0.there (good x))
-    (ap (λ (r : Result (List Entry) FileError). r >>= (λ more. Ok (key_entry x (key_or (keys.key x)) ∷ more))) (keys_read keys good (n + 1) m xs rest can.1 (omega (arith, same)))
+    (ap (λ (r : Result (List PlanRow) FileError). r >>= (λ more. Ok (key_entry x (key_or (keys.key x)) ∷ more))) (keys_read keys good (n + 1) m xs rest can.1 (omega (arith, same)))
     ∙ after_cons (key_entry x (key_or (keys.key x))) (key_entries keys xs) (entries_from Whole m rest))
 
 -- ---- lanes
@@ -212,7 +212,7 @@ lanes_read plan n m (x ∷ xs) rest few good rows same =
     let to : x.to < 2 ^ 32 = few x first in
     let from : x.from < 2 ^ 32 = let o = first.order in omega (arith, o, to) in
     rw (lane_read n plan x rows.0 first from to)
-    (ap (λ (r : Result (List Entry) FileError). r >>= (λ more. Ok (entry.Lane x ∷ more))) (lanes_read plan (n + 1) m xs rest few (All-tail (IsLaneOf plan) x xs good) rows.2 (omega (arith, same)))
+    (ap (λ (r : Result (List PlanRow) FileError). r >>= (λ more. Ok (entry.Lane x ∷ more))) (lanes_read plan (n + 1) m xs rest few (All-tail (IsLaneOf plan) x xs good) rows.2 (omega (arith, same)))
     ∙ after_cons (entry.Lane x) (map entry.Lane xs) (entries_from Whole m rest))
 
 -- ---- members

@@ -16,8 +16,8 @@ use Rattle.pair_keys.specs.declared.KeyId.TheVariants.{Own, Pair}
 use Rattle.plan_files.specs.Gathering.{Gathered, gather, hang_lane, nothing, put_key, spans_of, take_entry}
 use Rattle.plan_files.specs.MissingKeys.{plan_keys}
 use Rattle.plan_files.specs.SpelledFiles.{AreKeysOf, IsLaneOf}
-use Rattle.plan_files.specs.declared.entry.Entry.{Entry}
-use Rattle.plan_files.specs.declared.entry.Entry.TheVariants as entry
+use Rattle.plan_files.specs.declared.entry.PlanRow.{PlanRow}
+use Rattle.plan_files.specs.declared.entry.PlanRow.TheVariants as entry
 use Rattle.plan_files.proofs.DistinctLemmas.{Distinct}
 use Rattle.plan_files.proofs.KeyOrder.{keys_all, keys_distinct, keys_only}
 use Rattle.plan_files.proofs.SpelledForms.{key_entries, key_entry, key_or}
@@ -76,7 +76,7 @@ unfolding take_entry put_key
 took_key last before (Own g i) key is none = rw (is, none) refl
 took_key last before (Pair g low high) key is none = rw (is, none) refl
 
-pub keys_gathered : (last n m : ℕ) (all : Keys) (before : Gathered) (ids : List KeyId) (rest : List Entry) → list_all (is_key before.keys.plan) ids ≡ true → Distinct same_id ids → NoneThere before.keys ids
+pub keys_gathered : (last n m : ℕ) (all : Keys) (before : Gathered) (ids : List KeyId) (rest : List PlanRow) → list_all (is_key before.keys.plan) ids ≡ true → Distinct same_id ids → NoneThere before.keys ids
     → m ≡ n + length ids → gather last None n before (key_entries all ids ++ rest) ≡ gather last None m (with_keys all before ids) rest
 unfolding gather
 keys_gathered last n m all before [] rest inside once none same = let here : n ≡ m = omega (arith, same) in ap (λ k. gather last None k before rest) here
@@ -154,7 +154,7 @@ keys_again plan all are =
     ap (λ p. made p (all_put all plan).keys.key) (with_plan all (nothing plan) (plan_keys plan) ∙ sym are.of_plan)
     ∙ ap (made all.plan) (fun_ext (each_key plan all are))
 
-pub plan_keys_gathered : (n m : ℕ) (plan : PlanView) (all : Keys) (rest : List Entry) → m ≡ n + length (plan_keys plan)
+pub plan_keys_gathered : (n m : ℕ) (plan : PlanView) (all : Keys) (rest : List PlanRow) → m ≡ n + length (plan_keys plan)
     → gather (last_tick plan) None n (nothing plan) (key_entries all (plan_keys plan) ++ rest) ≡ gather (last_tick plan) None m (all_put all plan) rest
 plan_keys_gathered n m plan all rest same =
     keys_gathered (last_tick plan) n m all (nothing plan) (plan_keys plan) rest (keys_only plan) (keys_distinct plan) (none_there plan (plan_keys plan)) same
@@ -165,7 +165,7 @@ lane_hung : (last : ℕ) (lanes : List LaneRow) (lane : LaneRow) → lane.from �
 unfolding hang_lane
 lane_hung last lanes lane order le = let t : (nat_le lane.from lane.to && nat_le lane.to last) ≡ true = grind (arith, nat_tests) in rw t refl
 
-pub lanes_gathered : (plan : PlanView) (n m : ℕ) (before : Gathered) (lanes : List LaneRow) (rest : List Entry) → All (IsLaneOf plan) lanes → m ≡ n + length lanes
+pub lanes_gathered : (plan : PlanView) (n m : ℕ) (before : Gathered) (lanes : List LaneRow) (rest : List PlanRow) → All (IsLaneOf plan) lanes → m ≡ n + length lanes
     → gather (last_tick plan) None n before (map entry.Lane lanes ++ rest) ≡ gather (last_tick plan) None m (record before { lanes = before.lanes ++ lanes }) rest
 unfolding gather take_entry
 lanes_gathered plan n m before [] rest good same =
@@ -186,11 +186,11 @@ members_gathered last n before (s ∷ ss) = members_gathered last (n + 1) (recor
 
 -- ---- the spans among the rows
 
-spans_none : {X : Type 0} (f : X → Entry) (xs : List X) (rest : List Entry) → ((x : X) (more : List Entry) → spans_of (f x ∷ more) ≡ spans_of more) → spans_of (map f xs ++ rest) ≡ spans_of rest
+spans_none : {X : Type 0} (f : X → PlanRow) (xs : List X) (rest : List PlanRow) → ((x : X) (more : List PlanRow) → spans_of (f x ∷ more) ≡ spans_of more) → spans_of (map f xs ++ rest) ≡ spans_of rest
 spans_none f [] rest none = refl
 spans_none f (x ∷ xs) rest none = none x (map f xs ++ rest) ∙ spans_none f xs rest none
 
-key_no_span : (x : KeyId) (key : List ℕ) (more : List Entry) → spans_of (key_entry x key ∷ more) ≡ spans_of more
+key_no_span : (x : KeyId) (key : List ℕ) (more : List PlanRow) → spans_of (key_entry x key ∷ more) ≡ spans_of more
 key_no_span (Own g i) key more = refl
 key_no_span (Pair g low high) key more = refl
 

@@ -25,8 +25,8 @@ use Rattle.plan_files.specs.PlanRows.{title}
 use Rattle.plan_files.specs.Rows.{file_rows}
 use Rattle.plan_files.specs.SpelledFiles.{AreInRows, IsLaneOf, IsPlanFile, PlanFileIsRead, PublicPlanIsRead, first_lane_row}
 use Rattle.plan_files.specs.Spelling.{first_rows, group_fields, key_fields, key_rows, key_text, lane_fields, member_fields, partial_spans, plan_rows, public_rows}
-use Rattle.plan_files.specs.declared.entry.Entry.{Entry}
-use Rattle.plan_files.specs.declared.entry.Entry.TheVariants as entry
+use Rattle.plan_files.specs.declared.entry.PlanRow.{PlanRow}
+use Rattle.plan_files.specs.declared.entry.PlanRow.TheVariants as entry
 use Rattle.plan_files.specs.declared.form.PlanForm.{PlanForm}
 use Rattle.plan_files.specs.declared.form.PlanForm.TheVariants.{Whole, Public}
 use Rattle.plan_files.proofs.DistinctLemmas.{all_append, both_true}
@@ -94,7 +94,7 @@ abbrev entry_rows : PlanFileView → List (List (List ℕ))
 entry_rows file = key_rows file.plan file.keys ++ (map lane_fields file.lanes ++ map member_fields (partial_spans file.plan))
 
 -- the entries that they say
-abbrev entries : PlanFileView → List Entry
+abbrev entries : PlanFileView → List PlanRow
 entries file = key_entries file.keys (plan_keys file.plan) ++ (map entry.Lane file.lanes ++ map entry.Member (partial_spans file.plan))
 
 -- the rows, grouped to the right

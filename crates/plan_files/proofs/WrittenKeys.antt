@@ -15,8 +15,8 @@ use Rattle.plan_files.specs.PlainRows.{is_plain, is_plain_byte, is_plain_row, re
 use Rattle.plan_files.specs.PlanForms.{after, entries_from}
 use Rattle.plan_files.specs.PlanRows.{entry_of, has_fields, key_in, key_or_lane, own_row, pair_row, text}
 use Rattle.plan_files.specs.WrittenKeys.{AddsRows, IsKeyPart, IsKeyRow, IsNumberPart}
-use Rattle.plan_files.specs.declared.entry.Entry.{Entry}
-use Rattle.plan_files.specs.declared.entry.Entry.TheVariants as entry
+use Rattle.plan_files.specs.declared.entry.PlanRow.{PlanRow}
+use Rattle.plan_files.specs.declared.entry.PlanRow.TheVariants as entry
 use Rattle.plan_files.specs.declared.fault.FileError.{FileError}
 use Rattle.plan_files.specs.declared.form.PlanForm.{PlanForm}
 use Rattle.plan_files.specs.declared.form.PlanForm.TheVariants.{Whole}
@@ -178,27 +178,27 @@ pair_read bytes behind_group behind_low behind_high key rest g low high group fi
 
 -- ---- rows in turn
 
-after_one : (x : Entry) (r : Result (List Entry) FileError) → r >>= (λ more. Ok (x ∷ more)) ≡ after (x ∷ []) r
+after_one : (x : PlanRow) (r : Result (List PlanRow) FileError) → r >>= (λ more. Ok (x ∷ more)) ≡ after (x ∷ []) r
 after_one x (Ok more) = refl
 after_one x (Err fault) = refl
 
-after_none : (r : Result (List Entry) FileError) → r ≡ after [] r
+after_none : (r : Result (List PlanRow) FileError) → r ≡ after [] r
 after_none (Ok more) = refl
 after_none (Err fault) = refl
 
-after_twice : (xs ys : List Entry) (r : Result (List Entry) FileError) → after xs (after ys r) ≡ after (xs ++ ys) r
+after_twice : (xs ys : List PlanRow) (r : Result (List PlanRow) FileError) → after xs (after ys r) ≡ after (xs ++ ys) r
 after_twice xs ys (Ok more) = ap Ok (sym (append_assoc xs ys more))
 after_twice xs ys (Err fault) = refl
 
-pub adds_none : (form : PlanForm) (rows : List (List (List ℕ))) (entries : List Entry) → AddsRows form rows rows entries entries
+pub adds_none : (form : PlanForm) (rows : List (List (List ℕ))) (entries : List PlanRow) → AddsRows form rows rows entries entries
 adds_none form rows entries = record {
   more = [];
   added = sym (append-nil entries);
-  says = λ n. after_none (entries_from form n rows) ∙ ap (λ (k : ℕ). after {A = Entry} [] (entries_from form k rows)) (omega arith);
+  says = λ n. after_none (entries_from form n rows) ∙ ap (λ (k : ℕ). after {A = PlanRow} [] (entries_from form k rows)) (omega arith);
   long = omega arith;
 }
 
-pub adds_one : (form : PlanForm) (rows rest : List (List (List ℕ))) (fields : List (List ℕ)) (entries : List Entry) (entry : Entry) → rows ≡ fields ∷ rest
+pub adds_one : (form : PlanForm) (rows rest : List (List (List ℕ))) (fields : List (List ℕ)) (entries : List PlanRow) (entry : PlanRow) → rows ≡ fields ∷ rest
     → ((n : ℕ) → entry_of form n fields ≡ Ok entry) → AddsRows form rows rest entries (entries ++ entry ∷ [])
 unfolding entries_from
 adds_one form rows rest fields entries entry is says = record {
@@ -208,14 +208,14 @@ adds_one form rows rest fields entries entry is says = record {
   long = let l = ap length is in omega (arith, l);
 }
 
-pub adds_then : (form : PlanForm) (rows middle rest : List (List (List ℕ))) (a b c : List Entry) → AddsRows form rows middle a b → AddsRows form middle rest b c → AddsRows form rows rest a c
+pub adds_then : (form : PlanForm) (rows middle rest : List (List (List ℕ))) (a b c : List PlanRow) → AddsRows form rows middle a b → AddsRows form middle rest b c → AddsRows form rows rest a c
 adds_then form rows middle rest a b c first second =
     let count = length-append first.more second.more in
     let p = first.long in
     let q = second.long in
     record {
       more = first.more ++ second.more;
-      added = second.added ∙ (ap (λ (l : List Entry). l ++ second.more) first.added ∙ append_assoc a first.more second.more);
+      added = second.added ∙ (ap (λ (l : List PlanRow). l ++ second.more) first.added ∙ append_assoc a first.more second.more);
       says = λ n.
           first.says n
           ∙ (ap (after first.more) (second.says (n + length first.more))
@@ -224,29 +224,29 @@ adds_then form rows middle rest a b c first second =
       long = omega (arith, count, p, q);
     }
 
-no_more : (entries more : List Entry) → length (entries ++ more) ≡ length entries → more ≡ []
+no_more : (entries more : List PlanRow) → length (entries ++ more) ≡ length entries → more ≡ []
 no_more entries [] same = refl
 no_more entries (x ∷ xs) same = absurd (let l = length-append entries (x ∷ xs) in omega (arith, l, same))
 
 -- where none are added, they are as before
-pub adds_nothing : (form : PlanForm) (rows rest : List (List (List ℕ))) (old new : List Entry) → AddsRows form rows rest old new → length new ≡ length old → new ≡ old
+pub adds_nothing : (form : PlanForm) (rows rest : List (List (List ℕ))) (old new : List PlanRow) → AddsRows form rows rest old new → length new ≡ length old → new ≡ old
 adds_nothing form rows rest old new adds same =
     let none = no_more old adds.more (sym (ap length adds.added) ∙ same) in
-    adds.added ∙ (ap (λ (l : List Entry). old ++ l) none ∙ append-nil old)
+    adds.added ∙ (ap (λ (l : List PlanRow). old ++ l) none ∙ append-nil old)
 
 -- how many are added
-pub adds_long : (form : PlanForm) (rows rest : List (List (List ℕ))) (old new : List Entry) → AddsRows form rows rest old new → length new + length rest ≡ length old + length rows
+pub adds_long : (form : PlanForm) (rows rest : List (List (List ℕ))) (old new : List PlanRow) → AddsRows form rows rest old new → length new + length rest ≡ length old + length rows
 adds_long form rows rest old new adds =
     let l = ap length adds.added ∙ length-append old adds.more in
     let m = adds.long in
     omega (arith, l, m)
 
 -- what the rows from row `first` on say goes on behind what is added
-pub adds_on : (form : PlanForm) (rows rest : List (List (List ℕ))) (old new : List Entry) (first : ℕ) → AddsRows form rows rest old new
+pub adds_on : (form : PlanForm) (rows rest : List (List (List ℕ))) (old new : List PlanRow) (first : ℕ) → AddsRows form rows rest old new
     → after old (entries_from form (first + length old) rows) ≡ after new (entries_from form (first + length new) rest)
 adds_on form rows rest old new first adds =
     let count = length-append old adds.more in
     let next : first + length old + length adds.more ≡ first + length (old ++ adds.more) = omega (arith, count) in
     ap (after old) (adds.says (first + length old))
     ∙ (after_twice old adds.more (entries_from form (first + length old + length adds.more) rest)
-    ∙ (ap (λ (k : ℕ). after (old ++ adds.more) (entries_from form k rest)) next ∙ ap (λ (l : List Entry). after l (entries_from form (first + length l) rest)) (sym adds.added)))
+    ∙ (ap (λ (k : ℕ). after (old ++ adds.more) (entries_from form k rest)) next ∙ ap (λ (l : List PlanRow). after l (entries_from form (first + length l) rest)) (sym adds.added)))

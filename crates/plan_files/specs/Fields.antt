@@ -7,8 +7,8 @@ use Rattle.csv.specs.declared.parser.Action.TheVariants as act
 use Rattle.csv.specs.declared.parser.State.{State}
 use Rattle.csv.specs.declared.parser.State.TheVariants as st
 use Rattle.csv.specs.declared.parser.Terminator.TheVariants as term
-use Rattle.plan_files.specs.declared.fields.Place.{Place}
-use Rattle.plan_files.specs.declared.fields.Place.TheVariants as place
+use Rattle.plan_files.specs.declared.fields.QuoteState.{QuoteState}
+use Rattle.plan_files.specs.declared.fields.QuoteState.TheVariants as place
 use Rattle.plan_files.specs.declared.fields.Step.{Step}
 use Rattle.plan_files.specs.declared.fields.Step.TheVariants as a_step
 
@@ -37,13 +37,13 @@ behind_fields fields (c ∷ rest) =
     if c == 44 then next_record default_config st.StartField fields [] rest else Some (fields, after_end term.CRLF c, rest)
 
 -- where a reader stands in a field
-abbrev pub state_of : Place → State
+abbrev pub state_of : QuoteState → State
 state_of place.Quoted = st.InQuoted
 state_of place.Closed = st.AfterQuote
 state_of place.Plain = st.InField
 
 -- what a byte does at a place
-abbrev pub IsStep : Place → ℕ → Step → Type 0
+abbrev pub IsStep : QuoteState → ℕ → Step → Type 0
 IsStep at c a_step.End = ends_field (step default_config (state_of at) c).1 ≡ true
 IsStep at c (a_step.Within next is_text) = step default_config (state_of at) c ≡ (state_of next, if is_text then act.Copy else act.Skip)
 

@@ -12,8 +12,8 @@ use Rattle.pair_keys.specs.declared.KeyError.TheVariants as of_key
 use Rattle.pair_keys.specs.declared.KeyId.{KeyId}
 use Rattle.pair_keys.specs.declared.KeyId.TheVariants as id
 use Rattle.plan_files.specs.Faults.{◌>>=◌, ButMemory, at_row}
-use Rattle.plan_files.specs.declared.entry.Entry.{Entry}
-use Rattle.plan_files.specs.declared.entry.Entry.TheVariants as entry
+use Rattle.plan_files.specs.declared.entry.PlanRow.{PlanRow}
+use Rattle.plan_files.specs.declared.entry.PlanRow.TheVariants as entry
 use Rattle.plan_files.specs.declared.fault.FileCause.{FileCause}
 use Rattle.plan_files.specs.declared.fault.FileCause.TheVariants as cause
 use Rattle.plan_files.specs.declared.fault.FileError.{FileError}
@@ -22,7 +22,7 @@ use Rattle.plan_files.specs.declared.gathering.Gathering.{Gathering}
 -- ---- members
 
 -- the spans of the member rows, in the order of the file
-abbrev pub spans_of : List Entry → List Span
+abbrev pub spans_of : List PlanRow → List Span
 spans_of [] = []
 spans_of (entry.Member span ∷ entries) = span ∷ spans_of entries
 spans_of (other ∷ entries) = spans_of entries
@@ -71,7 +71,7 @@ unfoldable pub hang_lane : ℕ → List LaneRow → LaneRow → Result (List Lan
 hang_lane last lanes lane = if nat_le lane.from lane.to && nat_le lane.to last then Ok (lanes ++ lane ∷ []) else Err cause.LaneSpan
 
 -- one row more, by the plan's last tick and the fault of all spans
-unfoldable pub take_entry : ℕ → Option SpanError → Gathered → Entry → Result Gathered FileCause
+unfoldable pub take_entry : ℕ → Option SpanError → Gathered → PlanRow → Result Gathered FileCause
 take_entry last fault before (entry.Own group meter key) = do
   keys ← put_key before.keys (id.Own group meter) key
   Ok (record before { keys = keys })
@@ -86,7 +86,7 @@ take_entry last fault before (entry.Member span) = do
   Ok (record before { members = before.members + 1 })
 
 -- all these rows more, of which the first is row n of the file, up to the first that is refused
-unfoldable pub gather : ℕ → Option SpanError → ℕ → Gathered → List Entry → Result Gathered FileError
+unfoldable pub gather : ℕ → Option SpanError → ℕ → Gathered → List PlanRow → Result Gathered FileError
 gather last fault n before [] = Ok before
 gather last fault n before (entry ∷ entries) = do
   more ← at_row n (take_entry last fault before entry)
@@ -109,6 +109,6 @@ HangsLane lanes lane last (Ok done) new = hang_lane last lanes lane ≡ Ok new
 HangsLane lanes lane last (Err what) new = ButMemory what (hang_lane last lanes lane ≡ Err what)
 
 -- a row is taken, or refused; want of memory is free
-abbrev pub TakesEntry : ℕ → Option SpanError → Gathered → Entry → Result (Unit {0}) FileCause → Gathered → Type 0
+abbrev pub TakesEntry : ℕ → Option SpanError → Gathered → PlanRow → Result (Unit {0}) FileCause → Gathered → Type 0
 TakesEntry last fault before entry (Ok done) after = take_entry last fault before entry ≡ Ok after
 TakesEntry last fault before entry (Err what) after = ButMemory what (take_entry last fault before entry ≡ Err what)

@@ -17,10 +17,10 @@ use Rattle.plan_files.specs.Gathering.{Gathered, gather, nothing, settled, spans
 use Rattle.plan_files.specs.MissingKeys.{first_missing}
 use Rattle.plan_files.specs.PlanForms.{entries_from, groups_from, head_of}
 use Rattle.plan_files.specs.Rows.{file_rows}
-use Rattle.plan_files.specs.declared.entry.Entry.{Entry}
+use Rattle.plan_files.specs.declared.entry.PlanRow.{PlanRow}
 use Rattle.plan_files.specs.declared.fault.FileCause.TheVariants as cause
 use Rattle.plan_files.specs.declared.fault.FileError.{FileError}
-use Rattle.plan_files.specs.declared.head.Head.{Head}
+use Rattle.plan_files.specs.declared.head.PlanHead.{PlanHead}
 use Rattle.plan_files.specs.declared.form.PlanForm.{PlanForm}
 use Rattle.plan_files.specs.declared.form.PlanForm.TheVariants.{Whole, Public}
 use Rattle.plan_files.specs.declared.plan.Opening.{Opening}
@@ -33,7 +33,7 @@ pub record PlanFileView : Type 0 where
   pub lanes : List LaneRow
 
 -- the plan that the first rows and the groups state, or its first fault
-unfoldable pub stated_plan : Head → List GroupPlan → Result PlanView FileError
+unfoldable pub stated_plan : PlanHead → List GroupPlan → Result PlanView FileError
 stated_plan head groups =
     unless (option_map (λ e. in_row 0 (plan_cause e)) (first_fault groups head.rounds head.windows.reading head.windows.recovery))
     (new.plan_of groups head.rounds head.windows.reading head.windows.recovery)
@@ -47,18 +47,18 @@ abbrev pub completed : Gathered → Result PlanFileView FileError
 completed gathered = unless_missing (first_missing gathered.keys) gathered
 
 -- what the rows after the groups say to a plan whose spans have this fault or none; the first of them is row n of the file
-abbrev pub filled_in : PlanView → Option SpanError → ℕ → List Entry → Result PlanFileView FileError
+abbrev pub filled_in : PlanView → Option SpanError → ℕ → List PlanRow → Result PlanFileView FileError
 filled_in plan fault n entries = gather (last_tick plan) fault n (nothing plan) entries >>= completed
 
 -- the same to a plan before its members' spans are known
-unfoldable pub with_entries : PlanView → ℕ → List Entry → Result PlanFileView FileError
+unfoldable pub with_entries : PlanView → ℕ → List PlanRow → Result PlanFileView FileError
 with_entries plan n entries = filled_in (settled plan (spans_of entries)) (span_fault plan (spans_of entries)) n entries
 
 -- the plan that the first rows and the groups of a file state, and the rows after these, of which the first is row `first` of the file
 pub record Opened : Type 0 where
   pub plan : PlanView
   pub first : ℕ
-  pub entries : List Entry
+  pub entries : List PlanRow
 
 -- what the rows of a file say, before the rows after the groups are judged by the plan: first the form of all, then the plan
 unfoldable pub opened_from : PlanForm → List (List (List ℕ)) → Result Opened FileError

@@ -3,12 +3,12 @@ use Rattle.std.specs.Prelude.{ℕ, ◌+◌, ◌++◌, nat_lt, if◌then◌else�
 use Rattle.group_plan.specs.declared.plan.GroupPlan.{GroupPlan}
 use Rattle.plan_files.specs.Faults.{◌>>=◌, at_row, in_row}
 use Rattle.plan_files.specs.PlanRows.{entry_of, group_row, rounds_row, starts_with, version_row, windows_row}
-use Rattle.plan_files.specs.declared.entry.Entry.{Entry}
+use Rattle.plan_files.specs.declared.entry.PlanRow.{PlanRow}
 use Rattle.plan_files.specs.declared.fault.FileCause.{FileCause}
 use Rattle.plan_files.specs.declared.fault.FileCause.TheVariants as cause
 use Rattle.plan_files.specs.declared.fault.FileError.{FileError}
 use Rattle.plan_files.specs.declared.form.PlanForm.{PlanForm}
-use Rattle.plan_files.specs.declared.head.Head.{Head}
+use Rattle.plan_files.specs.declared.head.PlanHead.{PlanHead}
 
 -- what the row at a place, counted from 0, says by its form; a file without it is short
 unfoldable pub row_due : {A : Type 0} → (List (List ℕ) → Result A FileCause) → List (List (List ℕ)) → ℕ → Result A FileError
@@ -21,7 +21,7 @@ first_due form n [] = Err (in_row n cause.Short)
 first_due form n (row ∷ rows) = at_row n (form row)
 
 -- what the first three rows say
-unfoldable pub head_of : PlanForm → List (List (List ℕ)) → Result Head FileError
+unfoldable pub head_of : PlanForm → List (List (List ℕ)) → Result PlanHead FileError
 head_of form rows = do
   _ ← row_due (version_row form) rows 0
   rounds ← row_due rounds_row rows 1
@@ -39,7 +39,7 @@ groups_from n (row ∷ rows) =
     else Ok []
 
 -- the rows after the groups, of which the first is row n of the file
-unfoldable pub entries_from : PlanForm → ℕ → List (List (List ℕ)) → Result (List Entry) FileError
+unfoldable pub entries_from : PlanForm → ℕ → List (List (List ℕ)) → Result (List PlanRow) FileError
 entries_from form n [] = Ok []
 entries_from form n (row ∷ rows) = do
   entry ← at_row n (entry_of form n row)

@@ -9,8 +9,8 @@ use Rattle.group_plan.specs.declared.plan.GroupPlan.{GroupPlan}
 use Rattle.hex.specs.Hex.{decode_sized}
 use Rattle.link_lanes.specs.ArgBytes.{is_arg_byte}
 use Rattle.plan_files.specs.Faults.{◌>>=◌}
-use Rattle.plan_files.specs.declared.entry.Entry.{Entry}
-use Rattle.plan_files.specs.declared.entry.Entry.TheVariants as entry
+use Rattle.plan_files.specs.declared.entry.PlanRow.{PlanRow}
+use Rattle.plan_files.specs.declared.entry.PlanRow.TheVariants as entry
 use Rattle.plan_files.specs.declared.fault.FileCause.{FileCause}
 use Rattle.plan_files.specs.declared.fault.FileCause.TheVariants as cause
 use Rattle.plan_files.specs.declared.form.PlanForm.{PlanForm}
@@ -93,7 +93,7 @@ group_row fields = do
 -- ---- the rows after the groups
 
 -- behind `own`: a group, a meter, its own key
-unfoldable pub own_row : List (List ℕ) → Result Entry FileCause
+unfoldable pub own_row : List (List ℕ) → Result PlanRow FileCause
 own_row fields = do
   _ ← has_fields 4 fields
   group ← number_in fields 1
@@ -102,7 +102,7 @@ own_row fields = do
   Ok (entry.Own group meter key)
 
 -- behind `pair`: a group, two meters, their key
-unfoldable pub pair_row : List (List ℕ) → Result Entry FileCause
+unfoldable pub pair_row : List (List ℕ) → Result PlanRow FileCause
 pair_row fields = do
   _ ← has_fields 5 fields
   group ← number_in fields 1
@@ -112,7 +112,7 @@ pair_row fields = do
   Ok (entry.Pair group low high key)
 
 -- behind `lane`: a lane's name, its argument, the ticks from which and to which it hangs; the row's number is kept
-unfoldable pub lane_row : ℕ → List (List ℕ) → Result Entry FileCause
+unfoldable pub lane_row : ℕ → List (List ℕ) → Result PlanRow FileCause
 lane_row number fields = do
   _ ← has_fields 5 fields
   name ← name_in fields 1
@@ -122,7 +122,7 @@ lane_row number fields = do
   Ok (entry.Lane (record { row = number; name = name; arg = arg; from = from; to = to }))
 
 -- behind `member`: a group, a meter, the rounds from which and until which it is a member
-unfoldable pub member_row : List (List ℕ) → Result Entry FileCause
+unfoldable pub member_row : List (List ℕ) → Result PlanRow FileCause
 member_row fields = do
   _ ← has_fields 5 fields
   group ← number_in fields 1
@@ -132,7 +132,7 @@ member_row fields = do
   Ok (entry.Member (record { group = group; meter = meter; from = from; until = until }))
 
 -- a row of a key or a lane, by its first word
-unfoldable pub key_or_lane : ℕ → List (List ℕ) → Result Entry FileCause
+unfoldable pub key_or_lane : ℕ → List (List ℕ) → Result PlanRow FileCause
 key_or_lane number fields =
     if starts_with (codes "own") fields then own_row fields else
     if starts_with (codes "pair") fields then pair_row fields else
@@ -140,10 +140,10 @@ key_or_lane number fields =
     Err cause.Row
 
 -- a row that isn't a member's: a public plan has none after its groups
-abbrev pub other_row : PlanForm → ℕ → List (List ℕ) → Result Entry FileCause
+abbrev pub other_row : PlanForm → ℕ → List (List ℕ) → Result PlanRow FileCause
 other_row Whole number fields = key_or_lane number fields
 other_row Public number fields = Err cause.Row
 
 -- a row after the groups
-unfoldable pub entry_of : PlanForm → ℕ → List (List ℕ) → Result Entry FileCause
+unfoldable pub entry_of : PlanForm → ℕ → List (List ℕ) → Result PlanRow FileCause
 entry_of form number fields = if starts_with (codes "member") fields then member_row fields else other_row form number fields

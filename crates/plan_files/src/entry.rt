@@ -20,7 +20,7 @@ use std::alloc::Global;
 
 /// What a row after the groups says.
 #[derive(Drop)]
-pub enum Entry {
+pub enum PlanRow {
     /// A meter's own key.
     Own {
         group: u32,
@@ -42,7 +42,7 @@ pub enum Entry {
 
 /// What a row `own,GROUP,METER,KEY` says.
 #[tactic(auto, unfolding(crate::specs::PlanRows::own_row))]
-fn own_row(row: &Row<'_>) -> Result<Entry, FileCause>
+fn own_row(row: &Row<'_>) -> Result<PlanRow, FileCause>
     requires kept { IsKept row.now }
     ensures { result ≡ own_row (fields_in row.now) }
 {
@@ -50,12 +50,12 @@ fn own_row(row: &Row<'_>) -> Result<Entry, FileCause>
     let group = number_field(row, 1)?;
     let meter = number_field(row, 2)?;
     let key = key_field(row, 3)?;
-    Ok(Entry::Own { group, meter, key })
+    Ok(PlanRow::Own { group, meter, key })
 }
 
 /// What a row `pair,GROUP,LOW,HIGH,KEY` says.
 #[tactic(auto, unfolding(crate::specs::PlanRows::pair_row))]
-fn pair_row(row: &Row<'_>) -> Result<Entry, FileCause>
+fn pair_row(row: &Row<'_>) -> Result<PlanRow, FileCause>
     requires kept { IsKept row.now }
     ensures { result ≡ pair_row (fields_in row.now) }
 {
@@ -64,7 +64,7 @@ fn pair_row(row: &Row<'_>) -> Result<Entry, FileCause>
     let low = number_field(row, 2)?;
     let high = number_field(row, 3)?;
     let key = key_field(row, 4)?;
-    Ok(Entry::Pair {
+    Ok(PlanRow::Pair {
         group,
         low,
         high,
@@ -74,7 +74,7 @@ fn pair_row(row: &Row<'_>) -> Result<Entry, FileCause>
 
 /// What a row `member,GROUP,METER,FROM,UNTIL` says.
 #[tactic(auto, unfolding(crate::specs::PlanRows::member_row))]
-fn member_row(row: &Row<'_>) -> Result<Entry, FileCause>
+fn member_row(row: &Row<'_>) -> Result<PlanRow, FileCause>
     requires kept { IsKept row.now }
     ensures { result ≡ member_row (fields_in row.now) }
 {
@@ -83,7 +83,7 @@ fn member_row(row: &Row<'_>) -> Result<Entry, FileCause>
     let meter = number_field(row, 2)?;
     let from = number_field(row, 3)?;
     let until = number_field(row, 4)?;
-    Ok(Entry::Member(Span {
+    Ok(PlanRow::Member(Span {
         group,
         meter,
         from,
@@ -122,7 +122,7 @@ fn arg_field(alloc: Global, row: &Row<'_>) -> Result<Arg, FileCause>
 
 /// What a row `lane,NAME,ARGUMENT,FROM,TO` says. The number is the row's in the file.
 #[tactic(auto, unfolding(crate::specs::PlanRows::lane_row))]
-fn lane_row(alloc: Global, number: u32, row: &Row<'_>) -> Result<Entry, FileCause>
+fn lane_row(alloc: Global, number: u32, row: &Row<'_>) -> Result<PlanRow, FileCause>
     requires kept { IsKept row.now }
     ensures { Answers (lane_row number (fields_in row.now)) result }
 {
@@ -131,7 +131,7 @@ fn lane_row(alloc: Global, number: u32, row: &Row<'_>) -> Result<Entry, FileCaus
     let arg = arg_field(alloc, row)?;
     let from = number_field(row, 3)?;
     let to = number_field(row, 4)?;
-    Ok(Entry::Lane(LaneRow {
+    Ok(PlanRow::Lane(LaneRow {
         row: number,
         name,
         arg,
@@ -142,7 +142,7 @@ fn lane_row(alloc: Global, number: u32, row: &Row<'_>) -> Result<Entry, FileCaus
 
 /// What a row of a key or a lane says. The number is the row's in the file.
 #[tactic(auto, unfolding(crate::specs::PlanRows::key_or_lane))]
-fn key_or_lane(alloc: Global, number: u32, row: &Row<'_>) -> Result<Entry, FileCause>
+fn key_or_lane(alloc: Global, number: u32, row: &Row<'_>) -> Result<PlanRow, FileCause>
     requires kept { IsKept row.now }
     ensures { Answers (key_or_lane number (fields_in row.now)) result }
 {
@@ -164,7 +164,7 @@ pub fn read_entry(
     form: PlanForm,
     number: u32,
     row: &Row<'_>,
-) -> Result<Entry, FileCause>
+) -> Result<PlanRow, FileCause>
     requires kept { IsKept row.now }
     ensures { Answers (entry_of form number (fields_in row.now)) result }
 {
@@ -181,7 +181,7 @@ pub fn read_entry(
 fn add_keys(
     form: PlanForm,
     rows: &mut RowReader<'_>,
-    entries: &mut Vec<Entry>,
+    entries: &mut Vec<PlanRow>,
 ) -> Result<(), FileError>
     requires sound { IsSound rows.old }
     ensures added { OnOk result (AddsRows form (rows_left rows.old) (rows_left rows.new) entries.old.items entries.new.items) }
@@ -209,7 +209,7 @@ pub fn read_entries(
     form: PlanForm,
     first: u32,
     rows: &mut RowReader<'_>,
-) -> Result<Vec<Entry>, FileError>
+) -> Result<Vec<PlanRow>, FileError>
     requires sound { IsSound rows.old }
     requires few { first + length (rows_left rows.old) ≤ 2 ^ 28 + 2 }
     ensures read { IfOk result (λ entries. entries_from form first (rows_left rows.old) ≡ Ok entries.items) }

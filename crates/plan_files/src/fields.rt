@@ -7,7 +7,7 @@ use std::alloc::AllocError;
 
 /// Where a reader stands in a field that began with a quote.
 #[derive(Clone, Copy)]
-enum Place {
+enum QuoteState {
     /// Between its quotes.
     Quoted,
     /// Behind a quote, which is the closing one unless another follows.
@@ -42,21 +42,21 @@ enum Step {
     /// It is within the field.
     Within {
         /// Where the reader stands behind it.
-        place: Place,
+        place: QuoteState,
         /// Whether the field says this byte.
         is_text: bool,
     },
 }
 
 /// What a byte at a place does.
-fn step_over(place: Place, byte: u8) -> Step
+fn step_over(place: QuoteState, byte: u8) -> Step
     ensures { IsStep place byte result }
 {
     let (place, is_text) = match (place, byte) {
-        (Place::Quoted, b'"') => (Place::Closed, false),
-        (Place::Quoted, _) | (Place::Closed, b'"') => (Place::Quoted, true),
+        (QuoteState::Quoted, b'"') => (QuoteState::Closed, false),
+        (QuoteState::Quoted, _) | (QuoteState::Closed, b'"') => (QuoteState::Quoted, true),
         (_, b',' | b'\n' | b'\r') => return Step::End,
-        (_, _) => (Place::Plain, true),
+        (_, _) => (QuoteState::Plain, true),
     };
     Step::Within { place, is_text }
 }
@@ -77,7 +77,7 @@ pub fn read_quoted(text: &mut Vec<u8>, bytes: &[u8], most: usize) -> Result<usiz
     ensures { IfOk result (λ end. IsCutField bytes.now end most text.new.items) }
 {
     text.clear();
-    let mut place = Place::Quoted;
+    let mut place = QuoteState::Quoted;
     for at in 1..bytes.len() {
         match step_over(place, bytes[at]) {
             Step::End => return Ok(at),

@@ -6,7 +6,7 @@ ghost use Rattle.pair_keys.specs.declared.KeyId.TheVariants.{Own, Pair};
 ghost use Rattle.plan_files.specs.Faults.{ButMemory};
 ghost use Rattle.plan_files.specs.Gathering.{HangsLane, PutsKey, Settles, TakesEntry, gather, gathered_by, member_fault, nothing, spans_of};
 
-use crate::entry::Entry;
+use crate::entry::PlanRow;
 use crate::fault::{FileCause, FileError, NO_MEMORY};
 use group_plan::{Plan, Span, SpanError};
 use link_lanes::LaneRow;
@@ -23,12 +23,12 @@ pub struct Gathering {
 
 /// The spans of the member rows, in order.
 #[tactic(auto, using(crate::proofs::GatherLemmas::spans_end))]
-pub fn member_spans(alloc: Global, entries: &[Entry]) -> Result<Vec<Span>, AllocError>
+pub fn member_spans(alloc: Global, entries: &[PlanRow]) -> Result<Vec<Span>, AllocError>
     ensures { IfOk result (λ spans. spans.items ≡ spans_of entries.now) }
 {
     let mut spans = Vec::new(alloc);
     for entry in entries {
-        if let Entry::Member(span) = entry {
+        if let PlanRow::Member(span) = entry {
             spans.push(*span)?;
         }
     }
@@ -101,7 +101,7 @@ impl Gathering {
     /// Adds what a row says, where nothing is wrong with it.
     fn take(
         &mut self,
-        entry: Entry,
+        entry: PlanRow,
         last_tick: u32,
         fault: Option<SpanError>,
     ) -> Result<(), FileCause>
@@ -110,15 +110,15 @@ impl Gathering {
         ensures few { self.new.members ≤ self.old.members + 1 }
     {
         match entry {
-            Entry::Own { group, meter, key } => put_own(&mut self.keys, group, meter, key),
-            Entry::Pair {
+            PlanRow::Own { group, meter, key } => put_own(&mut self.keys, group, meter, key),
+            PlanRow::Pair {
                 group,
                 low,
                 high,
                 key,
             } => put_pair(&mut self.keys, group, low, high, key),
-            Entry::Lane(lane) => hang_lane(&mut self.lanes, lane, last_tick),
-            Entry::Member(_) => {
+            PlanRow::Lane(lane) => hang_lane(&mut self.lanes, lane, last_tick),
+            PlanRow::Member(_) => {
                 check_member(fault, self.members)?;
                 self.members += 1;
                 Ok(())
@@ -134,7 +134,7 @@ pub fn gather(
     plan: &Plan,
     fault: Option<SpanError>,
     first: u32,
-    entries: Vec<Entry>,
+    entries: Vec<PlanRow>,
 ) -> Result<Gathering, FileError>
     requires { first + length entries.items ≤ 2 ^ 28 + 2 }
     ensures whole { IfOk result (λ gathering. gather (last_tick plan.now) fault first (nothing plan.now) entries.items ≡ Ok (gathered_by gathering)) }

@@ -23,7 +23,7 @@ pub struct Windows {
 
 /// The rounds and the windows of a plan.
 #[derive(Clone, Copy)]
-pub struct Head {
+pub struct PlanHead {
     pub rounds: u32,
     pub windows: Windows,
 }
@@ -138,7 +138,7 @@ fn read_third_row(rows: &RowReader<'_>) -> Result<Windows, FileError>
 }
 
 /// What the first three rows say.
-pub fn read_head(form: PlanForm, rows: &mut RowReader<'_>) -> Result<Head, FileError>
+pub fn read_head(form: PlanForm, rows: &mut RowReader<'_>) -> Result<PlanHead, FileError>
     requires { IsSound rows.old }
     ensures read { IfOk result (λ head. head_of form (rows_left rows.old) ≡ Ok head) }
     ensures rest { OnOk result (rows_left rows.new ≡ drop 3 (rows_left rows.old)) }
@@ -151,7 +151,7 @@ pub fn read_head(form: PlanForm, rows: &mut RowReader<'_>) -> Result<Head, FileE
     rows.advance()?;
     let windows = read_third_row(rows)?;
     rows.advance()?;
-    Ok(Head { rounds, windows })
+    Ok(PlanHead { rounds, windows })
 }
 
 /// The group rows with which these rows start. The first of these is row 4 of the file.

@@ -4,7 +4,7 @@ ghost use Rattle.plan_files.specs.KeptRows.{rows_in};
 ghost use Rattle.plan_files.specs.WrittenKeys.{AddsRows, IsKeyPart, IsKeyRow, IsNumberPart};
 ghost use Rattle.plan_files.specs.declared.form.PlanForm.TheVariants.{Whole};
 
-use crate::entry::Entry;
+use crate::entry::PlanRow;
 use crate::kept_row::rest_from;
 use crate::key::read_key;
 use std::alloc::AllocError;
@@ -70,7 +70,7 @@ fn key_part(bytes: &[u8]) -> Option<[u8; 32]>
 
 /// What a row `own,GROUP,METER,KEY` says, of which these bytes begin behind the first comma.
 #[tactic(auto, using(crate::proofs::WrittenKeys::own_read))]
-fn own_part(bytes: &[u8]) -> Option<(Entry, &[u8])>
+fn own_part(bytes: &[u8]) -> Option<(PlanRow, &[u8])>
     ensures { IfSome result (λ it. IsKeyRow (codes "own," ++ bytes.now) it.0 it.1.now) }
 {
     let Some((group, behind_group)) = number_part(bytes) else {
@@ -83,14 +83,14 @@ fn own_part(bytes: &[u8]) -> Option<(Entry, &[u8])>
         return None;
     };
     Some((
-        Entry::Own { group, meter, key },
+        PlanRow::Own { group, meter, key },
         rest_from(behind_meter, 65),
     ))
 }
 
 /// What a row `pair,GROUP,LOW,HIGH,KEY` says, of which these bytes begin behind the first comma.
 #[tactic(auto, using(crate::proofs::WrittenKeys::pair_read))]
-fn pair_part(bytes: &[u8]) -> Option<(Entry, &[u8])>
+fn pair_part(bytes: &[u8]) -> Option<(PlanRow, &[u8])>
     ensures { IfSome result (λ it. IsKeyRow (codes "pair," ++ bytes.now) it.0 it.1.now) }
 {
     let Some((group, behind_group)) = number_part(bytes) else {
@@ -106,7 +106,7 @@ fn pair_part(bytes: &[u8]) -> Option<(Entry, &[u8])>
         return None;
     };
     Some((
-        Entry::Pair {
+        PlanRow::Pair {
             group,
             low,
             high,
@@ -118,7 +118,7 @@ fn pair_part(bytes: &[u8]) -> Option<(Entry, &[u8])>
 
 /// What the row of a key says with which the bytes begin, and the bytes behind it; nothing where no row of a key stands there as
 /// it is written.
-fn key_row(bytes: &[u8]) -> Option<(Entry, &[u8])>
+fn key_row(bytes: &[u8]) -> Option<(PlanRow, &[u8])>
     ensures { IfSome result (λ it. IsKeyRow bytes.now it.0 it.1.now) }
 {
     match bytes {
@@ -129,7 +129,7 @@ fn key_row(bytes: &[u8]) -> Option<(Entry, &[u8])>
 }
 
 /// Adds what the rows of keys say with which the bytes begin and that stand as they are written. Answers the bytes behind them.
-pub fn take_keys<'b>(entries: &mut Vec<Entry>, bytes: &'b [u8]) -> Result<&'b [u8], AllocError>
+pub fn take_keys<'b>(entries: &mut Vec<PlanRow>, bytes: &'b [u8]) -> Result<&'b [u8], AllocError>
     ensures { IfOk result (λ rest. AddsRows Whole (rows_in bytes.now) (rows_in rest.now) entries.old.items entries.new.items) }
 {
     let mut left = bytes;

@@ -8,11 +8,11 @@ ghost use Rattle.plan_files.specs.MissingKeys.{first_missing};
 ghost use Rattle.plan_files.specs.PlanFiles.{OpeningEnds, PlanEnds, PublicEnds, completed, opened_from, place_of, plan_from, plan_of, public_from, public_of, stated_plan, with_entries, with_members};
 ghost use Rattle.plan_files.specs.RowsLeft.{IsSound, rows_left};
 
-use crate::entry::{Entry, read_entries};
+use crate::entry::{PlanRow, read_entries};
 use crate::fault::{FileCause, FileError, NO_MEMORY};
 use crate::form::PlanForm;
 use crate::gathering::{Gathering, gather, member_spans, settle};
-use crate::head::{Head, read_groups, read_head};
+use crate::head::{PlanHead, read_groups, read_head};
 use crate::row_reader::RowReader;
 use group_plan::{GroupPlan, Plan, SpanError};
 use link_lanes::LaneRow;
@@ -35,12 +35,12 @@ pub struct PlanFile {
 struct Opening {
     plan: Plan,
     first: u32,
-    entries: Vec<Entry>,
+    entries: Vec<PlanRow>,
 }
 
 /// The plan that the first rows and the groups state.
 #[tactic(auto, using(crate::proofs::PlanLemmas::stated, crate::proofs::PlanLemmas::not_stated))]
-pub fn stated_plan(alloc: Global, head: Head, groups: &[GroupPlan]) -> Result<Plan, FileError>
+pub fn stated_plan(alloc: Global, head: PlanHead, groups: &[GroupPlan]) -> Result<Plan, FileError>
     ensures made { IfOk result (λ plan. stated_plan head groups.now ≡ Ok plan) }
     ensures refused { IfErr result (λ error. ButMemory error.cause (stated_plan head groups.now ≡ Err error)) }
 {
@@ -96,7 +96,7 @@ fn with_entries(
     alloc: Global,
     plan: Plan,
     first: u32,
-    entries: Vec<Entry>,
+    entries: Vec<PlanRow>,
 ) -> Result<PlanFile, FileError>
     requires { first + length entries.items ≤ 2 ^ 28 + 2 }
     ensures file { PlanEnds (with_entries plan first entries.items) result }
@@ -167,7 +167,12 @@ fn member_fault(first: u32, error: SpanError) -> FileError
 }
 
 /// The plan with the spans of its members' rows, of which the first is row `first` of the file.
-fn with_members(alloc: Global, plan: Plan, first: u32, entries: &[Entry]) -> Result<Plan, FileError>
+fn with_members(
+    alloc: Global,
+    plan: Plan,
+    first: u32,
+    entries: &[PlanRow],
+) -> Result<Plan, FileError>
     requires { first + length entries.now ≤ 2 ^ 28 + 2 }
     ensures { PublicEnds (with_members plan first (spans_of entries.now)) result }
 {

@@ -6,8 +6,8 @@ use Rattle.collector_workers.proofs.crew.merge.Given as goal
 abbrev pub invariant-loop-place : goal.invariant-loop-place
 invariant-loop-place l = record {
   same : length l.taken ≡ length l.crew;
-  told : (k : ℕ) (d : Worker) → k < length l.crew → told_by (length l.crew) k (take l.place l.batch) l.outcomes.items ≡ take (slice_index_or l.taken k 0) (slice_index_or l.crew k d).desk.outcomes.items;
-  within : (k : ℕ) (d : Worker) → k < length l.crew → slice_index_or l.taken k 0 ≤ length (slice_index_or l.crew k d).desk.outcomes.items;
+  told : (k : ℕ) (d : Worker) → k < length l.crew → told_by (length l.crew) k (take l.place l.batch) l.outcomes.items ≡ take (slice_index_or l.taken k 0) (slice_index_or l.crew k d).workload.outcomes.items;
+  within : (k : ℕ) (d : Worker) → k < length l.crew → slice_index_or l.taken k 0 ≤ length (slice_index_or l.crew k d).workload.outcomes.items;
   listed : length l.outcomes.items ≡ l.place;
   long : vec_len l.outcomes ≡ l.place;
   room : vec_capacity l.outcomes ≡ vec_capacity l.fn.outcomes;

@@ -3,10 +3,10 @@ use Rattle.shared_book.specs.Ends.{IsPassOf, view}
 use Rattle.collector_workers.specs.Gathering.{SplitsAll, IsNewCrew}
 use Rattle.collector_workers.proofs.crew.split_all.Given as goal
 
-abbrev pub invariant-loop-desk : goal.invariant-loop-desk
-invariant-loop-desk l = record {
-  can_next : (goal.iterator-loop-desk).can_next l.desk-iterator;
-  finite : (goal.iterator-loop-desk).is_finite l.desk-iterator;
+abbrev pub invariant-loop-workload : goal.invariant-loop-workload
+invariant-loop-workload l = record {
+  can_next : (goal.iterator-loop-workload).can_next l.workload-iterator;
+  finite : (goal.iterator-loop-workload).is_finite l.workload-iterator;
   pass : IsPassOf l.shared l.first;
   splits : SplitsAll (view l.fn.first) (length l.yielded) (view l.first);
   new : IsNewCrew l.shared (view l.fn.first) l.yielded l.crew.items;

@@ -6,8 +6,8 @@ use Rattle.collector_workers.proofs.crew.work.Given as goal
 abbrev pub invariant-loop-place : goal.invariant-loop-place
 invariant-loop-place g l = record {
   pass : IsPassOf l.shared l.worker.pass;
-  does : Does (opening l.shared) l.fn.worker (take l.place l.fn.worker.desk.parcels.items) l.worker;
-  long : vec_len l.worker.desk.outcomes ≡ l.place;
-  room : length l.fn.worker.desk.parcels.items ≤ vec_capacity l.worker.desk.outcomes;
-  lines : length l.fn.worker.desk.parcels.items ≤ l.place + l.worker.desk.lines.spare;
+  does : Does (opening l.shared) l.fn.worker (take l.place l.fn.worker.workload.parcels.items) l.worker;
+  long : vec_len l.worker.workload.outcomes ≡ l.place;
+  room : length l.fn.worker.workload.parcels.items ≤ vec_capacity l.worker.workload.outcomes;
+  lines : length l.fn.worker.workload.parcels.items ≤ l.place + l.worker.workload.lines.spare;
 }

@@ -4,7 +4,7 @@ use Rattle.plan_files.specs.KeptRows.{fields_in}
 use Rattle.plan_files.specs.PlanForms.{after, entries_from}
 use Rattle.plan_files.specs.PlanRows.{entry_of}
 use Rattle.plan_files.specs.RowsLeft.{rows_left}
-use Rattle.plan_files.specs.declared.entry.Entry.{Entry}
+use Rattle.plan_files.specs.declared.entry.PlanRow.{PlanRow}
 use Rattle.plan_files.proofs.FormLemmas.{but_memory, entries_end, entries_fault, entries_more}
 use Rattle.plan_files.proofs.WrittenKeys.{adds_long, adds_on}
 use Rattle.plan_files.proofs.entry.read_entries.Goals as goal
@@ -49,7 +49,7 @@ loop-row-preserved c =
       so_far = c.loop-row.invariant.so_far
           ∙ (ap (λ (k : ℕ). after entries (entries_from form k rows)) here
           ∙ (entries_more form rows (drop 1 rows) number row entries c.in-Ok.entry c.in-Some.ensures.first c.in-Ok.ensures
-          ∙ (ap (λ (l : List Entry). after l (entries_from form (number + 1) (drop 1 rows))) (sym items)
+          ∙ (ap (λ (l : List PlanRow). after l (entries_from form (number + 1) (drop 1 rows))) (sym items)
           ∙ (ap (λ (k : ℕ). after more (entries_from form k (drop 1 rows))) next
           ∙ (ap (λ (l : List (List (List ℕ))). after more (entries_from form (first + length more) l)) (sym left)
           ∙ adds_on form (rows_left c.advance.new.self) rest more all first added)))));

@@ -3,7 +3,7 @@ use Rattle.group_plan.specs.Plans.{last_tick}
 use Rattle.link_lanes.specs.declared.row.LaneRow.{LaneRow}
 use Rattle.pair_keys.specs.Keys.{Keys, keys_of}
 use Rattle.plan_files.specs.Gathering.{Gathered, gather, gathered_by, nothing, take_entry}
-use Rattle.plan_files.specs.declared.entry.Entry.{Entry}
+use Rattle.plan_files.specs.declared.entry.PlanRow.{PlanRow}
 use Rattle.plan_files.proofs.FormLemmas.{but_memory}
 use Rattle.plan_files.proofs.GatherLemmas.{gather_end, gather_more, gather_refused}
 use Rattle.plan_files.proofs.gathering.gather.Goals as goal
@@ -19,7 +19,7 @@ loop-entry-init c =
       number = omega arith;
       long = omega arith;
       few = omega arith;
-      so_far = ap (λ (entries : List Entry). gather last c.args.fault c.args.first (nothing c.args.plan.now) entries) (sym gives.0)
+      so_far = ap (λ (entries : List PlanRow). gather last c.args.fault c.args.first (nothing c.args.plan.now) entries) (sym gives.0)
           ∙ ap (λ (keys : Keys). gather last c.args.fault c.args.first (gathered keys []) rest) (sym c.in-Ok.ensures)
           ∙ ap (λ (lanes : List LaneRow). gather last c.args.fault c.args.first (gathered (keys_of c.in-Ok.keys) lanes) rest) (sym c.new-2.ensures.items);
     }

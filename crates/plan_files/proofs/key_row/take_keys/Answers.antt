@@ -2,7 +2,7 @@ use Rattle.std.proofs.Common.{◌≡◌, List, [], ◌∷◌, ◌++◌, true, ru
 use Rattle.std.specs.Result.{is_ok}
 use Rattle.plan_files.specs.KeptRows.{rows_in}
 use Rattle.plan_files.specs.WrittenKeys.{AddsRows}
-use Rattle.plan_files.specs.declared.entry.Entry.{Entry}
+use Rattle.plan_files.specs.declared.entry.PlanRow.{PlanRow}
 use Rattle.plan_files.specs.declared.form.PlanForm.TheVariants.{Whole}
 use Rattle.plan_files.proofs.WrittenKeys.{adds_one, adds_then}
 use Rattle.plan_files.proofs.key_row.take_keys.Goals as goal
@@ -15,6 +15,6 @@ loop-entry-preserved c =
     let entries = c.loop-entry.entries.items in
     let pushed : is_ok c.push.result ≡ true = search rules in
     let items : c.push.new.self.items ≡ entries ++ c.in-Some.entry ∷ [] = rw pushed at c.push.ensures.items in
-    subst (λ (l : List Entry). AddsRows Whole rows rest c.args.entries.now.items l) (sym items)
+    subst (λ (l : List PlanRow). AddsRows Whole rows rest c.args.entries.now.items l) (sym items)
     (adds_then Whole rows left rest c.args.entries.now.items entries (entries ++ c.in-Some.entry ∷ []) c.loop-entry.invariant
     (adds_one Whole left rest c.in-Some.ensures.fields entries c.in-Some.entry c.in-Some.ensures.rows c.in-Some.ensures.says))

@@ -1,7 +1,7 @@
 use Rattle.std.proofs.Common.{◌≡◌, ◌∙◌, ◌+◌, Ok, Err, sym, subst, rules}
 use Rattle.pair_keys.specs.Keys.{keys_of}
 use Rattle.plan_files.specs.Gathering.{TakesEntry, gathered_by, member_fault, take_entry}
-use Rattle.plan_files.specs.declared.entry.Entry.{Entry}
+use Rattle.plan_files.specs.declared.entry.PlanRow.{PlanRow}
 use Rattle.plan_files.proofs.FormLemmas.{always}
 use Rattle.plan_files.proofs.GatherLemmas.{member_refused, took_lane, took_member, took_own, took_pair}
 use Rattle.plan_files.proofs.gathering.Gathering.take.Goals as goal
@@ -9,19 +9,19 @@ use Rattle.plan_files.proofs.gathering.Gathering.take.Goals as goal
 pub returns-in-Own-clause-taken : goal.returns-in-Own-clause-taken
 returns-in-Own-clause-taken c =
     let before = gathered_by c.args.self.now in
-    subst (λ (e : Entry). TakesEntry c.args.last_tick c.args.fault before e c.put_own.result (record before { keys = keys_of c.put_own.new.keys })) (sym c.in-Own.is)
+    subst (λ (e : PlanRow). TakesEntry c.args.last_tick c.args.fault before e c.put_own.result (record before { keys = keys_of c.put_own.new.keys })) (sym c.in-Own.is)
     (took_own c.args.last_tick c.args.fault before c.in-Own.group c.in-Own.meter c.in-Own.key c.put_own.result (keys_of c.put_own.new.keys) c.put_own.ensures)
 
 pub returns-in-Pair-clause-taken : goal.returns-in-Pair-clause-taken
 returns-in-Pair-clause-taken c =
     let before = gathered_by c.args.self.now in
-    subst (λ (e : Entry). TakesEntry c.args.last_tick c.args.fault before e c.put_pair.result (record before { keys = keys_of c.put_pair.new.keys })) (sym c.in-Pair.is)
+    subst (λ (e : PlanRow). TakesEntry c.args.last_tick c.args.fault before e c.put_pair.result (record before { keys = keys_of c.put_pair.new.keys })) (sym c.in-Pair.is)
     (took_pair c.args.last_tick c.args.fault before c.in-Pair.group c.in-Pair.low c.in-Pair.high c.in-Pair.key c.put_pair.result (keys_of c.put_pair.new.keys) c.put_pair.ensures)
 
 pub returns-in-Lane-clause-taken : goal.returns-in-Lane-clause-taken
 returns-in-Lane-clause-taken c =
     let before = gathered_by c.args.self.now in
-    subst (λ (e : Entry). TakesEntry c.args.last_tick c.args.fault before e c.hang_lane.result (record before { lanes = c.hang_lane.new.lanes.items })) (sym c.in-Lane.is)
+    subst (λ (e : PlanRow). TakesEntry c.args.last_tick c.args.fault before e c.hang_lane.result (record before { lanes = c.hang_lane.new.lanes.items })) (sym c.in-Lane.is)
     (took_lane c.args.last_tick c.args.fault before c.in-Lane.lane c.hang_lane.result c.hang_lane.new.lanes.items c.hang_lane.ensures)
 
 pub returns-in_err-check_member-in-Member-clause-taken : goal.returns-in_err-check_member-in-Member-clause-taken
@@ -30,7 +30,7 @@ returns-in_err-check_member-in-Member-clause-taken c =
     let what = c.in_err-check_member-in-Member.field-0.0 in
     let wrong : member_fault c.args.fault before.members ≡ Err what = sym c.check_member.ensures ∙ c.in_err-check_member-in-Member.was in
     let refused : take_entry c.args.last_tick c.args.fault before c.args.entry ≡ Err what =
-    subst (λ (e : Entry). take_entry c.args.last_tick c.args.fault before e ≡ Err what) (sym c.in-Member.is)
+    subst (λ (e : PlanRow). take_entry c.args.last_tick c.args.fault before e ≡ Err what) (sym c.in-Member.is)
     (member_refused c.args.last_tick c.args.fault before c.in-Member.field-0 what wrong) in
     let answered : Err what ≡ c.from_residual.result = search rules in
     subst (λ r. TakesEntry c.args.last_tick c.args.fault before c.args.entry r before) answered (always what refused)
@@ -39,5 +39,5 @@ pub returns-in_ok-check_member-in-Member-clause-taken : goal.returns-in_ok-check
 returns-in_ok-check_member-in-Member-clause-taken c =
     let before = gathered_by c.args.self.now in
     let right : member_fault c.args.fault before.members ≡ Ok tt = sym c.check_member.ensures ∙ c.in_ok-check_member-in-Member.was in
-    subst (λ (e : Entry). take_entry c.args.last_tick c.args.fault before e ≡ Ok (record before { members = before.members + 1 })) (sym c.in-Member.is)
+    subst (λ (e : PlanRow). take_entry c.args.last_tick c.args.fault before e ≡ Ok (record before { members = before.members + 1 })) (sym c.in-Member.is)
     (took_member c.args.last_tick c.args.fault before c.in-Member.field-0 right)

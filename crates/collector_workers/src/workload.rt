@@ -2,7 +2,7 @@
 
 ghost use Rattle.std.specs.Prelude.{◌≡◌, ◌<◌, ◌≤◌, IfOk, length, vec_len, vec_capacity};
 ghost use Rattle.collector_workers.specs.Outcomes.{worker_for, parcels_for};
-ghost use Rattle.collector_workers.specs.Gathering.{IsDeskFor, AreDesks};
+ghost use Rattle.collector_workers.specs.Gathering.{IsWorkloadFor, AreWorkloads};
 
 use crate::outcome::Outcome;
 use shared_book::Parcel;
@@ -11,7 +11,7 @@ use transcript_log::Lines;
 
 /// The parcels of a worker, the lines that it added, and what became of each parcel that it has committed, in their order.
 #[derive(Drop)]
-pub struct Desk {
+pub struct Workload {
     pub parcels: Vec<Parcel>,
     pub lines: Lines,
     pub outcomes: Vec<Outcome>,
@@ -48,20 +48,20 @@ fn parcels_for(
 }
 
 /// What one of so many workers has to do.
-fn desk_for(
+fn workload_for(
     alloc: Global,
     batch: &[Parcel],
     workers: usize,
     worker: usize,
-) -> Result<Desk, AllocError>
+) -> Result<Workload, AllocError>
     requires { 0 < workers }
-    ensures { IfOk result (λ desk. IsDeskFor batch.now workers worker desk) }
+    ensures { IfOk result (λ workload. IsWorkloadFor batch.now workers worker workload) }
 {
     let parcels = parcels_for(alloc, batch, workers, worker)?;
     let outcomes = Vec::with_capacity(alloc, parcels.len())?;
     let mut lines = Lines::new(alloc);
     lines.reserve(parcels.len() as u64)?;
-    Ok(Desk {
+    Ok(Workload {
         parcels,
         lines,
         outcomes,
@@ -69,18 +69,18 @@ fn desk_for(
 }
 
 /// What each of so many workers has to do.
-pub(crate) fn all_desks(
+pub(crate) fn all_workloads(
     alloc: Global,
     batch: &[Parcel],
     workers: usize,
-) -> Result<Vec<Desk>, AllocError>
+) -> Result<Vec<Workload>, AllocError>
     requires { 0 < workers }
-    ensures { IfOk result (λ v. (length v.items ≡ workers) × AreDesks batch.now workers v.items) }
+    ensures { IfOk result (λ v. (length v.items ≡ workers) × AreWorkloads batch.now workers v.items) }
 {
-    let mut desks = Vec::with_capacity(alloc, workers)?;
+    let mut workloads = Vec::with_capacity(alloc, workers)?;
     for worker in 0..workers {
-        let desk = desk_for(alloc, batch, workers, worker)?;
-        desks.push_reserved(desk);
+        let workload = workload_for(alloc, batch, workers, worker)?;
+        workloads.push_reserved(workload);
     }
-    Ok(desks)
+    Ok(workloads)
 }
