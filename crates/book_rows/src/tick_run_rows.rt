@@ -162,7 +162,37 @@ fn told_after_first<R: Threads + Wait + Sync, M: Masks + Sync>(
     told_after_tick(run, rack)
 }
 
-/// Of the 36 ticks 35 are left then.
+// How many ticks a run has, before its first one.
+fn ticks_at_first<R: Threads + Wait + Sync, M: Masks + Sync>(
+    crew: &Crew<'_, R, Free>,
+    readings: &Readings,
+    masks: &M,
+    rack: &mut Rack,
+) -> Result<u32, Fail>
+    requires masks { M.plan masks.now ≡ readings.now.plan }
+    requires posts { posts_of rack.old ≡ [] }
+    requires room { HasRoom (λ b. meaning (b.vtable, b.value)) rack.old }
+{
+    let run = Run::begin(crew, readings, masks, rack)?;
+    Ok(run.ticks_left())
+}
+
+#[test]
+fn run_begins_with_36_ticks(rt: HostRuntime) -> Result<(), Fail> {
+    let alloc = rt.alloc();
+    let plan = plan_of_north(alloc, 1)?;
+    let readings = table(alloc, &plan, &[10, 20, 30])?;
+    let masks = ideal_table(alloc, &plan)?;
+    let Ok(mut rack) = Rack::fit(alloc, Vec::new(alloc), &[]) else {
+        return Err(Fail::new("an empty rack"));
+    };
+    let crew = crew_of_two(&rt, alloc);
+    let ticks = ticks_at_first(&crew, &readings, &masks, &mut rack)?;
+    check_same(&rt, &ticks, &36, "the ticks");
+    Ok(())
+}
+
+/// 35 ticks are left then.
 #[test]
 fn first_tick_sends_three_readings(rt: HostRuntime) -> Result<(), Fail> {
     let alloc = rt.alloc();
