@@ -16,11 +16,16 @@ use Rattle.plan_files.specs.declared.fault.FileError.{FileError}
 use Rattle.plan_files.specs.Readings.{readings_of}
 use Rattle.command_words.specs.declared.outcome.Outcome.{Outcome}
 use Rattle.command_words.specs.declared.outcome.Outcome.TheVariants.{NoMemory, BadPlan, BadReadings, BadTranscript, BadReport, Impossible, NotInTime, OtherRow, OtherPlan, BadLane, NoPartner}
-use Rattle.commands.specs.Ends.{RunRefuses, fetched_by, put_by, RunEndsBy, AuditCommandEnds, made_plan_text, made_readings_text, MakeEnds, LoadRefuses, put_where, LoadEnds, ConvertRefuses, ConvertEnds, PublicEnds, Ends}
+use Rattle.run_commands.specs.RunEnds.{RunRefuses, fetched_by, put_by, RunEndsBy}
+use Rattle.file_commands.specs.AuditEnds.{AuditCommandEnds}
+use Rattle.run_commands.specs.LoadEnds.{made_plan_text, made_readings_text, MakeEnds, LoadRefuses, put_where, LoadEnds}
+use Rattle.file_commands.specs.ConvertEnds.{ConvertRefuses, ConvertEnds}
+use Rattle.file_commands.specs.PublicEnds.{PublicEnds}
+use Rattle.commands.specs.Ends.{Ends}
 use Rattle.command_texts.specs.declared.sharing.Sharing.{Sharing}
 use Rattle.command_texts.specs.Refusals.{RefusesTables, RegistersRefuse, PublicRefuses}
 use Rattle.plan_files.specs.Registers.{tables_of}
-use Rattle.commands.specs.RegisterEnds.{RegistersEnds, registers_fetched, registers_put}
+use Rattle.run_commands.specs.RegisterEnds.{RegistersEnds, registers_fetched, registers_put}
 use Rattle.transcript_text.specs.declared.version.Version.TheVariants.{Two, One}
 use Rattle.transcript_log.specs.Transcripts.{TranscriptView}
 use Rattle.totals_report.specs.declared.row.ReportRow.{ReportRow}
@@ -39,19 +44,19 @@ use Rattle.transcript_text.specs.Spelling.{transcript_text}
 use Rattle.plan_files.specs.Spelling.{public_text, readings_text}
 use Rattle.command_texts.specs.Inspecting.{InspectBytes, PublicTextRefuses, TextsRefuse, JudgeRefuses, InspectRefuses}
 use Rattle.commands.specs.Outside.{OutsideView, FaultsRose, with_wire}
-use Rattle.commands.specs.InspectEnds.{AreInspectBytes, inspected_by, InspectCommandEnds}
+use Rattle.file_commands.specs.InspectEnds.{AreInspectBytes, inspected_by, InspectCommandEnds}
 use Rattle.group_plan.specs.Plans.{PlanView}
 use Rattle.run_course.specs.Beginnings.{IsSomeRun}
 use Rattle.command_texts.proofs.InspectedRuns.{no_line_late}
 use Rattle.command_texts.specs.Billing.{Metered, AreMetered, MeteredRefuses, bills_in, bills_text_in, HideBytes, TextRefuses, Finds, IsAlone, HideRefuses}
 use Rattle.command_words.specs.declared.words.Period.{Period}
-use Rattle.commands.specs.BillingEnds.{billed_by, BillEnds, AreHideBytes, hidden_by, HideEnds}
+use Rattle.file_commands.specs.BillingEnds.{billed_by, BillEnds, AreHideBytes, hidden_by, HideEnds}
 use Rattle.command_words.specs.declared.words.Place.{Place}
 use Rattle.group_plan.specs.Tables.{ReadingsView}
 use Rattle.command_words.specs.declared.usage.TheConstants.{USAGE, VERSION}
 use Rattle.command_texts.specs.declared.sharing.Sharing.TheVariants.{WithEach, WithNeighbours}
 use Rattle.commands.proofs.AcceptedRoles.{collect_calm, meter_calm}
-use Rattle.commands.proofs.PartsLemmas.{parts_calm}
+use Rattle.commands.proofs.AcceptedParts.{parts_calm}
 use Rattle.commands.proofs.AcceptedResume.{resume_calm}
 use Rattle.commands.proofs.AcceptedTwins.{twin_calm, ring_twin_calm, pooled_calm}
 use Rattle.command_words.specs.Outcomes.{status_of, IsFault}

@@ -4,7 +4,7 @@ use Rattle.desk_outside.specs.Desk.{View}
 use Rattle.link_lanes.specs.Lanes.{Meaning, Slot}
 use Rattle.command_words.specs.Words.{ResumeNames}
 use Rattle.commands.specs.Accepted.{ResumeAccepts}
-use Rattle.commands.specs.ResumeEnds.{AreResumeBytes, ResumeRefuses, ResumeCommandEnds, resume_fetched, resume_put}
+use Rattle.run_commands.specs.ResumeEnds.{AreResumeBytes, ResumeRefuses, ResumeCommandEnds, resume_fetched, resume_put}
 use Rattle.command_texts.specs.ResumeRuns.{ResumeBytes, IsNotThisRun}
 use Rattle.commands.proofs.CalmLemmas.{read_is, IsCalm, ok_or_err, ok_same, puts_calm, three_are_short, unread_calm, unwritable_calm}
 use Rattle.std.proofs.lemmas.List.{take-append-drop}

@@ -7,7 +7,7 @@ use Rattle.commands.specs.Accepted.{HoldsFile, TwinAccepts, RingTwinAccepts, Poo
 use Rattle.commands.proofs.CalmLemmas.{not_longer, read_is, IsCalm, unread_calm, ok_or_err, ok_same, puts_calm}
 use Rattle.command_texts.specs.Twins.{TwinBytes, TwinValues, AreTwinValues, RefusesFirst, RefusesSecond, Compared, TwinRefuses}
 use Rattle.command_words.specs.Words.{TwinNames}
-use Rattle.commands.specs.TwinEnds.{AreReadBy, compared_by, TwinCommandEnds, RingTwinEnds, PooledCommandEnds}
+use Rattle.file_commands.specs.TwinEnds.{AreReadBy, compared_by, TwinCommandEnds, RingTwinEnds, PooledCommandEnds}
 use Rattle.command_words.specs.declared.outcome.Outcome.{Outcome}
 use Rattle.plan_files.specs.declared.fault.FileError.{FileError}
 use Rattle.plan_files.specs.PlanFiles.{plan_of}

@@ -1,14 +1,7 @@
-pub mod CommandEndings
-pub mod RegisterEndings
-pub mod ResumeEndings
-pub mod TwinEndings
-pub mod PublicEndings
-pub mod PartsLemmas
-pub mod BillingEndings
-pub mod InspectEndings
 pub mod CalmLemmas
 pub mod RoleEndings
 pub mod AcceptedRoles
+pub mod AcceptedParts
 pub mod AcceptedResume
 pub mod AcceptedTwins
 pub mod AcceptedLemmas

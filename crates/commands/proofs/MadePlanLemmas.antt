@@ -8,7 +8,8 @@ use Rattle.load_maker.specs.Made.{made_file, made_lane, made_plan, made_readings
 use Rattle.load_maker.proofs.MadeLane.{made_lane_fits}
 use Rattle.command_words.specs.Words.{Size, RunNames, Command, Run, Ring, RingTwin, Audit, Twin, Pooled, Make, Load, Convert, Public, Parts, Collect, Meter, Inspect, Bill, Hide, Help, Version, Registers, Resume}
 use Rattle.commands.specs.Cupboard.{full_cupboard, IsMade, RunsMadeFiles, MadeFilesAreDone, RunsMadePlan, MadePlansGetLanes}
-use Rattle.commands.specs.Ends.{made_file_of, made_plan_text, made_readings_text, Ends}
+use Rattle.run_commands.specs.LoadEnds.{made_file_of, made_plan_text, made_readings_text}
+use Rattle.commands.specs.Ends.{Ends}
 use Rattle.load_maker.specs.MadeFiles.{AreRead}
 use Rattle.load_maker.proofs.MadeReads.{made_files}
 use Rattle.desk_outside.specs.Desk.{View, Rose}

@@ -38,7 +38,7 @@ use Rattle.command_texts.specs.RingTwins.{ring_words}
 use Rattle.command_words.specs.declared.known.KnownMeter.{KnownMeter}
 use Rattle.command_words.specs.Known.{is_known, are_in_plan}
 use Rattle.link_lanes.specs.Fits.{hung_by}
-use Rattle.commands.specs.Ends.{made_file_of}
+use Rattle.run_commands.specs.LoadEnds.{made_file_of}
 use Rattle.commands.specs.Outside.{OutsideView, FaultsRose}
 use Rattle.transcript_text.specs.ReadBack.{HasText}
 use Rattle.transcript_text.specs.Spelling.{text_of}

@@ -5,7 +5,7 @@ use Rattle.link_lanes.specs.Kinds.{clear_by, rules_by, seeded_by, every_by, burs
 use Rattle.load_maker.specs.Sizes.{is_within}
 use Rattle.command_words.specs.Words.{Size, Command, Run, Ring, Resume, Registers, Load}
 use Rattle.desk_outside.specs.Desk.{View, Rose}
-use Rattle.commands.specs.Ends.{made_plan_text, made_readings_text}
+use Rattle.run_commands.specs.LoadEnds.{made_plan_text, made_readings_text}
 
 -- four boxes of one lane
 abbrev pub four : Meaning → List Meaning

@@ -1,10 +1,4 @@
 pub mod Outside
-pub mod PartsEnds
-pub mod RegisterEnds
-pub mod ResumeEnds
-pub mod TwinEnds
-pub mod BillingEnds
-pub mod InspectEnds
 pub mod Ends
 pub mod Accepted
 pub mod Promise

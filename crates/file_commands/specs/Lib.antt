@@ -1,0 +1,7 @@
+pub mod AuditEnds
+pub mod ConvertEnds
+pub mod PublicEnds
+pub mod PartsEnds
+pub mod TwinEnds
+pub mod BillingEnds
+pub mod InspectEnds

@@ -1,0 +1,4 @@
+pub mod RunEndings
+pub mod LoadEndings
+pub mod RegisterEndings
+pub mod ResumeEndings

@@ -1,0 +1,4 @@
+pub mod RunEnds
+pub mod LoadEnds
+pub mod RegisterEnds
+pub mod ResumeEnds
