@@ -10,10 +10,7 @@ use crate::replay::Replay;
 use group_plan::Plan;
 use std::alloc::Global;
 use std::thread::Threads;
-use transcript_text::{EntriesAhead, ReadError, Version, entry_line};
-
-// As many bytes of a text as are read by a thread at a time, so that the entries of all that are read ahead take about 3 MB.
-const BYTES_A_PIECE: usize = 64 * 1024;
+use transcript_text::{BYTES_A_PIECE, EntriesAhead, ReadError, Version, entry_line};
 
 // Reads what is left of a text.
 fn read_on<R: Threads + Sync>(reader: &mut EntriesAhead<R>) -> Result<(), ReadError>

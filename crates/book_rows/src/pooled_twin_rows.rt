@@ -7,10 +7,12 @@ use missing_round::MeterSet;
 use row_fixtures::{keys_of_north, plan_of_north, table};
 use std::alloc::Global;
 use std::test::Fail;
+use std::thread::Threads;
 use twin_worlds::{MovedWords, PoolTwinError, TwinError, moved_text, pooled_twin};
 
 // What `pooled_twin` answers for a pool, from 10, 20 and 30 to the second table.
-fn judged(
+fn judged<R: Threads + Sync>(
+    rt: &R,
     alloc: Global,
     known: &[MeterSet],
     second: &[u64],
@@ -19,25 +21,41 @@ fn judged(
     let keys = keys_of_north(alloc, &plan, [0; 6])?;
     let first = table(alloc, &plan, &[10, 20, 30])?;
     let second = table(alloc, &plan, second)?;
-    Ok(pooled_twin(alloc, &plan, &keys, known, &first, &second, DEAF.as_bytes()))
+    Ok(pooled_twin(
+        rt,
+        alloc,
+        &plan,
+        &keys,
+        known,
+        &first,
+        &second,
+        DEAF.as_bytes(),
+    ))
 }
 
 // Whether these are the moved words for the pool.
-fn moves(alloc: Global, known: &[MeterSet], second: &[u64], masks: &str) -> Result<bool, Fail> {
-    match judged(alloc, known, second)? {
+fn moves<R: Threads + Sync>(
+    rt: &R,
+    alloc: Global,
+    known: &[MeterSet],
+    second: &[u64],
+    masks: &str,
+) -> Result<bool, Fail> {
+    match judged(rt, alloc, known, second)? {
         Ok(moved) => Ok(moved_text(alloc, &moved)?.as_slice() == masks.as_bytes()),
         Err(_) => Ok(false),
     }
 }
 
 // Whether the tables are refused with this cause.
-fn refuses(
+fn refuses<R: Threads + Sync>(
+    rt: &R,
     alloc: Global,
     known: &[MeterSet],
     second: &[u64],
     error: PoolTwinError,
 ) -> Result<bool, Fail> {
-    match judged(alloc, known, second)?.err() {
+    match judged(rt, alloc, known, second)?.err() {
         Some(answered) => Ok(answered == error),
         None => Ok(false),
     }
@@ -52,9 +70,9 @@ end,1\n";
 #[test]
 fn pooled_masks(rt: HostRuntime) -> Result<(), Fail> {
     let meter_1 = [MeterSet::empty().with(1)];
-    let exchanged = moves(rt.alloc(), &meter_1, &[15, 20, 25], EXCHANGED_MASKS)?;
+    let exchanged = moves(&rt, rt.alloc(), &meter_1, &[15, 20, 25], EXCHANGED_MASKS)?;
     check(&rt, exchanged, "exchanged");
-    let nobody = moves(rt.alloc(), &[], &[1, 2, 3], DEAF_MASKS)?;
+    let nobody = moves(&rt, rt.alloc(), &[], &[1, 2, 3], DEAF_MASKS)?;
     check(&rt, nobody, "nobody");
     Ok(())
 }
@@ -67,7 +85,7 @@ fn pooled_causes(rt: HostRuntime) -> Result<(), Fail> {
         round: 0,
         meter: 1,
     };
-    let reading = refuses(rt.alloc(), &meter_1, &[11, 21, 30], known)?;
+    let reading = refuses(&rt, rt.alloc(), &meter_1, &[11, 21, 30], known)?;
     check(&rt, reading, "a reading of the pool before a total");
     let total = PoolTwinError::Other(TwinError::Differ(Differ::Total {
         group: 0,
@@ -75,7 +93,7 @@ fn pooled_causes(rt: HostRuntime) -> Result<(), Fail> {
         first: 40,
         second: 41,
     }));
-    let others = refuses(rt.alloc(), &meter_1, &[11, 20, 30], total)?;
+    let others = refuses(&rt, rt.alloc(), &meter_1, &[11, 20, 30], total)?;
     check(&rt, others, "the total of the others");
     Ok(())
 }

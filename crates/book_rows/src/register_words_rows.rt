@@ -55,8 +55,8 @@ static REPORT: &str = "group,round,survivors,missing,outcome,total\nnorth,0,3,-,
 
 static TOTALS: &str = "group,round,survivors,missing,outcome,totals\nnorth,0,3,-,total,60+6\n";
 
-fn plain_transcript(alloc: Global) -> Result<Transcript, Fail> {
-    match read(alloc, PLAIN.as_bytes()) {
+fn plain_transcript<R: Threads + Sync>(rt: &R, alloc: Global) -> Result<Transcript, Fail> {
+    match read(rt, alloc, PLAIN.as_bytes()) {
         Ok(transcript) => Ok(transcript),
         Err(_) => Err(Fail::new("no transcript")),
     }
@@ -103,7 +103,7 @@ fn totals(
 
 #[test]
 fn two_registers(rt: HostRuntime) -> Result<(), Fail> {
-    let transcript = plain_transcript(rt.alloc())?;
+    let transcript = plain_transcript(&rt, rt.alloc())?;
     let words = plain_words(&rt, rt.alloc(), &transcript)?;
     let text = side_text(rt.alloc(), &words)?;
     check(&rt, text.as_slice() == WORDS.as_bytes(), "the side words");

@@ -17,6 +17,7 @@ use row_fixtures::{PLAIN, group, keys_of_north, plan_of_north, reading_tag, tabl
 use sparse_masks::{RingDiffer, RingMasks, least_opened, ring_offsets};
 use std::alloc::Global;
 use std::test::Fail;
+use std::thread::Threads;
 use transcript_log::Transcript;
 use transcript_text::read;
 use twin_worlds::{MovedWords, moved_rows, moved_text, same_world};
@@ -57,7 +58,8 @@ fn offsets_of(
 }
 
 // The words of a table of masks that move to the second table, where the text is that of the first under them.
-fn moved_under<M: Masks>(
+fn moved_under<R: Threads + Sync, M: Masks>(
+    rt: &R,
     alloc: Global,
     plan: &Plan,
     masks: &M,
@@ -69,7 +71,7 @@ fn moved_under<M: Masks>(
     requires first { first.now.plan ≡ plan.now }
     requires limits { IsWithinLimits plan.now }
 {
-    let transcript = match same_world(alloc, plan, masks, first, text.as_bytes()) {
+    let transcript = match same_world(rt, alloc, plan, masks, first, text.as_bytes()) {
         Ok(transcript) => transcript,
         Err(_) => return Err("another world".into()),
     };
@@ -80,35 +82,47 @@ fn moved_under<M: Masks>(
 }
 
 // Whether these are the words that move from 10, 20 and 30 to the second table.
-fn moves(alloc: Global, text: &str, second: &[u64], masks: &str) -> Result<bool, Fail> {
+fn moves<R: Threads + Sync>(
+    rt: &R,
+    alloc: Global,
+    text: &str,
+    second: &[u64],
+    masks: &str,
+) -> Result<bool, Fail> {
     let plan = plan_of_north(alloc, 1)?;
     let keys = keys_of_north(alloc, &plan, [0; 6])?;
     let first = table(alloc, &plan, &[10, 20, 30])?;
     let streams = ChaMasks::new(&keys);
     let ring = RingMasks::new(&streams, &plan, 1);
     let _groups = plan.groups();
-    let moved = moved_under(alloc, &plan, &ring, &first, second, text)?;
+    let moved = moved_under(rt, alloc, &plan, &ring, &first, second, text)?;
     Ok(moved_text(alloc, &moved)?.as_slice() == masks.as_bytes())
 }
 
 #[test]
 fn ring_files(rt: HostRuntime) -> Result<(), Fail> {
     for (second, masks) in RING_FILES.iter() {
-        check(&rt, moves(rt.alloc(), PLAIN, second, masks)?, masks);
+        check(&rt, moves(&rt, rt.alloc(), PLAIN, second, masks)?, masks);
     }
     Ok(())
 }
 
-fn transcript_of(alloc: Global, text: &str) -> Result<Transcript, Fail> {
-    match read(alloc, text.as_bytes()) {
+fn transcript_of<R: Threads + Sync>(rt: &R, alloc: Global, text: &str) -> Result<Transcript, Fail> {
+    match read(rt, alloc, text.as_bytes()) {
         Ok(transcript) => Ok(transcript),
         Err(_) => Err("no transcript".into()),
     }
 }
 
 // Whether `ring_offsets` answers this cause, from 10, 20 and 30 to the second table.
-fn refuses(alloc: Global, text: &str, second: &[u64], cause: RingDiffer) -> Result<bool, Fail> {
-    let transcript = transcript_of(alloc, text)?;
+fn refuses<R: Threads + Sync>(
+    rt: &R,
+    alloc: Global,
+    text: &str,
+    second: &[u64],
+    cause: RingDiffer,
+) -> Result<bool, Fail> {
+    let transcript = transcript_of(rt, alloc, text)?;
     let first = table(alloc, transcript.plan(), &[10, 20, 30])?;
     match offsets_of(alloc, &first, second, &transcript)? {
         Ok(_) => Ok(false),
@@ -126,14 +140,14 @@ fn ring_causes(rt: HostRuntime) -> Result<(), Fail> {
         first: 60,
         second: 61,
     };
-    let is_first = refuses(rt.alloc(), PLAIN, &[15, 15, 31], component)?;
+    let is_first = refuses(&rt, rt.alloc(), PLAIN, &[15, 15, 31], component)?;
     check(&rt, is_first, "another sum");
     let presence = RingDiffer::Presence {
         group,
         round,
         meter: 2,
     };
-    let is_first = refuses(rt.alloc(), PLAIN, &[1, 2], presence)?;
+    let is_first = refuses(&rt, rt.alloc(), PLAIN, &[1, 2], presence)?;
     check(&rt, is_first, "presence");
     Ok(())
 }
@@ -141,19 +155,19 @@ fn ring_causes(rt: HostRuntime) -> Result<(), Fail> {
 // ---- opened components
 
 // The fewest members of an opened component.
-fn least_of(alloc: Global, text: &str) -> Result<u16, Fail> {
-    Ok(least_opened(alloc, &transcript_of(alloc, text)?, 1)?)
+fn least_of<R: Threads + Sync>(rt: &R, alloc: Global, text: &str) -> Result<u16, Fail> {
+    Ok(least_opened(alloc, &transcript_of(rt, alloc, text)?, 1)?)
 }
 
 #[test]
 fn least_components(rt: HostRuntime) -> Result<(), Fail> {
     // an answer that was sent and lost stands in the transcript; without its announcement a meter sends none
     for (text, least) in [(PLAIN, 3u16), (LATE, 2), (LOST, 3), (DEAF, 0)] {
-        check(&rt, least_of(rt.alloc(), text)? == least, text);
+        check(&rt, least_of(&rt, rt.alloc(), text)? == least, text);
     }
     // a reading whose first Send has no frame isn't present, and its Take is void
     let text = with_line(rt.alloc(), PLAIN, 8, "0,s,0,0,r,2,-,void")?;
-    check(&rt, least_of(rt.alloc(), &text)? == 2, "no frame");
+    check(&rt, least_of(&rt, rt.alloc(), &text)? == 2, "no frame");
     Ok(())
 }
 

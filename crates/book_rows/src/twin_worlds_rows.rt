@@ -9,6 +9,7 @@ use row_fixtures::{PLAIN, group, keys_of_north, plan_of_north, table, with_line}
 use std::alloc::Global;
 use std::process::Abort;
 use std::test::Fail;
+use std::thread::Threads;
 use transcript_log::{Entry, Line, Transcript};
 use transcript_text::{ReadError, line_text, write};
 use twin_worlds::{MovedWords, TwinError, moved_text, twin};
@@ -96,7 +97,8 @@ end,19\n";
 // ---- tables
 
 // What `twin` answers for a text of this plan.
-fn judged(
+fn judged<R: Threads + Sync>(
+    rt: &R,
     alloc: Global,
     plan: &Plan,
     first: &[u64],
@@ -106,25 +108,32 @@ fn judged(
     let keys = keys_of_north(alloc, plan, [0; 6])?;
     let first = table(alloc, plan, first)?;
     let second = table(alloc, plan, second)?;
-    Ok(twin(alloc, plan, &keys, &first, &second, text))
+    Ok(twin(rt, alloc, plan, &keys, &first, &second, text))
 }
 
 // ---- moved words
 
 // What `twin` answers for a text of the plan of `north` in one round.
-fn judged_north(
+fn judged_north<R: Threads + Sync>(
+    rt: &R,
     alloc: Global,
     first: &[u64],
     second: &[u64],
     text: &str,
 ) -> Result<Result<MovedWords, TwinError>, Fail> {
     let plan = plan_of_north(alloc, 1)?;
-    judged(alloc, &plan, first, second, text.as_bytes())
+    judged(rt, alloc, &plan, first, second, text.as_bytes())
 }
 
 // Whether these are the moved words from 10, 20 and 30 to the second table.
-fn moves(alloc: Global, text: &str, second: &[u64], masks: &str) -> Result<bool, Fail> {
-    match judged_north(alloc, &[10, 20, 30], second, text)? {
+fn moves<R: Threads + Sync>(
+    rt: &R,
+    alloc: Global,
+    text: &str,
+    second: &[u64],
+    masks: &str,
+) -> Result<bool, Fail> {
+    match judged_north(rt, alloc, &[10, 20, 30], second, text)? {
         Ok(moved) => Ok(moved_text(alloc, &moved)?.as_slice() == masks.as_bytes()),
         Err(_) => Ok(false),
     }
@@ -133,11 +142,11 @@ fn moves(alloc: Global, text: &str, second: &[u64], masks: &str) -> Result<bool,
 #[test]
 fn masks_files(rt: HostRuntime) -> Result<(), Fail> {
     for (second, masks) in PLAIN_FILES.iter() {
-        check(&rt, moves(rt.alloc(), PLAIN, second, masks)?, masks);
+        check(&rt, moves(&rt, rt.alloc(), PLAIN, second, masks)?, masks);
     }
-    let moves_late = moves(rt.alloc(), LATE, &[15, 15, 0], LATE_MASKS)?;
+    let moves_late = moves(&rt, rt.alloc(), LATE, &[15, 15, 0], LATE_MASKS)?;
     check(&rt, moves_late, "late_reading_left_out");
-    let moves_deaf = moves(rt.alloc(), DEAF, &[1, 2, 3], DEAF_MASKS)?;
+    let moves_deaf = moves(&rt, rt.alloc(), DEAF, &[1, 2, 3], DEAF_MASKS)?;
     check(&rt, moves_deaf, "lost_announcement_gives_none");
     Ok(())
 }
@@ -217,14 +226,15 @@ fn is_expected(
 }
 
 // Whether this line of the text is the first that differs from what the table gives, and this is expected there.
-fn expects(
+fn expects<R: Threads + Sync>(
+    rt: &R,
     alloc: Global,
     first: &[u64],
     text: &str,
     number: u64,
     expected_text: &str,
 ) -> Result<bool, Fail> {
-    match judged_north(alloc, first, &[1, 2], text)?.err() {
+    match judged_north(rt, alloc, first, &[1, 2], text)?.err() {
         Some(error) => is_expected(alloc, &error, number, expected_text),
         None => Ok(false),
     }
@@ -234,18 +244,19 @@ fn expects(
 fn other_lines(rt: HostRuntime) -> Result<(), Fail> {
     for (number, line, first, expected) in OTHER_LINES.iter() {
         let text = with_line(rt.alloc(), PLAIN, *number, line)?;
-        let named = expects(rt.alloc(), &[10, 20, 30], &text, *first, expected)?;
+        let named = expects(&rt, rt.alloc(), &[10, 20, 30], &text, *first, expected)?;
         check(&rt, named, line);
     }
     let line =
         "0,s,0,0,r,0,1,4d02010000000000000000000000000000000000000000000000000000000000000000000000000000000000b0b9d4e209a2296d";
-    let named = expects(rt.alloc(), &[11, 20, 30], PLAIN, 6, line)?;
+    let named = expects(&rt, rt.alloc(), &[11, 20, 30], PLAIN, 6, line)?;
     check(&rt, named, "readings_changed_after_run");
     Ok(())
 }
 
 // Whether `twin` answers this error, from 10, 20 and 30 to the second table.
-fn refuses(
+fn refuses<R: Threads + Sync>(
+    rt: &R,
     alloc: Global,
     floor: u32,
     text: &str,
@@ -253,14 +264,14 @@ fn refuses(
     error: TwinError,
 ) -> Result<bool, Fail> {
     let plan = Plan::new(alloc, &[group(b"north", 3, floor)?], 1, 1, 2)?;
-    match judged(alloc, &plan, &[10, 20, 30], second, text.as_bytes())? {
+    match judged(rt, alloc, &plan, &[10, 20, 30], second, text.as_bytes())? {
         Err(answered) => Ok(answered == error),
         Ok(_) => Ok(false),
     }
 }
 
 // Looks for the first cause where the answer of meter 1 is lost.
-fn check_lost(rt: &impl Abort, alloc: Global) -> Result<(), Fail> {
+fn check_lost<R: Abort + Threads + Sync>(rt: &R, alloc: Global) -> Result<(), Fail> {
     let (group, round) = (0, 0);
     let total = Differ::Total {
         group,
@@ -268,37 +279,38 @@ fn check_lost(rt: &impl Abort, alloc: Global) -> Result<(), Fail> {
         first: 60,
         second: 6,
     };
-    let is_first = refuses(alloc, 2, LOST, &[1, 2, 3], TwinError::Differ(total))?;
+    let is_first = refuses(rt, alloc, 2, LOST, &[1, 2, 3], TwinError::Differ(total))?;
     check(rt, is_first, "lost_answer_gives_none");
     let presence = Differ::Presence {
         group,
         round,
         meter: 2,
     };
-    let is_first = refuses(alloc, 2, LOST, &[1, 2], TwinError::Differ(presence))?;
+    let is_first = refuses(rt, alloc, 2, LOST, &[1, 2], TwinError::Differ(presence))?;
     check(rt, is_first, "presence");
     Ok(())
 }
 
 // Whether `twin` answers this error where a line of `PLAIN` is changed and the plan is another.
-fn refuses_changed(
+fn refuses_changed<R: Threads + Sync>(
+    rt: &R,
     alloc: Global,
     number: usize,
     line: &str,
     error: TwinError,
 ) -> Result<bool, Fail> {
     let text = with_line(alloc, PLAIN, number, line)?;
-    refuses(alloc, 3, &text, &[1, 2], error)
+    refuses(rt, alloc, 3, &text, &[1, 2], error)
 }
 
 /// The cause that comes first is answered, whatever else there is.
 #[test]
 fn first_causes(rt: HostRuntime) -> Result<(), Fail> {
     check_lost(&rt, rt.alloc())?;
-    let other = refuses_changed(rt.alloc(), 9, "1,t,0,0,r,0,again", TwinError::Head)?;
+    let other = refuses_changed(&rt, rt.alloc(), 9, "1,t,0,0,r,0,again", TwinError::Head)?;
     check(&rt, other, "other plan");
     let count = TwinError::Transcript(ReadError::Count(26));
-    let cut = refuses_changed(rt.alloc(), 26, "end,19", count)?;
+    let cut = refuses_changed(&rt, rt.alloc(), 26, "end,19", count)?;
     check(&rt, cut, "other count");
     Ok(())
 }
@@ -309,9 +321,14 @@ fn empty_text(alloc: Global, plan: &Plan) -> Result<Vec<u8>, Fail> {
 }
 
 // Whether `twin` takes an empty transcript of the other plan for one of this plan.
-fn is_same_plan(alloc: Global, plan: &Plan, other: &Plan) -> Result<bool, Fail> {
+fn is_same_plan<R: Threads + Sync>(
+    rt: &R,
+    alloc: Global,
+    plan: &Plan,
+    other: &Plan,
+) -> Result<bool, Fail> {
     let text = empty_text(alloc, other)?;
-    match judged(alloc, plan, &[], &[], &text)? {
+    match judged(rt, alloc, plan, &[], &[], &text)? {
         Ok(_) => Ok(true),
         Err(TwinError::Head) => Ok(false),
         Err(_) => Err(Fail::new("another cause")),
@@ -329,16 +346,26 @@ fn span(until: u32) -> Span {
 }
 
 // Whether `twin` takes an empty transcript of the plan with this span for one of the plan.
-fn is_same_with(alloc: Global, plan: &Plan, span: Span) -> Result<bool, Fail> {
-    is_same_plan(alloc, plan, &plan.with_members(&[span])?)
+fn is_same_with<R: Threads + Sync>(
+    rt: &R,
+    alloc: Global,
+    plan: &Plan,
+    span: Span,
+) -> Result<bool, Fail> {
+    is_same_plan(rt, alloc, plan, &plan.with_members(&[span])?)
 }
 
 // Looks for whether plans of one round and of two are the same as others.
-fn check_plans(rt: &impl Abort, alloc: Global, plan: &Plan, longer: &Plan) -> Result<(), Fail> {
-    check(rt, is_same_with(alloc, plan, span(1))?, "the same");
-    check(rt, !is_same_plan(alloc, plan, longer)?, "rounds");
-    check(rt, is_same_with(alloc, longer, span(2))?, "both rounds");
-    check(rt, !is_same_with(alloc, longer, span(1))?, "a span");
+fn check_plans<R: Abort + Threads + Sync>(
+    rt: &R,
+    alloc: Global,
+    plan: &Plan,
+    longer: &Plan,
+) -> Result<(), Fail> {
+    check(rt, is_same_with(rt, alloc, plan, span(1))?, "the same");
+    check(rt, !is_same_plan(rt, alloc, plan, longer)?, "rounds");
+    check(rt, is_same_with(rt, alloc, longer, span(2))?, "both rounds");
+    check(rt, !is_same_with(rt, alloc, longer, span(1))?, "a span");
     Ok(())
 }
 

@@ -17,6 +17,7 @@ use row_fixtures::{group, plan_of_north, reading_tag, table};
 use std::alloc::Global;
 use std::process::Abort;
 use std::test::Fail;
+use std::thread::Threads;
 use transcript_log::Transcript;
 use transcript_text::read;
 
@@ -155,8 +156,8 @@ fn shift_over(alloc: Global, masks: &mut MaskTable, transcript: &Transcript) -> 
     Ok(())
 }
 
-fn late_transcript(alloc: Global) -> Result<Transcript, Fail> {
-    match read(alloc, LATE.as_bytes()) {
+fn late_transcript<R: Threads + Sync>(rt: &R, alloc: Global) -> Result<Transcript, Fail> {
+    match read(rt, alloc, LATE.as_bytes()) {
         Ok(transcript) => Ok(transcript),
         Err(_) => Err(Fail::new("no transcript")),
     }
@@ -182,6 +183,6 @@ fn check_shifted(rt: &impl Abort, masks: &MaskTable) -> Result<(), Fail> {
 
 #[test]
 fn ideal_table_shifted(rt: HostRuntime) -> Result<(), Fail> {
-    let transcript = late_transcript(rt.alloc())?;
+    let transcript = late_transcript(&rt, rt.alloc())?;
     check_shifted(&rt, &shifted_table(rt.alloc(), &transcript)?)
 }

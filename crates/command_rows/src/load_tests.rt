@@ -45,8 +45,12 @@ fn made_run_audited(rt: HostRuntime) -> Result<(), Fail> {
 }
 
 // The numbers of Sends with a frame and of Takes in the text of a transcript.
-fn sends_and_takes(alloc: Global, text: &str) -> Result<(usize, usize), Fail> {
-    let Ok(transcript) = read(alloc, text.as_bytes()) else {
+fn sends_and_takes<R: Threads + Sync>(
+    rt: &R,
+    alloc: Global,
+    text: &str,
+) -> Result<(usize, usize), Fail> {
+    let Ok(transcript) = read(rt, alloc, text.as_bytes()) else {
         return Err(Fail::new("no transcript"));
     };
     let mut sends = 0_usize;
@@ -69,7 +73,7 @@ fn run_commits_cross_in_load(rt: HostRuntime) -> Result<(), Fail> {
     let words = "load 7 8 20 96 2 t.txt";
     check_status(&rt, alloc, words, &mut desk, &gate, 0, words)?;
     check(&rt, gate.has_met(), "the meeting");
-    let (sends, takes) = sends_and_takes(alloc, held(&desk, "t.txt"))?;
+    let (sends, takes) = sends_and_takes(&rt, alloc, held(&desk, "t.txt"))?;
     check_number(&rt, sends, 45025, "sends");
     check_number(&rt, takes, 45251, "takes");
     Ok(())

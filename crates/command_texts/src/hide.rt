@@ -14,6 +14,7 @@ use command_words::{HideWords, Outcome, Place};
 use group_plan::{Plan, Readings};
 use plan_files::write_readings;
 use std::alloc::{AllocError, Global};
+use std::thread::Threads;
 use transcript_log::Transcript;
 use twin_worlds::{TwinError, transcript_of_plan};
 
@@ -33,7 +34,8 @@ pub struct Hidden {
 }
 
 // The transcript of a text, where it is of the plan.
-fn transcript_of<'a>(
+fn transcript_of<'a, R: Threads + Sync>(
+    rt: &R,
     alloc: Global,
     name: &'a str,
     plan: &Plan,
@@ -43,7 +45,7 @@ fn transcript_of<'a>(
     ensures refused { IfErr result (TextRefuses name.now plan.now text.now) }
     ensures no_fault { IfErr result (λ outcome. ¬ IsFault outcome) }
 {
-    match transcript_of_plan(alloc, plan, text) {
+    match transcript_of_plan(rt, alloc, plan, text) {
         Ok(transcript) => Ok(transcript),
         Err(TwinError::Transcript(fault)) => Err(Outcome::BadTranscript(name, fault)),
         Err(TwinError::Head) => Err(Outcome::OtherPlan(name)),
@@ -118,7 +120,8 @@ fn hidden_in<'a>(
 }
 
 // The readings that hide the one of the place, of a plan and readings that were read.
-fn hidden_under<'a>(
+fn hidden_under<'a, R: Threads + Sync>(
+    rt: &R,
     alloc: Global,
     words: HideWords<'a>,
     plan: &Plan,
@@ -129,12 +132,13 @@ fn hidden_under<'a>(
     ensures ends { FindsHidden (hide_names_of words.entry.files) words.entry.period words.entry.place plan.now readings.now text.now result }
     ensures no_fault { IfErr result (λ outcome. ¬ IsFault outcome) }
 {
-    let transcript = or_fail!(transcript_of(alloc, words.files.transcript, plan, text));
+    let transcript = or_fail!(transcript_of(rt, alloc, words.files.transcript, plan, text));
     hidden_in(alloc, words, plan, readings, &transcript)
 }
 
 /// The readings that hide the one of the place, of the three files.
-pub fn hidden_of_files<'a>(
+pub fn hidden_of_files<'a, R: Threads + Sync>(
+    rt: &R,
     alloc: Global,
     words: HideWords<'a>,
     texts: HideTexts<'_>,
@@ -152,5 +156,5 @@ pub fn hidden_of_files<'a>(
         texts.plan,
         texts.readings,
     ));
-    hidden_under(alloc, words, &file.plan, &table, texts.transcript)
+    hidden_under(rt, alloc, words, &file.plan, &table, texts.transcript)
 }

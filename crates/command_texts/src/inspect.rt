@@ -19,6 +19,7 @@ use group_plan::Plan;
 use plan_files::{FileCause, read_public};
 use run_course::{CourseError, in_time};
 use std::alloc::Global;
+use std::thread::Threads;
 use totals_report::Report;
 use transcript_log::Transcript;
 use transcript_text::entry_line;
@@ -60,7 +61,8 @@ fn other_plan<'a>(alloc: Global, files: InspectFiles<'a>, report: &[u8]) -> Outc
 }
 
 // The transcript and the report of two texts, where the transcript is of the plan.
-fn read_texts<'a>(
+fn read_texts<'a, R: Threads + Sync>(
+    rt: &R,
     alloc: Global,
     files: InspectFiles<'a>,
     plan: &Plan,
@@ -70,7 +72,7 @@ fn read_texts<'a>(
     ensures ends { TextsRead (inspect_names_of files.entry) plan.now transcript.now report.now result }
     ensures no_fault { IfErr result (λ outcome. ¬ IsFault outcome) }
 {
-    let transcript = match transcript_of_plan(alloc, plan, transcript) {
+    let transcript = match transcript_of_plan(rt, alloc, plan, transcript) {
         Ok(transcript) => transcript,
         Err(TwinError::Head) => return Err(other_plan(alloc, files, report)),
         Err(TwinError::Transcript(fault)) => {
@@ -136,7 +138,8 @@ fn judge<'a>(
 }
 
 /// What the three files come to.
-pub fn inspect_texts<'a>(
+pub fn inspect_texts<'a, R: Threads + Sync>(
+    rt: &R,
     alloc: Global,
     files: InspectFiles<'a>,
     texts: InspectTexts<'_>,
@@ -148,6 +151,7 @@ pub fn inspect_texts<'a>(
 {
     let plan = or_fail!(public_in(alloc, files.public, texts.public));
     let (transcript, report) = or_fail!(read_texts(
+        rt,
         alloc,
         files,
         &plan,

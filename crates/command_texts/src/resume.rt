@@ -40,7 +40,8 @@ fn refused_cut<'a>(name: &'a str, fault: CutError) -> Outcome<'a>
 }
 
 /// The cut that the text of this name is, where it is one of the plan.
-pub fn cut_in<'a>(
+pub fn cut_in<'a, R: Threads + Sync>(
+    rt: &R,
     alloc: Global,
     name: &'a str,
     plan: &Plan,
@@ -50,7 +51,7 @@ pub fn cut_in<'a>(
     ensures text { IfOk result (λ cut. completed text.now ≡ transcript_text cut) }
     ensures no_fault { IfErr result (λ outcome. ¬ IsFault outcome) }
 {
-    let cut = match read_cut(alloc, text) {
+    let cut = match read_cut(rt, alloc, text) {
         Ok(cut) => cut,
         Err(fault) => return Err(refused_cut(name, fault)),
     };

@@ -16,6 +16,7 @@ use mask_stream::ChaMasks;
 use plan_files::PlanFile;
 use sparse_masks::{RingDiffer, RingMasks, ring_offsets};
 use std::alloc::{AllocError, Global};
+use std::thread::Threads;
 use twin_worlds::{MovedWords, moved_rows, same_world};
 
 // The outcome of tables that disagree on a ring.
@@ -51,7 +52,8 @@ fn disagreement<'a>(cause: RingDiffer) -> Outcome<'a>
 }
 
 // The words of neighbours that move from the first readings to the other ones.
-fn compare_tables<'a>(
+fn compare_tables<'a, R: Threads + Sync>(
+    rt: &R,
     alloc: Global,
     width: u8,
     transcript: &'a str,
@@ -68,7 +70,7 @@ fn compare_tables<'a>(
     let _rounds = file.plan.rounds();
     let words = ChaMasks::new(&file.keys);
     let masks = RingMasks::new(&words, &file.plan, width);
-    let recorded = match same_world(alloc, &file.plan, &masks, &tables.first, text) {
+    let recorded = match same_world(rt, alloc, &file.plan, &masks, &tables.first, text) {
         Ok(recorded) => recorded,
         Err(error) => return Err(world_refusal(transcript, error)),
     };
@@ -83,7 +85,8 @@ fn compare_tables<'a>(
 }
 
 /// The mask words of neighbours that move from the first readings to the other ones, for rings of this width.
-pub fn ring_words_moved<'a>(
+pub fn ring_words_moved<'a, R: Threads + Sync>(
+    rt: &R,
     alloc: Global,
     width: u8,
     files: TwinFiles<'a>,
@@ -96,6 +99,7 @@ pub fn ring_words_moved<'a>(
     let file = or_fail!(plan_in(alloc, files.plan, &texts.plan));
     let tables = or_fail!(read_tables(alloc, files, &file.plan, texts));
     compare_tables(
+        rt,
         alloc,
         width,
         files.transcript,

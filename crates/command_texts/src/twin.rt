@@ -23,6 +23,7 @@ use missing_round::MeterSet;
 use pair_keys::KeyError;
 use plan_files::{FileCause, FileError, PlanFile};
 use std::alloc::Global;
+use std::thread::Threads;
 use transcript_log::Entry;
 use twin_worlds::{MovedWords, PoolTwinError, TwinError, pooled_twin};
 
@@ -136,7 +137,8 @@ pub(crate) fn read_tables<'a>(
 }
 
 // The mask words that move from the first readings to the other ones, against the meters of these sets.
-fn compare_tables<'a>(
+fn compare_tables<'a, R: Threads + Sync>(
+    rt: &R,
     alloc: Global,
     files: TwinFiles<'a>,
     file: &PlanFile,
@@ -150,6 +152,7 @@ fn compare_tables<'a>(
 {
     let tables = or_fail!(read_tables(alloc, files, &file.plan, texts));
     match pooled_twin(
+        rt,
         alloc,
         &file.plan,
         &file.keys,
@@ -164,7 +167,8 @@ fn compare_tables<'a>(
 }
 
 /// The mask words that move from the first readings to the other ones, against the meters that the word names.
-pub fn words_moved<'a>(
+pub fn words_moved<'a, R: Threads + Sync>(
+    rt: &R,
     alloc: Global,
     known: &str,
     files: TwinFiles<'a>,
@@ -181,5 +185,5 @@ pub fn words_moved<'a>(
         Ok(None) => return Err(Outcome::BadPlan(files.plan, OUTSIDE_PLAN)),
         Err(_) => return Err(Outcome::NoMemory),
     };
-    compare_tables(alloc, files, &file, &sets, texts)
+    compare_tables(rt, alloc, files, &file, &sets, texts)
 }

@@ -55,7 +55,7 @@ fn perform<'a, R: Threads + Wait + Sync, D: Desk, W: Wire, G: Gate>(
         Some(Command::Parts(words)) => parts(alloc, words, desk),
         Some(Command::Collect(files)) => collect(rt, alloc, files, desk, wire),
         Some(Command::Meter(files)) => meter(alloc, files, desk, wire),
-        Some(Command::Inspect(files)) => inspect(alloc, files, desk),
+        Some(Command::Inspect(files)) => inspect(rt, alloc, files, desk),
         Some(Command::Bill(words)) => bill(rt, alloc, words, desk),
         Some(Command::Hide(words)) => hide(rt, alloc, words, desk),
         Some(Command::Help) => say(USAGE.as_bytes(), desk),

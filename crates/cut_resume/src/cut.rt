@@ -20,6 +20,7 @@ use group_plan::Plan;
 use itoa::Buffer;
 use memchr::memrchr;
 use std::alloc::{AllocError, Global};
+use std::thread::Threads;
 use transcript_log::Transcript;
 use transcript_text::{ReadError, read, write};
 
@@ -181,13 +182,13 @@ fn fault(error: ReadError) -> CutError
 }
 
 /// What a text is read as that has an `end` line.
-fn read_ended(alloc: Global, text: &[u8]) -> Result<Transcript, CutError>
-    requires { HasEnd text.now }
+fn read_ended<R: Threads + Sync>(rt: &R, alloc: Global, text: &[u8]) -> Result<Transcript, CutError>
+    requires ended { HasEnd text.now }
     ensures exact { CutEnds result (read_of Two text.now) }
     ensures found { IfOk result (λ t. text.now ≡ transcript_text t) }
     ensures sound { IfOk result (λ t. IsTranscript t) }
 {
-    match read(alloc, text) {
+    match read(rt, alloc, text) {
         Ok(transcript) => Ok(transcript),
         Err(error) => Err(fault(error)),
     }
@@ -195,7 +196,11 @@ fn read_ended(alloc: Global, text: &[u8]) -> Result<Transcript, CutError>
 
 /// The plan and the entries of a text that was cut: its whole lines are read, and a rest is dropped. Where none of them has the
 /// first field `end`, they are read with the `end` line of their entries, in a copy of the text.
-pub fn read_cut(alloc: Global, bytes: &[u8]) -> Result<Transcript, CutError>
+pub fn read_cut<R: Threads + Sync>(
+    rt: &R,
+    alloc: Global,
+    bytes: &[u8],
+) -> Result<Transcript, CutError>
     ensures exact { CutEnds result (read_of Two (completed bytes.now)) }
     ensures found { IfOk result (λ t. completed bytes.now ≡ transcript_text t) }
     ensures sound { IfOk result (λ t. IsTranscript t) }
@@ -203,10 +208,10 @@ pub fn read_cut(alloc: Global, bytes: &[u8]) -> Result<Transcript, CutError>
     let whole = whole_lines(bytes);
     let lines = &bytes[..whole.bytes];
     if whole.is_ended {
-        return read_ended(alloc, lines);
+        return read_ended(rt, alloc, lines);
     }
     let text = with_end(alloc, lines, whole.after_begin)?;
-    read_ended(alloc, &text)
+    read_ended(rt, alloc, &text)
 }
 
 /// How many bytes the `end` line of so many entries has, with its newline.

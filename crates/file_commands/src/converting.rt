@@ -25,7 +25,7 @@ pub fn convert<'a, R: Threads + Sync, D: Desk>(
     ensures cause { IsFault result → Rose (D.faults desk.old) (D.faults desk.new) }
 {
     let bytes = or_end!(fetch(alloc, files.old, desk));
-    let transcript = match read_old(alloc, &bytes) {
+    let transcript = match read_old(rt, alloc, &bytes) {
         Ok(transcript) => transcript,
         Err(ReadError::Memory) => return Outcome::NoMemory,
         Err(fault) => return Outcome::BadTranscript(files.old, fault),

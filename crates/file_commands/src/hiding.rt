@@ -34,7 +34,7 @@ pub fn hide<'a, R: Threads + Sync, D: Desk>(
         readings: &readings,
         transcript: &transcript,
     };
-    let hidden = or_end!(hidden_of_files(alloc, words, texts));
+    let hidden = or_end!(hidden_of_files(rt, alloc, words, texts));
     let partner = hidden.partner;
     let Ok(line) = hidden_line(alloc, partner.round, partner.meter) else {
         return Outcome::NoMemory;

@@ -11,11 +11,17 @@ use command_texts::{InspectTexts, inspect_texts, inspected_line};
 use command_words::{InspectFiles, Outcome};
 use desk_outside::Desk;
 use std::alloc::Global;
+use std::thread::Threads;
 
 /// Fetches a public plan, a transcript and a report, and says whether the transcript is a run of the plan and the report what its
 /// frames give; and how many opened rounds have no total, and how few survivors an opened round has. It is handed no key and no
 /// reading.
-pub fn inspect<'a, D: Desk>(alloc: Global, files: InspectFiles<'a>, desk: &mut D) -> Outcome<'a>
+pub fn inspect<'a, R: Threads + Sync, D: Desk>(
+    rt: &R,
+    alloc: Global,
+    files: InspectFiles<'a>,
+    desk: &mut D,
+) -> Outcome<'a>
     ensures ends { InspectCommandEnds (inspect_names_of files.entry) (D.view desk.old) (D.view desk.new) result }
     ensures later { D.faults desk.old ≤ D.faults desk.new }
     ensures cause { IsFault result → Rose (D.faults desk.old) (D.faults desk.new) }
@@ -27,7 +33,7 @@ pub fn inspect<'a, D: Desk>(alloc: Global, files: InspectFiles<'a>, desk: &mut D
         transcript: &transcript,
         report: &report,
     };
-    let found = or_end!(inspect_texts(alloc, files, texts));
+    let found = or_end!(inspect_texts(rt, alloc, files, texts));
     let Ok(line) = inspected_line(alloc, found) else {
         return Outcome::NoMemory;
     };

@@ -27,6 +27,6 @@ pub fn ring_twin<'a, R: Threads + Sync, D: Desk>(
 {
     let files = words.files;
     let texts = or_end!(fetch_texts(alloc, files, desk));
-    let moved = or_end!(ring_words_moved(alloc, words.width, files, &texts));
+    let moved = or_end!(ring_words_moved(rt, alloc, words.width, files, &texts));
     put_moved(rt, alloc, "twin", files.masks, &moved, desk)
 }

@@ -79,7 +79,7 @@ fn twin_for<'a, R: Threads + Sync, D: Desk>(
     ensures cause { IsFault result → Rose (D.faults desk.old) (D.faults desk.new) }
 {
     let texts = or_end!(fetch_texts(alloc, files, desk));
-    let moved = or_end!(words_moved(alloc, known, files, &texts));
+    let moved = or_end!(words_moved(rt, alloc, known, files, &texts));
     put_moved(rt, alloc, verb, files.masks, &moved, desk)
 }
 

@@ -5,6 +5,7 @@ use cut_resume::{CutError, read_cut};
 use row_fixtures::{PLAIN, with_line};
 use std::alloc::{AllocError, Global};
 use std::test::Fail;
+use std::thread::Threads;
 use transcript_text::write;
 
 /// How many lines the head of `PLAIN` has, and how many entries stand behind it.
@@ -13,8 +14,8 @@ const HEAD: u64 = 5;
 const ENTRIES: u64 = 20;
 
 // How many entries the text has as a cut, or its first fault.
-fn entries(alloc: Global, text: &[u8]) -> Result<u64, CutError> {
-    Ok(read_cut(alloc, text)?.len() as u64)
+fn entries<R: Threads + Sync>(rt: &R, alloc: Global, text: &[u8]) -> Result<u64, CutError> {
+    Ok(read_cut(rt, alloc, text)?.len() as u64)
 }
 
 // So many lines of `PLAIN`, and more behind them.
@@ -44,7 +45,7 @@ fn cut_before_each_byte(rt: HostRuntime) {
     for cut in 0..bytes.len() {
         check_same(
             &rt,
-            &(cut, entries(rt.alloc(), &bytes[..cut])),
+            &(cut, entries(&rt, rt.alloc(), &bytes[..cut])),
             &(cut, expected(lines)),
             "a cut",
         );
@@ -78,7 +79,7 @@ static CUTS: [(usize, &str, Result<u64, CutError>); 16] = [
 fn cuts(rt: HostRuntime) -> Result<(), Fail> {
     for (lines, more, came) in CUTS.iter() {
         let text = cut_after(rt.alloc(), *lines, more)?;
-        check_same(&rt, &entries(rt.alloc(), text.as_bytes()), came, more);
+        check_same(&rt, &entries(&rt, rt.alloc(), text.as_bytes()), came, more);
     }
     Ok(())
 }
@@ -89,7 +90,7 @@ fn fault_before_end(rt: HostRuntime) -> Result<(), Fail> {
     let text = with_line(rt.alloc(), PLAIN, 10, "0,t,0,0,r,1,fresh")?;
     check_same(
         &rt,
-        &entries(rt.alloc(), text.as_bytes()),
+        &entries(&rt, rt.alloc(), text.as_bytes()),
         &Err(CutError::Field(10, 1)),
         "a tick that falls",
     );
@@ -100,7 +101,7 @@ fn fault_before_end(rt: HostRuntime) -> Result<(), Fail> {
 #[test]
 fn cut_within_line_14(rt: HostRuntime) -> Result<(), Fail> {
     let cut = cut_after(rt.alloc(), 13, "1,s,0,0,m,1,1,4d02")?;
-    let Ok(transcript) = read_cut(rt.alloc(), cut.as_bytes()) else {
+    let Ok(transcript) = read_cut(&rt, rt.alloc(), cut.as_bytes()) else {
         return Err(Fail::new("refused"));
     };
     let text = cut_after(rt.alloc(), 13, "end,8\n")?;

@@ -1,15 +1,21 @@
 //! Texts read ahead in small pieces: what is read is what one thread reads, whatever stands at the first and the last line of a piece.
 
 use crate::fixtures::check_same;
+use crate::transcript_text_rows::OLD;
 use row_fixtures::{PLAIN, with_line};
 use std::alloc::Global;
 use std::process::Abort;
 use std::test::Fail;
 use std::thread::Threads;
-use transcript_text::{EntriesAhead, ReadError, Version, read};
+use transcript_text::{EntriesAhead, EntryReader, ReadError, Version, read_in_pieces};
 
 // More entries than any text here has.
 const ENTRIES: usize = 100;
+
+// A text in each version.
+fn texts() -> [(Version, &'static str); 2] {
+    [(Version::One, OLD), (Version::Two, PLAIN)]
+}
 
 // How many bytes a piece has: fewer than a line, about a line, some lines, more than the text.
 static SIZES: [usize; 6] = [1, 20, 110, 111, 300, 5000];
@@ -28,10 +34,11 @@ static LINES: [&str; 5] = [
 fn count_ahead<R: Threads + Sync>(
     rt: &R,
     alloc: Global,
+    version: Version,
     bytes: &[u8],
     size: usize,
 ) -> Result<usize, ReadError> {
-    let mut reader = match EntriesAhead::new(rt, alloc, Version::Two, bytes, size) {
+    let mut reader = match EntriesAhead::new(rt, alloc, version, bytes, size) {
         Ok(reader) => reader,
         Err(fault) => return Err(fault),
     };
@@ -45,44 +52,96 @@ fn count_ahead<R: Threads + Sync>(
     Ok(ENTRIES)
 }
 
-// The same, read by one thread.
-fn count_alone(alloc: Global, bytes: &[u8]) -> Result<usize, ReadError> {
-    match read(alloc, bytes) {
+// The same of the whole transcript.
+fn count_whole<R: Threads + Sync>(
+    rt: &R,
+    alloc: Global,
+    version: Version,
+    bytes: &[u8],
+    size: usize,
+) -> Result<usize, ReadError> {
+    match read_in_pieces(rt, alloc, version, bytes, size) {
         Ok(transcript) => Ok(transcript.len()),
         Err(fault) => Err(fault),
     }
 }
 
+// The same, read line by line.
+fn count_alone(alloc: Global, version: Version, bytes: &[u8]) -> Result<usize, ReadError> {
+    let mut reader = match EntryReader::new(alloc, version, bytes) {
+        Ok(reader) => reader,
+        Err(fault) => return Err(fault),
+    };
+    for count in 0..ENTRIES {
+        match reader.next() {
+            Ok(Some(_entry)) => {}
+            Ok(None) => return Ok(count),
+            Err(fault) => return Err(fault),
+        }
+    }
+    Ok(ENTRIES)
+}
+
 // Looks for the same answer in pieces of each size.
-fn check_sizes<R: Abort + Threads + Sync>(rt: &R, alloc: Global, bytes: &[u8], row: &str) {
-    let alone = count_alone(alloc, bytes);
+fn check_sizes<R: Abort + Threads + Sync>(
+    rt: &R,
+    alloc: Global,
+    version: Version,
+    bytes: &[u8],
+    row: &str,
+) {
+    let alone = count_alone(alloc, version, bytes);
     for size in SIZES.iter() {
-        let ahead = count_ahead(rt, alloc, bytes, *size);
-        check_same(rt, &(*size, ahead), &(*size, alone), row);
+        let ahead = count_ahead(rt, alloc, version, bytes, *size);
+        let whole = count_whole(rt, alloc, version, bytes, *size);
+        check_same(rt, &(*size, ahead, whole), &(*size, alone, alone), row);
     }
 }
 
 #[test]
 fn read_ahead_whole(rt: HostRuntime) {
-    for size in SIZES.iter() {
-        let count = count_ahead(&rt, rt.alloc(), PLAIN.as_bytes(), *size);
-        check_same(&rt, &(*size, count), &(*size, Ok(20)), "the plain case");
+    for (version, text) in texts() {
+        for size in SIZES.iter() {
+            let ahead = count_ahead(&rt, rt.alloc(), version, text.as_bytes(), *size);
+            let whole = count_whole(&rt, rt.alloc(), version, text.as_bytes(), *size);
+            check_same(&rt, &(*size, ahead, whole), &(*size, Ok(20), Ok(20)), text);
+        }
     }
 }
 
 #[test]
 fn read_ahead_cut_before_each_byte(rt: HostRuntime) {
-    for cut in 0..PLAIN.len() {
-        check_sizes(&rt, rt.alloc(), &PLAIN.as_bytes()[..cut], "a cut");
+    let bytes = PLAIN.as_bytes();
+    for cut in 0..bytes.len() {
+        let alone = count_alone(rt.alloc(), Version::Two, &bytes[..cut]);
+        for size in SIZES.iter() {
+            let ahead = count_ahead(&rt, rt.alloc(), Version::Two, &bytes[..cut], *size);
+            check_same(&rt, &(*size, ahead), &(*size, alone), "a cut");
+        }
+    }
+}
+
+// Each line is cut before its newline and behind it.
+#[test]
+fn read_ahead_cut_at_each_line(rt: HostRuntime) {
+    for (version, text) in texts() {
+        let bytes = text.as_bytes();
+        for cut in 1..bytes.len() {
+            if bytes[cut - 1] == b'\n' || bytes[cut] == b'\n' {
+                check_sizes(&rt, rt.alloc(), version, &bytes[..cut], "a cut");
+            }
+        }
     }
 }
 
 #[test]
 fn read_ahead_with_each_line_changed(rt: HostRuntime) -> Result<(), Fail> {
-    for line in LINES.iter() {
-        for number in 1..=27usize {
-            let text = with_line(rt.alloc(), PLAIN, number, line)?;
-            check_sizes(&rt, rt.alloc(), text.as_bytes(), line);
+    for (version, text) in texts() {
+        for line in LINES.iter() {
+            for number in 1..=27usize {
+                let text = with_line(rt.alloc(), text, number, line)?;
+                check_sizes(&rt, rt.alloc(), version, text.as_bytes(), line);
+            }
         }
     }
     Ok(())

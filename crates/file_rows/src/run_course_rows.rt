@@ -6,11 +6,12 @@ use run_course::{CourseError, in_time};
 use std::alloc::Global;
 use std::process::Abort;
 use std::test::Fail;
+use std::thread::Threads;
 use transcript_text::{entry_line, read};
 
 // The line that is named: of the first entry off course, or the `end` line where the run goes on; 0 where all is a run.
-fn named(alloc: Global, text: &str) -> Result<u64, Fail> {
-    let transcript = match read(alloc, text.as_bytes()) {
+fn named<R: Threads + Sync>(rt: &R, alloc: Global, text: &str) -> Result<u64, Fail> {
+    let transcript = match read(rt, alloc, text.as_bytes()) {
         Ok(transcript) => transcript,
         Err(_) => return Err(Fail::new("refused")),
     };
@@ -36,24 +37,24 @@ fn cut_after(alloc: Global, lines: usize) -> Result<String, Fail> {
 }
 
 // Looks for the line that is named where the plain case has another line in the place of that of this number.
-fn check_changed(
-    rt: &impl Abort,
+fn check_changed<R: Abort + Threads + Sync>(
+    rt: &R,
     alloc: Global,
     number: usize,
     line: &str,
     wanted: u64,
 ) -> Result<(), Fail> {
     let text = with_line(alloc, PLAIN, number, line)?;
-    check_same(rt, &named(alloc, &text)?, &wanted, line);
+    check_same(rt, &named(rt, alloc, &text)?, &wanted, line);
     Ok(())
 }
 
 // Looks for the `end` line where the plain case is cut after this line.
-fn check_cut(rt: &impl Abort, alloc: Global, lines: usize) -> Result<(), Fail> {
+fn check_cut<R: Abort + Threads + Sync>(rt: &R, alloc: Global, lines: usize) -> Result<(), Fail> {
     let text = cut_after(alloc, lines)?;
     check_same(
         rt,
-        &named(alloc, &text)?,
+        &named(rt, alloc, &text)?,
         &(lines as u64).wrapping_add(1),
         "a cut",
     );
@@ -62,7 +63,7 @@ fn check_cut(rt: &impl Abort, alloc: Global, lines: usize) -> Result<(), Fail> {
 
 #[test]
 fn plain_case_is_a_run(rt: HostRuntime) -> Result<(), Fail> {
-    check_same(&rt, &named(rt.alloc(), PLAIN)?, &0, "the plain case");
+    check_same(&rt, &named(&rt, rt.alloc(), PLAIN)?, &0, "the plain case");
     Ok(())
 }
 

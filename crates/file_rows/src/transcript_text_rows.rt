@@ -8,11 +8,12 @@ use row_fixtures::{PLAIN, plan_of_north, reading_tag, with_line};
 use std::alloc::{AllocError, Global};
 use std::process::Abort;
 use std::test::Fail;
+use std::thread::Threads;
 use transcript_log::{Entry, Line, Transcript, members};
 use transcript_text::{ReadError, line_text, read, read_old, write};
 
 /// The plain case in version 1.
-static OLD: &str = "\
+pub(crate) static OLD: &str = "\
 meteragg transcript 1\n\
 rounds,1\n\
 windows,1,2\n\
@@ -43,11 +44,11 @@ end,20\n";
 const WHOLE: Option<ReadError> = None;
 
 // The plain case, as it is read in this version or in the old one.
-fn plain_case(alloc: Global, old: bool) -> Result<Transcript, Fail> {
+fn plain_case<R: Threads + Sync>(rt: &R, alloc: Global, old: bool) -> Result<Transcript, Fail> {
     let read_back = if old {
-        read_old(alloc, OLD.as_bytes())
+        read_old(rt, alloc, OLD.as_bytes())
     } else {
-        read(alloc, PLAIN.as_bytes())
+        read(rt, alloc, PLAIN.as_bytes())
     };
     match read_back {
         Ok(transcript) => Ok(transcript),
@@ -69,8 +70,8 @@ fn check_text(
 }
 
 // Looks for the text of the plain case.
-fn check_plain(rt: &impl Abort, alloc: Global, old: bool) -> Result<(), Fail> {
-    check_text(rt, alloc, &plain_case(alloc, old)?, 20, PLAIN)
+fn check_plain<R: Abort + Threads + Sync>(rt: &R, alloc: Global, old: bool) -> Result<(), Fail> {
+    check_text(rt, alloc, &plain_case(rt, alloc, old)?, 20, PLAIN)
 }
 
 #[test]
@@ -89,7 +90,7 @@ fn cut_before_each_byte(rt: HostRuntime) {
         } else {
             ReadError::NoEnd(lines)
         };
-        let fault = read(rt.alloc(), &bytes[..cut]).err();
+        let fault = read(&rt, rt.alloc(), &bytes[..cut]).err();
         check_same(&rt, &(cut, fault), &(cut, Some(expected)), "a cut");
         if bytes[cut] == b'\n' {
             lines = lines.wrapping_add(1);
@@ -153,7 +154,7 @@ static FAULTS: [(usize, &str, Option<ReadError>); 40] = [
 fn first_faults(rt: HostRuntime) -> Result<(), Fail> {
     for (number, line, expected) in FAULTS.iter() {
         let text = with_line(rt.alloc(), PLAIN, *number, line)?;
-        let fault = read(rt.alloc(), text.as_bytes()).err();
+        let fault = read(&rt, rt.alloc(), text.as_bytes()).err();
         check_same(&rt, &fault, expected, line);
     }
     Ok(())

@@ -44,7 +44,7 @@ pub fn resume<'a, R: Threads + Wait + Sync, D: Desk, G: Gate>(
         return Outcome::NoMemory;
     };
     let input = or_end!(read_run(alloc, files.plan, files.readings, plan, readings, cupboard));
-    let cut = or_end!(cut_in(alloc, files.cut, &input.file.plan, &text));
+    let cut = or_end!(cut_in(rt, alloc, files.cut, &input.file.plan, &text));
     if transcript.file.has_failed() || report.file.has_failed() {
         return first_of_two(transcript, report, desk);
     }

@@ -1,5 +1,5 @@
 -- Pieces of a text, whose entries are read ahead.
-use Rattle.std.proofs.Common.{◌≡◌, Bool, true, false, ◌∙◌, ◌<◌, ◌≤◌, ◌+◌, ◌-◌, ℕ, zero, suc, take, drop, length-drop, slice_get, Some, Vec, map, get_or, drop-cons, IfOk, List, [], ◌∷◌, ◌++◌, length, length-append, All, refl, sym, ap, arith, append_assoc, subst, Result, Ok, Err}
+use Rattle.std.proofs.Common.{◌≡◌, Bool, true, false, ◌∙◌, ◌<◌, ◌≤◌, ◌+◌, ◌-◌, ℕ, zero, suc, take, drop, length-drop, slice_get, Some, Vec, map, get_or, IfOk, List, [], ◌∷◌, ◌++◌, length, length-append, All, refl, sym, ap, arith, append_assoc, subst, Result, Ok, Err}
 use Rattle.std.specs.Prelude.{MatchResult}
 use Rattle.std.specs.List.{AllZip, Contains}
 use Rattle.std.specs.declared.alloc.AllocError.{AllocError}
@@ -8,7 +8,7 @@ use Rattle.std.proofs.lemmas.List.{drop_all, take_all}
 use Rattle.std.proofs.lemmas.List.Elements.{All-cons, All-head, All-nil, All-tail}
 use Rattle.group_plan.specs.Plans.{PlanView, IsWithinLimits}
 use Rattle.transcript_log.specs.declared.Entry.{Entry}
-use Rattle.transcript_log.specs.Transcripts.{Fits, IsEntry, last_tick_from}
+use Rattle.transcript_log.specs.Transcripts.{Fits, IsEntry, NeverFalls, last_tick_from}
 use Rattle.field_texts.specs.Parts.{parts}
 use Rattle.field_texts.proofs.Cutting.{parts_some}
 use Rattle.transcript_text.specs.declared.version.Version.{Version}
@@ -24,7 +24,7 @@ use Rattle.transcript_text.proofs.EntriesAgain.{cut_entry}
 use Rattle.transcript_text.proofs.EntriesBack.{line_back}
 use Rattle.transcript_text.proofs.EntryAgain.{IsSmall}
 use Rattle.transcript_text.proofs.EntryBack.{row_back}
-use Rattle.transcript_text.proofs.EntryLoop.{before_before, last-push, opens}
+use Rattle.transcript_text.proofs.EntryLoop.{before_before, last-push, next_of, opens}
 use Rattle.transcript_text.proofs.LineAgain.{row_again}
 use Rattle.transcript_text.proofs.PieceLemmas.{all_there}
 use Rattle.transcript_text.proofs.WrittenFields.{cut_text}
@@ -58,6 +58,10 @@ follow_push plan last (x ∷ es) e f after fits is = (f.0, f.1, f.2, follow_push
 pub fit_all : (plan : PlanView) (last : ℕ) (es : List Entry) → Follow plan last es → All (Fits plan) es
 fit_all plan last [] f = All-nil (Fits plan)
 fit_all plan last (e ∷ es) f = All-cons (Fits plan) e es f.1 (fit_all plan e.tick es f.3)
+
+pub never_fall : (plan : PlanView) (last : ℕ) (es : List Entry) → Follow plan last es → NeverFalls last es
+never_fall plan last [] f = tt
+never_fall plan last (e ∷ es) f = (f.0, never_fall plan e.tick es f.3)
 
 -- entries that follow tick 0 follow any tick that isn't above that of the first
 pub later : (plan : PlanView) (last : ℕ) (e : Entry) (es : List Entry) → last ≤ e.tick → Follow plan 0 (e ∷ es) → Follow plan last (e ∷ es)
@@ -174,6 +178,10 @@ last_bytes_of front rest text until is long =
     drop_front [] ys = refl
     drop_front (x ∷ xs) ys = drop_front xs ys
 
+some_first : (es : List Entry) (first : Entry) → slice_get es 0 ≡ Some first → 0 < length es
+some_first [] first is = absurd cc
+some_first (e ∷ es) first is = omega arith
+
 -- what stands behind the first entry follows a tick that isn't above its
 record Starts (plan : PlanView) (last : ℕ) (es : List Entry) : Type 0 where
   follow : Follow plan last es
@@ -218,6 +226,9 @@ module _ (version : Version) (plan : PlanView) (text : List ℕ) (p : Piece) (is
         version = refl;
         text = lines;
         fits = fit_all plan 0 es is.follow;
+        ticks = never_fall plan last es st.follow;
+        last = sym tick;
+        some = some_first es first first_is;
         fewer = omega (arith, most, long);
       }
 
@@ -251,11 +262,7 @@ still_pieces old p new all ps is are false same =
 
 -- the next of the entries that are ready comes first
 pub handed_out : (es : List Entry) (at : ℕ) (left : Result (List Entry) ReadError) (e : Entry) → at < length es → get_or es at e ≡ e → before (drop at es) left ≡ before (e ∷ []) (before (drop (at + 1) es) left)
-handed_out es at left e within is =
-    ap (λ (q : List Entry). before q left) (drop-cons es at e within ∙ ap (λ (x : Entry). x ∷ drop (suc at) es) is ∙ ap (λ (n : ℕ). e ∷ drop n es) (add-one' at)) ∙ sym (before_before (e ∷ []) (drop (at + 1) es) left)
-  where
-    add-one' : (n : ℕ) → suc n ≡ n + 1
-    add-one' n = omega arith
+handed_out es at left e within is = ap (λ (q : List Entry). before q left) (next_of es at e within is) ∙ sym (before_before (e ∷ []) (drop (at + 1) es) left)
 
 pub nothing_ready : (es : List Entry) (at : ℕ) (left : Result (List Entry) ReadError) → length es ≤ at → before (drop at es) left ≡ left
 nothing_ready es at left over = ap (λ (q : List Entry). before q left) (drop_all at es over) ∙ nothing_before left

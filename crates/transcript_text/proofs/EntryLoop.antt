@@ -1,5 +1,5 @@
 -- The lines after the head, one after the other.
-use Rattle.std.proofs.Common.{◌≡◌, ◌<◌, ◌+◌, ℕ, Bool, true, false, List, [], ◌∷◌, ◌++◌, length, refl, ap, arith, sym, ◌∙◌, None, Result, Ok, Err, append_assoc, append-nil, cond}
+use Rattle.std.proofs.Common.{◌≡◌, ◌<◌, ◌+◌, ℕ, suc, Bool, true, false, List, [], ◌∷◌, ◌++◌, length, drop, drop-cons, get_or, refl, ap, arith, sym, ◌∙◌, None, Result, Ok, Err, append_assoc, append-nil, cond}
 use Rattle.std.specs.List.{onto_first}
 use Rattle.transcript_log.specs.declared.Entry.{Entry}
 use Rattle.group_plan.specs.Plans.{PlanView}
@@ -12,6 +12,20 @@ use Rattle.transcript_log.specs.Transcripts.{last_tick_from}
 pub last-push : (last : ℕ) (es : List Entry) (e : Entry) → last_tick_from last (es ++ e ∷ []) ≡ e.tick
 last-push last [] e = refl
 last-push last (x ∷ es) e = last-push x.tick es e
+
+pub last_behind : (last : ℕ) (front es : List Entry) → last_tick_from last (front ++ es) ≡ last_tick_from (last_tick_from last front) es
+last_behind last [] es = refl
+last_behind last (x ∷ front) es = last_behind x.tick front es
+
+-- the entry at a place, and those behind it
+pub next_of : (es : List Entry) (at : ℕ) (e : Entry) → at < length es → get_or es at e ≡ e → drop at es ≡ e ∷ drop (at + 1) es
+next_of es at e within is =
+    let one : suc at ≡ at + 1 = omega arith in
+    drop-cons es at e within ∙ ap (λ (x : Entry). x ∷ drop (suc at) es) is ∙ ap (λ (n : ℕ). e ∷ drop n es) one
+
+-- one more is put behind others
+pub put_next : (front es all : List Entry) (at : ℕ) (e : Entry) → drop at es ≡ e ∷ drop (at + 1) es → front ++ drop at es ≡ all → (front ++ e ∷ []) ++ drop (at + 1) es ≡ all
+put_next front es all at e next so = append_assoc front (e ∷ []) (drop (at + 1) es) ∙ ap (λ (q : List Entry). front ++ q) (sym next) ∙ so
 
 pub opens : (version : Version) (plan : PlanView) (n last count : ℕ) (line : List ℕ) (next : List (List ℕ)) → 0 < length next
     → entries_from version plan n last count (line ∷ next) ≡ after_row n count next (λ e. entries_from version plan (n + 1) e.tick (count + 1) next) (row_of version plan last (parts 44 line))
@@ -32,8 +46,11 @@ before_before xs ys (Err f) = refl
 
 -- some entries and those that are left are all
 module _ (front : List Entry) (left all : Result (List Entry) ReadError) (so : before front left ≡ all) where
+  pub some_more : (es : List Entry) (more : Result (List Entry) ReadError) → left ≡ before es more → before (front ++ es) more ≡ all
+  some_more es more is = sym (before_before front es more) ∙ ap (before front) (sym is) ∙ so
+
   pub one_more : (e : Entry) (more : Result (List Entry) ReadError) → left ≡ before (e ∷ []) more → before (front ++ e ∷ []) more ≡ all
-  one_more e more is = sym (before_before front (e ∷ []) more) ∙ ap (before front) (sym is) ∙ so
+  one_more e more is = some_more (e ∷ []) more is
 
   pub none_left : left ≡ Ok [] → all ≡ Ok front
   none_left is = sym so ∙ ap (before front) is ∙ ap Ok (append-nil front)

@@ -4,7 +4,7 @@ use Rattle.std.specs.List.{flat_map}
 use Rattle.std.specs.declared.alloc.Global.{Global}
 use Rattle.group_plan.specs.Plans.{PlanView}
 use Rattle.transcript_log.specs.declared.Entry.{Entry}
-use Rattle.transcript_log.specs.Transcripts.{Fits, IsEntry, IsPlan, last_tick_from}
+use Rattle.transcript_log.specs.Transcripts.{Fits, IsEntry, IsPlan, NeverFalls, last_tick_from}
 use Rattle.transcript_text.specs.declared.version.Version.{Version}
 use Rattle.transcript_text.specs.declared.fault.ReadError.{ReadError}
 use Rattle.transcript_text.specs.declared.piece.Piece.{Piece}
@@ -57,6 +57,9 @@ pub record IsSkipped (old : ReaderView) (p : Piece) (new : ReaderView) : Type 0 
   pub version : new.version ≡ old.version
   pub text : old.text ≡ entry_lines old.version p.entries.items ++ new.text
   pub fits : All (Fits old.plan) p.entries.items
+  pub ticks : NeverFalls old.last p.entries.items
+  pub last : new.last ≡ last_tick_from old.last p.entries.items
+  pub some : 0 < length p.entries.items
   pub fewer : new.bytes + length p.entries.items ≤ old.bytes
 
 -- the entries of a piece are read where it comes next; else nothing changes
@@ -90,6 +93,9 @@ pub record IsFilled (old : ReaderView) (es : List Entry) (new : ReaderView) : Ty
   pub left : old.left ≡ before es new.left
   pub plan : new.plan ≡ old.plan
   pub fits : All (Fits old.plan) es
+  pub ticks : NeverFalls old.last es
+  pub last : new.last ≡ last_tick_from old.last es
+  pub some : 0 < length es
   pub fewer : new.bytes + length es ≤ old.bytes
 
 abbrev pub FillEnds : ReaderView → Option (Vec Entry Global) → ReaderView → Type 0

@@ -91,6 +91,22 @@ fn first_entries(reader: &mut EntryReader, pieces: &mut VecDeque<Piece>) -> Opti
     }
 }
 
+/// The entries of the next piece, where they come next. Where there are no pieces, the next are read side by side.
+pub(crate) fn next_entries<R: Threads + Sync>(
+    rt: &R,
+    alloc: Global,
+    size: usize,
+    reader: &mut EntryReader,
+    pieces: &mut VecDeque<Piece>,
+) -> Option<Vec<Entry>>
+    requires { All (IsPieceOf reader.old.version reader.old.plan reader.old.text) pieces.old.items }
+    ensures entries { FillEnds reader.old result reader.new }
+    ensures pieces { All (IsPieceOf reader.new.version reader.new.plan reader.new.text) pieces.new.items }
+{
+    fill_pieces(rt, alloc, reader, size, pieces);
+    first_entries(reader, pieces)
+}
+
 impl<'a, R: Threads + Sync> EntriesAhead<'a, R> {
     /// Reads the head of a text.
     pub fn new(
@@ -134,14 +150,13 @@ impl<'a, R: Threads + Sync> EntriesAhead<'a, R> {
         if self.at < self.ready.len() {
             return;
         }
-        fill_pieces(
+        if let Some(entries) = next_entries(
             self.rt,
             self.alloc,
-            &self.reader,
             self.size,
+            &mut self.reader,
             &mut self.pieces,
-        );
-        if let Some(entries) = first_entries(&mut self.reader, &mut self.pieces) {
+        ) {
             self.ready = entries;
             self.at = 0;
         }

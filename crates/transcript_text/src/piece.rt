@@ -14,7 +14,10 @@ use std::alloc::{AllocError, Global};
 use std::thread::Threads;
 use transcript_log::Entry;
 
-/// The most pieces that are read side by side, so that their entries take about 3 MB where a piece has 64 KB.
+/// As many bytes of a text as a thread reads at a time.
+pub const BYTES_A_PIECE: usize = 64 * 1024;
+
+/// The most pieces that are read side by side, so that their entries take about 3 MB where a piece has `BYTES_A_PIECE`.
 const PIECES_A_BATCH: usize = 32;
 
 /// So many pieces are worth a thread.

@@ -18,14 +18,19 @@ use mask_stream::{ChaMasks, Masks};
 use missing_round::MeterSet;
 use pair_keys::KeyTable;
 use std::alloc::Global;
+use std::thread::Threads;
 use transcript_log::Transcript;
 use transcript_text::{ReadError, read};
 
 // The transcript of a text.
-fn transcript_of(alloc: Global, text: &[u8]) -> Result<Transcript, TwinError>
+fn transcript_of<R: Threads + Sync>(
+    rt: &R,
+    alloc: Global,
+    text: &[u8],
+) -> Result<Transcript, TwinError>
     ensures { TextEnds text.now result }
 {
-    match read(alloc, text) {
+    match read(rt, alloc, text) {
         Ok(transcript) => Ok(transcript),
         Err(ReadError::Memory) => Err(TwinError::Memory),
         Err(fault) => Err(TwinError::Transcript(fault)),
@@ -33,10 +38,15 @@ fn transcript_of(alloc: Global, text: &[u8]) -> Result<Transcript, TwinError>
 }
 
 /// The transcript of a text, where it is of this plan; else `Transcript`, `Head` or `Memory`.
-pub fn transcript_of_plan(alloc: Global, plan: &Plan, text: &[u8]) -> Result<Transcript, TwinError>
+pub fn transcript_of_plan<R: Threads + Sync>(
+    rt: &R,
+    alloc: Global,
+    plan: &Plan,
+    text: &[u8],
+) -> Result<Transcript, TwinError>
     ensures { HeadEnds plan.now text.now result }
 {
-    let transcript = transcript_of(alloc, text)?;
+    let transcript = transcript_of(rt, alloc, text)?;
     if is_same_plan(alloc, transcript.plan(), plan)? {
         Ok(transcript)
     } else {
@@ -113,7 +123,8 @@ fn confirm_under<M: Masks>(
 
 /// The transcript of a text, where it is of this plan and the first table of readings gives it under these masks; else
 /// `Transcript`, `Head`, `NotThis` or `Memory`, the first in this order.
-pub fn same_world<M: Masks>(
+pub fn same_world<R: Threads + Sync, M: Masks>(
+    rt: &R,
     alloc: Global,
     plan: &Plan,
     masks: &M,
@@ -124,14 +135,15 @@ pub fn same_world<M: Masks>(
     requires first { first.now.plan ≡ plan.now }
     ensures { SameWorldEnds (M.table masks.now) first.now text.now result }
 {
-    let transcript = transcript_of_plan(alloc, plan, text)?;
+    let transcript = transcript_of_plan(rt, alloc, plan, text)?;
     confirm_under(alloc, masks, first, &transcript)?;
     Ok(transcript)
 }
 
 /// The mask words that move so that the second table of readings gives the transcript of this text, where the first table
 /// gives it under the words of the keys.
-pub fn twin(
+pub fn twin<R: Threads + Sync>(
+    rt: &R,
     alloc: Global,
     plan: &Plan,
     keys: &KeyTable,
@@ -146,7 +158,7 @@ pub fn twin(
 {
     let _groups = first.plan().groups();
     let masks = ChaMasks::new(keys);
-    let transcript = same_world(alloc, plan, &masks, first, text)?;
+    let transcript = same_world(rt, alloc, plan, &masks, first, text)?;
     let offsets = agreed_offsets(alloc, first, second, &transcript)?;
     Ok(moved_rows(alloc, &masks, &offsets)?)
 }
@@ -154,7 +166,8 @@ pub fn twin(
 /// The mask words that move so that the second table of readings gives the transcript of this text, and a pool of meters the
 /// same readings and the same words, where the first table gives it under the words of the keys. `known` are the meters of
 /// the pool, as a set for each group; a group past the last has none.
-pub fn pooled_twin(
+pub fn pooled_twin<R: Threads + Sync>(
+    rt: &R,
     alloc: Global,
     plan: &Plan,
     keys: &KeyTable,
@@ -170,7 +183,7 @@ pub fn pooled_twin(
 {
     let _groups = first.plan().groups();
     let masks = ChaMasks::new(keys);
-    let transcript = same_world(alloc, plan, &masks, first, text)?;
+    let transcript = same_world(rt, alloc, plan, &masks, first, text)?;
     let offsets = agreed_pooled_offsets(alloc, known, first, second, &transcript)?;
     Ok(moved_rows(alloc, &masks, &offsets)?)
 }

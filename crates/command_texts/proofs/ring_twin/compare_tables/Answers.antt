@@ -10,7 +10,7 @@ use Rattle.command_texts.proofs.RingTwinLemmas.{ring_compared, ring_disagreed, r
 use Rattle.command_texts.proofs.ring_twin.compare_tables.Goals as goal
 
 pub returns-in-Err-clause-ends : goal.returns-in-Err-clause-ends
-returns-in-Err-clause-ends c names bytes named text_is are =
+returns-in-Err-clause-ends g c names bytes named text_is are =
     let v : TwinValues = record { file = view_of c.args.file.now; first = c.args.tables.now.first; second = c.args.tables.now.second } in
     c.world_refusal.ensures.ring c.args.width names bytes named
     (ring_unrecorded c.args.width bytes v _ c.args.text.now c.in-Err.error
@@ -24,7 +24,7 @@ returns-in-Err-clause-ends c names bytes named text_is are =
     c.in-Err.ensures)
 
 pub returns-in-Err-ring_offsets-clause-ends : goal.returns-in-Err-ring_offsets-clause-ends
-returns-in-Err-ring_offsets-clause-ends c names bytes named text_is are =
+returns-in-Err-ring_offsets-clause-ends g c names bytes named text_is are =
     let v : TwinValues = record { file = view_of c.args.file.now; first = c.args.tables.now.first; second = c.args.tables.now.second } in
     ring_disagreed c.args.width names bytes v _ c.args.text.now c.in-Ok.recorded c.in-Err-ring_offsets.cause _
     (record {
@@ -37,12 +37,12 @@ returns-in-Err-ring_offsets-clause-ends c names bytes named text_is are =
     c.in-Ok.ensures c.in-Err-ring_offsets.ensures.ends c.in-Err-ring_offsets.ensures.converse c.disagreement.ensures.ends
 
 pub moved_rows-requires-clause-places : goal.moved_rows-requires-clause-places
-moved_rows-requires-clause-places c =
+moved_rows-requires-clause-places g c =
     subst (λ (plan : PlanView). AreOfPlan plan c.in-Ok-ring_offsets.offsets)
     (c.requires.first ∙ sym c.requires.keys ∙ sym c.new-words.ensures.plan ∙ sym c.new-masks.ensures.plan) c.in-Ok-ring_offsets.ensures.places
 
 pub returns-in-Ok-moved_rows-clause-ends : goal.returns-in-Ok-moved_rows-clause-ends
-returns-in-Ok-moved_rows-clause-ends c names bytes named text_is are =
+returns-in-Ok-moved_rows-clause-ends g c names bytes named text_is are =
     let v : TwinValues = record { file = view_of c.args.file.now; first = c.args.tables.now.first; second = c.args.tables.now.second } in
     ring_compared c.args.width bytes v _ _ c.args.text.now c.in-Ok.recorded c.in-Ok-ring_offsets.offsets c.in-Ok-moved_rows.moved
     (record {

@@ -1,48 +1,42 @@
-use Rattle.std.proofs.Common.{◌≡◌, ◌∙◌, ◌++◌, ◌∷◌, [], ap, arith, sym, subst, Option, Ok}
-use Rattle.group_plan.specs.Plans.{PlanView}
+use Rattle.std.proofs.Common.{◌≡◌, ◌∙◌, ◌++◌, ◌∷◌, [], ap, sym, subst, Option, Ok}
+use Rattle.std.proofs.lemmas.List.Elements.{All-nil}
 use Rattle.transcript_log.specs.declared.Entry.{Entry}
-use Rattle.transcript_log.specs.Transcripts.{TranscriptView, Fits, last_tick_from}
-use Rattle.transcript_text.specs.Readers.{IsRead, NextEnds}
-use Rattle.transcript_text.proofs.EntryLoop.{last-push, one_more, none_left, fault_left}
-use Rattle.transcript_text.proofs.Failing.{failed}
+use Rattle.transcript_log.specs.Transcripts.{TranscriptView, last_tick_from}
+use Rattle.transcript_text.specs.Ahead.{IsPieceOf}
+use Rattle.transcript_text.specs.Readers.{IsRead, NextEnds, ReaderView}
+use Rattle.transcript_text.proofs.EntryLoop.{last-push, last_behind, one_more, some_more}
 use Rattle.transcript_text.proofs.lines.put_entries.Goals as goal
 
-pub push-requires : goal.push-requires
-push-requires c =
+pub entries-preserved-in-Some : goal.entries-preserved-in-Some
+entries-preserved-in-Some g c =
     let s = c.entries.invariant in
-    let read : IsRead c.entries.reader c.in-Ok-Some.entry c.next.new.self = subst (λ (o : Option Entry). NextEnds c.entries.reader (Ok o) c.next.new.self) c.in-Ok-Some.field-0-is c.in-Ok-Some.ensures in
-    let last = s.last in
-    let tick = read.tick in
+    let filled = c.in-Some.ensures.entries in
+    let put = c.in_ok-put_all.ensures in
+    let front = c.entries.transcript.entries in
+    let es = c.in-Some.entries.items in
+    let more : c.put_all.new.transcript.entries ≡ front ++ es = ap (λ (t : TranscriptView). t.entries) put ∙ ap (λ q. front ++ q) c.deref.ensures.value in
     record {
-      tick = omega (arith, last, tick);
-      fits = subst (λ (p : PlanView). Fits p c.in-Ok-Some.entry) (sym s.plan) read.fits;
+      plan = ap (λ (t : TranscriptView). t.plan) put ∙ s.plan ∙ sym filled.plan;
+      same = filled.plan ∙ s.same;
+      last = ap (last_tick_from 0) more ∙ last_behind 0 front es ∙ ap (λ last. last_tick_from last es) s.last ∙ sym filled.last;
+      so_far = rw more (some_more front c.entries.reader.left _ s.so_far es c.next_entries.new.reader.left filled.left);
+      pieces = c.in-Some.ensures.pieces;
     }
 
 pub entries-preserved : goal.entries-preserved
-entries-preserved c =
+entries-preserved g c =
     let s = c.entries.invariant in
     let entry = c.in-Ok-Some.entry in
-    let read : IsRead c.entries.reader entry c.next.new.self = subst (λ (o : Option Entry). NextEnds c.entries.reader (Ok o) c.next.new.self) c.in-Ok-Some.field-0-is c.in-Ok-Some.ensures in
-    let made = c.in_ok-push-in-Ok-Some.ensures in
+    let kept = c.in_default.ensures.entries in
+    let read : IsRead c.next_entries.new.reader entry c.next.new.self = subst (λ (o : Option Entry). NextEnds c.next_entries.new.reader (Ok o) c.next.new.self) c.in-Ok-Some.field-0-is c.in-Ok-Some.ensures in
+    let put = c.in_ok-push-in-Ok-Some.ensures in
     let front = c.entries.transcript.entries in
-    let more : c.push.new.self.entries ≡ front ++ entry ∷ [] = ap (λ (t : TranscriptView). t.entries) made in
+    let more : c.push.new.self.entries ≡ front ++ entry ∷ [] = ap (λ (t : TranscriptView). t.entries) put in
+    let none : c.clear.new.self.items ≡ [] = c.clear.ensures.items in
     record {
-      plan = ap (λ (t : TranscriptView). t.plan) made ∙ s.plan ∙ sym read.plan;
-      same = read.plan ∙ s.same;
+      plan = ap (λ (t : TranscriptView). t.plan) put ∙ s.plan ∙ sym (ap (λ (v : ReaderView). v.plan) kept) ∙ sym read.plan;
+      same = read.plan ∙ ap (λ (v : ReaderView). v.plan) kept ∙ s.same;
       last = ap (last_tick_from 0) more ∙ last-push 0 front entry ∙ sym read.last;
-      so_far = rw more (one_more front c.entries.reader.left _ s.so_far entry c.next.new.self.left read.left);
+      so_far = rw more (one_more front c.entries.reader.left _ s.so_far entry c.next.new.self.left (sym (ap (λ (v : ReaderView). v.left) kept) ∙ read.left));
+      pieces = rw none (All-nil (IsPieceOf c.next.new.self.version c.next.new.self.plan c.next.new.self.text));
     }
-
-pub entries-smaller : goal.entries-smaller
-entries-smaller c =
-    let read : IsRead c.entries.reader c.in-Ok-Some.entry c.next.new.self = subst (λ (o : Option Entry). NextEnds c.entries.reader (Ok o) c.next.new.self) c.in-Ok-Some.field-0-is c.in-Ok-Some.ensures in
-    let bytes = read.bytes in
-    omega (arith, bytes)
-
-pub returns-in-Ok-None-clause-entries : goal.returns-in-Ok-None-clause-entries
-returns-in-Ok-None-clause-entries c =
-    let ends = subst (λ (o : Option Entry). NextEnds c.entries.reader (Ok o) c.next.new.self) c.in-Ok-None.field-0-is c.in-Ok-None.ensures in
-    none_left c.entries.transcript.entries c.entries.reader.left _ c.entries.invariant.so_far ends.0
-
-pub returns-in-Err-clause-entries : goal.returns-in-Err-clause-entries
-returns-in-Err-clause-entries c = failed c.in-Err.fault _ (fault_left c.entries.transcript.entries c.entries.reader.left _ c.entries.invariant.so_far c.in-Err.fault c.in-Err.ensures.0)

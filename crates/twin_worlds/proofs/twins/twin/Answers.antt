@@ -11,7 +11,7 @@ use Rattle.twin_worlds.proofs.TwinLemmas.{world-refused, tables-refused, twins-a
 use Rattle.twin_worlds.proofs.twins.twin.Goals as goal
 
 pub returns-in_err-transcript : goal.returns-in_err-transcript
-returns-in_err-transcript c =
+returns-in_err-transcript g c =
     let x = c.args.first.now in
     let y = c.args.second.now in
     let m = streams (table_of c.args.keys.now) in
@@ -21,7 +21,7 @@ returns-in_err-transcript c =
     subst (TwinEnds m x y text) answered (world-refused m x y text e (subst (λ k. SameWorldEnds k x text (Err e)) c.new-masks.ensures.words c.in_err-transcript.ensures))
 
 pub returns-in_err-offsets : goal.returns-in_err-offsets
-returns-in_err-offsets c =
+returns-in_err-offsets g c =
     let x = c.args.first.now in
     let y = c.args.second.now in
     let m = streams (table_of c.args.keys.now) in
@@ -33,11 +33,11 @@ returns-in_err-offsets c =
     subst (TwinEnds m x y text) answered (tables-refused m x y text t e is c.in_err-offsets.ensures)
 
 pub moved_rows-requires-clause-places : goal.moved_rows-requires-clause-places
-moved_rows-requires-clause-places c =
+moved_rows-requires-clause-places g c =
     subst (λ p. AreOfPlan p c.in_ok-offsets.offsets) (c.requires.first ∙ sym (c.new-masks.ensures.plan ∙ c.requires.keys)) c.in_ok-offsets.ensures.2
 
 pub returns : goal.returns
-returns c =
+returns g c =
     let x = c.args.first.now in
     let y = c.args.second.now in
     let m = streams (table_of c.args.keys.now) in

@@ -1,9 +1,9 @@
 use Rattle.transcript_text.specs.Heads.{read_of}
 use Rattle.transcript_text.proofs.ReaderLemmas.{gives_all, plan_read, text_found}
-use Rattle.transcript_text.proofs.reader.read_version.Goals as goal
+use Rattle.transcript_text.proofs.reader.read_in_pieces.Goals as goal
 
 pub returns : goal.returns
-returns c =
+returns g c =
     let reader = c.in-Ok.reader in
     let begun = c.in-Ok.ensures.begins in
     let read = c.entries.ensures in
