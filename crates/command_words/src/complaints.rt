@@ -193,14 +193,14 @@ fn line_complaint(alloc: Global, name: &str, line: u64, cause: &str) -> Result<V
     named(alloc, "meteragg: ", name, &after)
 }
 
-// A row of a report, or `nothing` where there is none.
+// Adds a row of a report, or `nothing` where there is none.
 #[tactic(auto, unfolding(crate::specs::Outcomes::row_or_nothing))]
-fn row_or_nothing(alloc: Global, row: &Option<ReportRow>) -> Result<Vec<u8>, AllocError>
-    ensures { IfOk result (λ text. text.items ≡ row_or_nothing row.now) }
+fn put_row(text: &mut Vec<u8>, alloc: Global, row: &Option<ReportRow>) -> Result<(), AllocError>
+    ensures { OnOk result (text.new.items ≡ text.old.items ++ row_or_nothing row.now) }
 {
     match row {
-        None => Ok(String::from_str(alloc, "nothing")?.into_bytes()),
-        Some(row) => row_text(alloc, row),
+        None => text.extend_from_slice(b"nothing"),
+        Some(row) => text.extend_from_slice(&row_text(alloc, row)?),
     }
 }
 
@@ -215,11 +215,19 @@ fn row_complaint(
     ensures { IfOk result (λ text. text.items ≡ row_complaint at from_frames.now reported.now) }
 {
     let mut text = format!(in alloc; "meteragg: row {at}: from frames ")?.into_bytes();
-    text.extend_from_slice(&row_or_nothing(alloc, from_frames)?)?;
+    put_row(&mut text, alloc, from_frames)?;
     text.extend_from_slice(b", reported ")?;
-    text.extend_from_slice(&row_or_nothing(alloc, reported)?)?;
+    put_row(&mut text, alloc, reported)?;
     text.extend_from_slice(b"\n")?;
     Ok(text)
+}
+
+// Adds the line of an entry.
+fn put_line(text: &mut Vec<u8>, alloc: Global, entry: &Entry) -> Result<(), AllocError>
+    requires { IsWritable entry.now.line }
+    ensures { OnOk result (text.new.items ≡ text.old.items ++ entry_text Two entry.now) }
+{
+    text.extend_from_slice(&line_text(alloc, entry)?)
 }
 
 // The complaint of a line of a transcript that should be another.
@@ -235,9 +243,17 @@ fn expected_complaint(
 {
     let after = format!(in alloc; " line {line}: expected ")?;
     let mut text = named(alloc, "meteragg: ", name, &after)?;
-    text.extend_from_slice(&line_text(alloc, expected)?)?;
+    put_line(&mut text, alloc, expected)?;
     text.extend_from_slice(b"\n")?;
     Ok(text)
+}
+
+// The complaint of a faulty transcript.
+fn transcript_complaint(alloc: Global, name: &str, fault: ReadError) -> Result<Vec<u8>, AllocError>
+    ensures { IfOk result (λ text. text.items ≡ line_complaint name.now (fault_line fault) (read_error_name fault)) }
+{
+    let cause = read_error_name(alloc, fault)?;
+    line_complaint(alloc, name, fault_line(fault), &cause)
 }
 
 // The complaint of a name, and what is wrong with its file.
@@ -267,10 +283,7 @@ fn name_complaint(alloc: Global, outcome: &Outcome<'_>) -> Result<Vec<u8>, Alloc
         Outcome::BadPlan(name, fault) | Outcome::BadReadings(name, fault) => {
             file_complaint(alloc, name, *fault)
         }
-        Outcome::BadTranscript(name, fault) => {
-            let cause = read_error_name(alloc, *fault)?;
-            line_complaint(alloc, name, fault_line(*fault), &cause)
-        }
+        Outcome::BadTranscript(name, fault) => transcript_complaint(alloc, name, *fault),
         Outcome::BadReport(name, line) | Outcome::BadJournalLine(name, line) => {
             line_complaint(alloc, name, *line, "Line")
         }
