@@ -55,7 +55,22 @@ fn collected(
     }
 }
 
-// What the parcels of a batch become on a shared book, where so many workers commit it.
+// What the parcels of a batch become, where so many workers commit it behind the first pass.
+fn outcomes_of(
+    rt: &(impl Threads + Wait + Sync),
+    alloc: Global,
+    shared: &SharedBook,
+    first: &mut Pass,
+    batch: &[Parcel],
+    workers: u32,
+    gate: &Watch,
+) -> Result<Vec<Outcome>, Fail>
+    requires { IsPassOf shared.now first.old × (view first.old ≡ new_pass 0 []) × (1 ≤ workers) × (workers ≤ 16) }
+{
+    Ok(gather(rt, alloc, shared, first, batch, workers, gate)?)
+}
+
+// The same on a shared book of its own.
 fn gathered(
     rt: &(impl Threads + Wait + Sync),
     alloc: Global,
@@ -68,7 +83,7 @@ fn gathered(
         return Err(Fail::new("too many"));
     }
     let (shared, mut first) = shared_of(alloc, book)?;
-    Ok(gather(rt, alloc, &shared, &mut first, batch, workers, gate)?)
+    outcomes_of(rt, alloc, &shared, &mut first, batch, workers, gate)
 }
 
 // Looks for the marks of a batch that was collected, and for the number of lines that the book then has.
