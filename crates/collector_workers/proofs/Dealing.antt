@@ -12,7 +12,7 @@ use Rattle.transcript_log.specs.declared.Event.{Event}
 use Rattle.transcript_log.specs.declared.Event.TheVariants.{Take as TakeEvent, Close, End}
 use Rattle.transcript_log.specs.Events.{event_of}
 use Rattle.group_book.specs.Books.{BookView, posted_in}
-use Rattle.group_book.specs.ByGroup.{group_of}
+use Rattle.transcript_log.specs.ByGroup.{group_of}
 use Rattle.group_book.specs.Places.{is_round}
 use Rattle.group_plan.specs.Plans.{is_place}
 use Rattle.shared_book.specs.declared.parcel.Parcel.{Parcel}

@@ -20,7 +20,7 @@ use Rattle.transcript_log.specs.Journal.{IsJournalAfter}
 use Rattle.group_book.specs.declared.book.Parts.{Parts}
 use Rattle.group_book.specs.Books.{BookView, shape_of, posted_in, is_plain}
 use Rattle.group_book.specs.declared.answers.TakeError.TheVariants.{Unknown}
-use Rattle.group_book.specs.ByGroup.{group_of, lines_in}
+use Rattle.transcript_log.specs.ByGroup.{group_of, lines_in}
 use Rattle.group_book.specs.Replay.{IsLedger, AreReplayed}
 use Rattle.group_book.proofs.PlainLines.{posted_in-added}
 use Rattle.group_book.proofs.OwnLines.{groups_stay}

@@ -4,7 +4,7 @@ use Rattle.meter_frames.specs.declared.FrameError.{FrameError}
 use Rattle.transcript_log.specs.declared.Line.{Line}
 use Rattle.transcript_log.specs.Events.{event_of}
 use Rattle.group_book.specs.Books.{BookView}
-use Rattle.group_book.specs.ByGroup.{group_of}
+use Rattle.transcript_log.specs.ByGroup.{group_of}
 use Rattle.shared_book.specs.declared.parcel.Parcel.{Parcel}
 use Rattle.shared_book.specs.declared.parcel.Request.{Request}
 use Rattle.shared_book.specs.declared.parcel.Reply.{Reply}

@@ -11,7 +11,7 @@ use Rattle.group_plan.proofs.MeterNumbers.{group-lt, in_place}
 use Rattle.transcript_log.specs.declared.Line.{Line}
 use Rattle.transcript_log.specs.Events.{event_of}
 use Rattle.transcript_log.specs.Lines.{LinesView}
-use Rattle.group_book.specs.ByGroup.{group_of}
+use Rattle.transcript_log.specs.ByGroup.{group_of}
 use Rattle.group_book.specs.Books.{BookView}
 use Rattle.group_book.specs.Groups.{GroupView}
 use Rattle.group_book.specs.Replay.{Replays, IsGroup, AreReplayed, PagesEnd, book_at}

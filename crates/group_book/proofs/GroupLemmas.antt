@@ -35,7 +35,7 @@ use Rattle.transcript_log.specs.Journal.{past_of}
 use Rattle.transcript_log.proofs.ScheduleLemmas.{once-gives, missing-closed, is_announced-from_sent, is_closed-from_answer, is_reading_taken-from_answer, is_announced-from_answer, present-from_taken}
 use Rattle.transcript_log.proofs.ListLemmas.{and_first, and_last}
 use Rattle.transcript_log.specs.Lines.{LinesView}
-use Rattle.group_book.specs.ByGroup.{group_of}
+use Rattle.transcript_log.specs.ByGroup.{group_of}
 use Rattle.group_book.specs.Groups.{GroupView, holds, word_in}
 use Rattle.std.proofs.lemmas.List.Elements.{All-nil, All-cons}
 use Rattle.group_book.specs.Pages.{PageView, taken_in, PageTakes, can_take}

@@ -8,7 +8,6 @@ pub mod CallLemmas
 pub mod PlainLines
 pub mod StartLemmas
 pub mod TableLemmas
-pub mod EventsByGroup
 pub mod LinesByGroup
 pub mod OwnLines
 pub mod BookLemmas

@@ -3,7 +3,7 @@ use Rattle.std.proofs.Common.{◌≡◌, ℕ, Bool, true, false, cond, not, ◌&
 use Rattle.std.specs.Prelude.{◌==◌, ◌↔◌, if◌then◌else◌, Option, Some, None, is_some}
 use Rattle.std.specs.List.{filter, All}
 use mathlib.Core.Path.{fun_ext}
-use mathlib.Core.List.{reverse_aux, reverse}
+use mathlib.Core.List.{reverse}
 use Rattle.std.proofs.lemmas.Bool.{eq-eqb, eqb-true}
 use Rattle.std.proofs.lemmas.List.Elements.{filter-append, All-head, All-tail}
 use Rattle.missing_round.specs.Words.{frame_total}
@@ -24,9 +24,9 @@ use Rattle.transcript_log.specs.Frames.{word_or_zero, first_word, contents_of_li
 use Rattle.transcript_log.specs.Journal.{past_of, core_line, IsJournalAfter}
 use Rattle.group_book.specs.Books.{posted}
 use Rattle.group_book.specs.Replay.{HasOwnFrames, IsJournal}
-use Rattle.group_book.specs.ByGroup.{group_of, events_in, lines_in}
+use Rattle.transcript_log.specs.ByGroup.{group_of, events_in, lines_in}
 use Rattle.group_book.proofs.LineLemmas.{IsCore, HasOwnFrame, first_word-posted}
-use Rattle.group_book.proofs.EventsByGroup.{send-elsewhere, closed-in, ended-in, announced-in, all_taken-in, lacking-in, survivors-in, may_send-in, verdict-in, closing-in, set_sent-in}
+use Rattle.transcript_log.proofs.EventsByGroup.{reverse_aux-filter, send-elsewhere, closed-in, ended-in, announced-in, all_taken-in, lacking-in, survivors-in, may_send-in, verdict-in, closing-in, set_sent-in}
 
 -- ---- the events of a group's lines
 
@@ -38,14 +38,6 @@ map-filter t (l ∷ ls) = step (t (event_of l)) (map-filter t ls)
         → map event_of (cond b (l ∷ filter (λ l. t (event_of l)) ls) (filter (λ l. t (event_of l)) ls)) ≡ cond b (event_of l ∷ filter t (map event_of ls)) (filter t (map event_of ls))
     step true rest = ap (λ es. event_of l ∷ es) rest
     step false rest = rest
-
-pub reverse_aux-filter : (t : Event → Bool) (xs ys : List Event) → filter t (reverse_aux xs ys) ≡ reverse_aux (filter t xs) (filter t ys)
-reverse_aux-filter t [] ys = refl
-reverse_aux-filter t (x ∷ xs) ys = reverse_aux-filter t xs (x ∷ ys) ∙ step (t x)
-  where
-    step : (b : Bool) → reverse_aux (filter t xs) (cond b (x ∷ filter t ys) (filter t ys)) ≡ reverse_aux (cond b (x ∷ filter t xs) (filter t xs)) (filter t ys)
-    step true = refl
-    step false = refl
 
 pub past-in : (g : ℕ) (j : List Line) → past_of (lines_in g j) ≡ events_in g (past_of j)
 past-in g j = ap reverse (map-filter (λ e. group_of e == g) j) ∙ sym (reverse_aux-filter (λ e. group_of e == g) (map event_of j) [])

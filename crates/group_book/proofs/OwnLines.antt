@@ -15,10 +15,10 @@ use Rattle.transcript_log.specs.Frames.{first_word}
 use Rattle.transcript_log.specs.Journal.{past_of}
 use Rattle.group_book.specs.Pages.{PageView}
 use Rattle.group_book.specs.Books.{posted}
-use Rattle.group_book.specs.ByGroup.{events_in, lines_in}
+use Rattle.transcript_log.specs.ByGroup.{events_in, lines_in}
 use Rattle.group_book.specs.Groups.{GroupView}
 use Rattle.group_book.specs.Replay.{IsPage, IsWord, frame_with, IsLedger, Replays}
-use Rattle.group_book.proofs.EventsByGroup.{closed-in, ended-in, taken-in, set_sent-in}
+use Rattle.transcript_log.proofs.EventsByGroup.{closed-in, ended-in, taken-in, set_sent-in}
 use Rattle.group_book.proofs.LinesByGroup.{past-in, posted-in, first_word-in}
 
 module _ (s : Shape) (g : ℕ) (one other : List Line) (same : lines_in g other ≡ lines_in g one) where

@@ -6,7 +6,7 @@ use Rattle.transcript_log.specs.declared.Line.{Line}
 use Rattle.transcript_log.specs.Schedule.{Shape}
 use Rattle.transcript_log.specs.Journal.{core_line}
 use Rattle.group_plan.specs.Tables.{PresenceView}
-use Rattle.group_book.specs.ByGroup.{group_of, lines_in}
+use Rattle.transcript_log.specs.ByGroup.{group_of, lines_in}
 use Rattle.group_book.specs.Groups.{GroupView}
 use Rattle.group_book.specs.Replay.{IsJournal, IsLedger, Replays}
 

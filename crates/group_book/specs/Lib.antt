@@ -7,5 +7,4 @@ pub mod Books
 pub mod BookParts
 pub mod Replay
 pub mod Tables
-pub mod ByGroup
 pub mod GroupLaws

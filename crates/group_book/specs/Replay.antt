@@ -15,7 +15,7 @@ use Rattle.transcript_log.specs.Frames.{first_word, contents_of_lines}
 use Rattle.transcript_log.specs.Journal.{past_of, IsJournalAfter}
 use Rattle.transcript_log.specs.Lines.{LinesView}
 use Rattle.group_book.specs.Pages.{PageView, taken_in}
-use Rattle.group_book.specs.ByGroup.{group_of}
+use Rattle.transcript_log.specs.ByGroup.{group_of}
 use Rattle.transcript_log.specs.Events.{event_of}
 use Rattle.group_book.specs.Groups.{GroupView, group_tags, word_in}
 use Rattle.group_book.specs.Books.{BookView, posted}

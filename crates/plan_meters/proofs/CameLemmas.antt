@@ -17,7 +17,6 @@ use Rattle.transcript_log.specs.Schedule.{Shape, shape_of_presence, missing}
 use Rattle.transcript_log.proofs.EventLemmas.{is_send-true}
 use Rattle.run_rows.specs.Ticks.{Clock, clock_of, tag_of}
 use Rattle.plan_meters.specs.Came.{same_tag, tags_of}
-use Rattle.group_book.specs.Books.{past}
 use Rattle.plan_meters.specs.TickFrames.{was_taken, announced_set, answer_to, answers_to, CanAnswer, AreAnswerable, AreHeard, IsHeardIn}
 use Rattle.plan_meters.specs.Meters.{is_announcement, HasSet}
 use Rattle.plan_meters.proofs.GroupLemmas.{told-place, told-not_missing, missing-places, flat_window}

@@ -7,14 +7,15 @@ use Rattle.std.proofs.lemmas.List.{get_or-set_same, get_or-set_other, get_or-map
 use Rattle.missing_round.specs.Sets.{is_member as is_in}
 use Rattle.missing_round.proofs.SetLemmas.{is_member-picked}
 use Rattle.group_plan.specs.Plans.{PlanView, size, is_member, members}
+use Rattle.group_plan.specs.Tables.{PresenceView}
 use Rattle.group_plan.specs.declared.Kind.TheVariants.{Announcement}
 use Rattle.group_plan.specs.declared.Tag.{Tag}
 use Rattle.meter_core.specs.Meters.{MeterView, marked, kept_set, Hears}
 use Rattle.meter_core.specs.declared.Heard.{Heard}
 use Rattle.transcript_log.specs.Events.{same_kind}
 use Rattle.run_rows.specs.Ticks.{clock_of, tag_of}
-use Rattle.transcript_log.specs.Schedule.{members_of, missing, is_announcement_taken}
-use Rattle.group_book.specs.Books.{BookView, shape_of, past}
+use Rattle.transcript_log.specs.declared.Event.{Event}
+use Rattle.transcript_log.specs.Schedule.{shape_of_presence, members_of, missing, is_announcement_taken}
 use Rattle.meter_frames.specs.declared.Frame.{Frame}
 use Rattle.plan_meters.specs.Came.{same_tag, tags_of}
 use Rattle.plan_meters.specs.TickFrames.{was_taken, AreHeard}
@@ -31,25 +32,25 @@ pub member-in : (plan : PlanView) (g r i : ℕ) → i < size plan.groups g → i
 member-in plan g r i below is = is_member-picked (is_member plan.groups g r) 0 (size plan.groups g) i (omega arith) (omega arith) ∙ is
 
 -- the meters of a group, once one more is marked
-pub group-marked : (b : BookView) (t g k : ℕ) (meters : List MeterView) (meter after : MeterView) (set : List ℕ) → t < b.presence.plan.rounds → (shape_of b).present g t k ≡ true → set ≡ members_of (shape_of b) g t
-    → meter ≡ get_or meters k meter → k < length meters → after ≡ marked (get_or meters k meter) t set → Upto (λ u. IsMeterOf b u g) t k (size b.presence.plan.groups g) meters
-    → Upto (λ u. IsMeterOf b u g) t (k + 1) (size b.presence.plan.groups g) (slice_set meters k after)
-group-marked b t g k meters meter after set in_plan present members is lt mark so_far =
-    let was : IsMeterOf b t g k meter = upto-at (λ u. IsMeterOf b u g) t k (size b.presence.plan.groups g) meters meter is lt so_far in
-    let now : after ≡ marked meter t (members_of (shape_of b) g t) = mark ∙ ap (λ m. marked m t set) (sym is) ∙ ap (marked meter t) members in
-    upto-more (λ u. IsMeterOf b u g) t k (size b.presence.plan.groups g) meters after (subst (IsMeterOf b (t + 1) g k) (sym now) (read-marked (shape_of b) b.presence.plan.rounds t (past b) g k meter in_plan present was)) so_far
+pub group-marked : (p : PresenceView) (past : List Event) (t g k : ℕ) (meters : List MeterView) (meter after : MeterView) (set : List ℕ) → t < p.plan.rounds → (shape_of_presence p).present g t k ≡ true → set ≡ members_of (shape_of_presence p) g t
+    → meter ≡ get_or meters k meter → k < length meters → after ≡ marked (get_or meters k meter) t set → Upto (λ u. IsMeterOf p past u g) t k (size p.plan.groups g) meters
+    → Upto (λ u. IsMeterOf p past u g) t (k + 1) (size p.plan.groups g) (slice_set meters k after)
+group-marked p past t g k meters meter after set in_plan present members is lt mark so_far =
+    let was : IsMeterOf p past t g k meter = upto-at (λ u. IsMeterOf p past u g) t k (size p.plan.groups g) meters meter is lt so_far in
+    let now : after ≡ marked meter t (members_of (shape_of_presence p) g t) = mark ∙ ap (λ m. marked m t set) (sym is) ∙ ap (marked meter t) members in
+    upto-more (λ u. IsMeterOf p past u g) t k (size p.plan.groups g) meters after (subst (IsMeterOf p past (t + 1) g k) (sym now) (read-marked (shape_of_presence p) p.plan.rounds t past g k meter in_plan present was)) so_far
 
 -- one more has nothing to read
-pub group-passed : (b : BookView) (t g k : ℕ) (meters : List MeterView) → (shape_of b).present g t k ≡ false → Upto (λ u. IsMeterOf b u g) t k (size b.presence.plan.groups g) meters
-    → Upto (λ u. IsMeterOf b u g) t (k + 1) (size b.presence.plan.groups g) meters
-group-passed b t g k meters absent so_far =
-    upto-pass (λ u. IsMeterOf b u g) t k (size b.presence.plan.groups g) meters (λ m is. read-none (shape_of b) b.presence.plan.rounds t (past b) g k m (λ _ present. false≢true (sym absent ∙ present)) is) so_far
+pub group-passed : (p : PresenceView) (past : List Event) (t g k : ℕ) (meters : List MeterView) → (shape_of_presence p).present g t k ≡ false → Upto (λ u. IsMeterOf p past u g) t k (size p.plan.groups g) meters
+    → Upto (λ u. IsMeterOf p past u g) t (k + 1) (size p.plan.groups g) meters
+group-passed p past t g k meters absent so_far =
+    upto-pass (λ u. IsMeterOf p past u g) t k (size p.plan.groups g) meters (λ m is. read-none (shape_of_presence p) p.plan.rounds t past g k m (λ _ present. false≢true (sym absent ∙ present)) is) so_far
 
 -- in no round there is nothing to read
-pub own-over : (b : BookView) (t g : ℕ) (meters : List MeterView) → b.presence.plan.rounds ≤ t → AreOfGroup b t g meters → AreOfGroup b (t + 1) g meters
-own-over b t g meters over are =
-    range_weaker (IsMeterOf b t g) (IsMeterOf b (t + 1) g) 0 (size b.presence.plan.groups g) meters
-    (λ i meter _ _ is. read-none (shape_of b) b.presence.plan.rounds t (past b) g i meter (λ below _. omega arith) is) are
+pub own-over : (p : PresenceView) (past : List Event) (t g : ℕ) (meters : List MeterView) → p.plan.rounds ≤ t → AreOfGroup p past t g meters → AreOfGroup p past (t + 1) g meters
+own-over p past t g meters over are =
+    range_weaker (IsMeterOf p past t g) (IsMeterOf p past (t + 1) g) 0 (size p.plan.groups g) meters
+    (λ i meter _ _ is. read-none (shape_of_presence p) p.plan.rounds t past g i meter (λ below _. omega arith) is) are
 
 -- ---- the announcements that came
 
@@ -66,8 +67,8 @@ same_own tag is =
     (and_from (tag.group == tag.group) (tag.round == tag.round) (eq-eqb tag.group tag.group refl) (eq-eqb tag.round tag.round refl)) (eq-eqb tag.meter tag.meter refl)) is
 
 -- each was told, where its tag is heard and its set is the missing one
-pub are-told : (b : BookView) (t : ℕ) (came : List Frame) → AreHeard (shape_of b) (clock_of b.presence.plan) (past b) t (tags_of came) → All (HasSet (shape_of b) (past b)) came → AreTold b (t + 1) came
-are-told b t came heard sets k d lt is =
+pub are-told : (p : PresenceView) (past : List Event) (t : ℕ) (came : List Frame) → AreHeard (shape_of_presence p) (clock_of p.plan) past t (tags_of came) → All (HasSet (shape_of_presence p) past) came → AreTold p past (t + 1) came
+are-told p past t came heard sets k d lt is =
     let f : Frame = get_or came k d in
     let tag : Tag = f.tag in
     let taken : was_taken (tags_of came) (tag_of Announcement tag.group tag.round tag.meter) ≡ true
@@ -82,25 +83,25 @@ are-told b t came heard sets k d lt is =
 
 -- ---- hearing
 
-pub own-meter : (b : BookView) (t : ℕ) (meters : List MeterView) (f : Frame) → AreGroupMeters b t f.tag.group meters → IsTold b t f → f.tag.meter < length meters
-own-meter b t meters f are told =
-    let plan : PlanView = b.presence.plan in
+pub own-meter : (p : PresenceView) (past : List Event) (t : ℕ) (meters : List MeterView) (f : Frame) → AreGroupMeters p past t f.tag.group meters → IsTold p past t f → f.tag.meter < length meters
+own-meter p past t meters f are told =
+    let plan : PlanView = p.plan in
     let tag : Tag = f.tag in
     let below : tag.meter < size plan.groups tag.group
-    = ltb-true tag.meter (size plan.groups tag.group) (and_parts (nat_lt tag.round plan.rounds) (nat_lt tag.meter (size plan.groups tag.group)) (told-place b.presence tag.group tag.round tag.meter (past b) are.table told.round told.taken)).1 in
-    omega (arith, below, range_long (IsMeterOf b t tag.group) 0 (size plan.groups tag.group) meters are.are)
+    = ltb-true tag.meter (size plan.groups tag.group) (and_parts (nat_lt tag.round plan.rounds) (nat_lt tag.meter (size plan.groups tag.group)) (told-place p tag.group tag.round tag.meter past are.table told.round told.taken)).1 in
+    omega (arith, below, range_long (IsMeterOf p past t tag.group) 0 (size plan.groups tag.group) meters are.are)
 
-pub own-meter-at : (b : BookView) (t g i : ℕ) (meters : List MeterView) (meter : MeterView) → AreGroupMeters b t g meters → i < length meters → meter ≡ get_or meters i meter → IsMeterOf b t g i meter
-own-meter-at b t g i meters meter are lt here = range_item (IsMeterOf b t g) (size b.presence.plan.groups g) i meters meter here lt are.are
+pub own-meter-at : (p : PresenceView) (past : List Event) (t g i : ℕ) (meters : List MeterView) (meter : MeterView) → AreGroupMeters p past t g meters → i < length meters → meter ≡ get_or meters i meter → IsMeterOf p past t g i meter
+own-meter-at p past t g i meters meter are lt here = range_item (IsMeterOf p past t g) (size p.plan.groups g) i meters meter here lt are.are
 
 -- once one meter has heard of an announced set
-pub heard-own : (b : BookView) (t g i r : ℕ) (meters : List MeterView) (meter after : MeterView) (said : Heard) → AreGroupMeters b t g meters → i < length meters → meter ≡ get_or meters i meter
-    → is_announcement_taken (shape_of b) g r i (past b) ≡ true → Hears meter r (missing (shape_of b) g r (past b)) said after → AreGroupMeters b t g (slice_set meters i after)
-heard-own b t g i r meters meter after said are lt here told hears =
-    let new : IsMeterOf b t g i after = heard-is (shape_of b) b.presence.plan.rounds t (past b) g r i meter after said (own-meter-at b t g i meters meter are lt here) told hears in
+pub heard-own : (p : PresenceView) (past : List Event) (t g i r : ℕ) (meters : List MeterView) (meter after : MeterView) (said : Heard) → AreGroupMeters p past t g meters → i < length meters → meter ≡ get_or meters i meter
+    → is_announcement_taken (shape_of_presence p) g r i past ≡ true → Hears meter r (missing (shape_of_presence p) g r past) said after → AreGroupMeters p past t g (slice_set meters i after)
+heard-own p past t g i r meters meter after said are lt here told hears =
+    let new : IsMeterOf p past t g i after = heard-is (shape_of_presence p) p.plan.rounds t past g r i meter after said (own-meter-at p past t g i meters meter are lt here) told hears in
     record {
       table = are.table;
-      are = range_set (IsMeterOf b t g) (IsMeterOf b t g) 0 (size b.presence.plan.groups g) i meters after (λ j z _ h. h) (subst (λ j. IsMeterOf b t g j after) (sym (zero-add i)) new) are.are;
+      are = range_set (IsMeterOf p past t g) (IsMeterOf p past t g) 0 (size p.plan.groups g) i meters after (λ j z _ h. h) (subst (λ j. IsMeterOf p past t g j after) (sym (zero-add i)) new) are.are;
     }
 
 pub heard-own_now : (meters : List MeterView) (f : Frame) (meter after : MeterView) (said : Heard) → f.tag.meter < length meters → Hears meter f.tag.round f.missing said after → is_answer said ≡ true

@@ -3,7 +3,7 @@ use Rattle.meter_frames.specs.declared.Frame.{Frame}
 use Rattle.std.specs.Prelude.{◌≡◌, ℕ, ◌<◌, nat_lt, ◌&&◌, Bool, true, false, List, length, All, filter, Option, Some, None, is_some}
 use Rattle.std.specs.List.{AllZip, range_with_len}
 use Rattle.group_plan.specs.Plans.{size}
-use Rattle.group_plan.specs.Tables.{ReadingsView, presence_of}
+use Rattle.group_plan.specs.Tables.{ReadingsView, PresenceView, presence_of}
 use Rattle.group_plan.specs.declared.Kind.TheVariants.{Announcement}
 use Rattle.group_plan.specs.declared.Tag.{Tag}
 use Rattle.meter_core.specs.Meters.{MeterView, note_at, kept_set}
@@ -11,8 +11,7 @@ use Rattle.meter_core.specs.declared.Heard.{Heard}
 use Rattle.meter_core.specs.declared.Heard.TheVariants.{Answer, AnswerAgain, Refused}
 use Rattle.transcript_log.specs.declared.Event.{Event}
 use Rattle.transcript_log.specs.Events.{same_kind}
-use Rattle.transcript_log.specs.Schedule.{Shape, members_of, floor_of, missing, is_announcement_taken}
-use Rattle.group_book.specs.Books.{BookView, shape_of, past}
+use Rattle.transcript_log.specs.Schedule.{Shape, shape_of_presence, members_of, floor_of, missing, is_announcement_taken}
 
 -- a meter that is marked read is so over the members of the round
 abbrev pub AreMembers : List ℕ → Option (List ℕ) → Type 0
@@ -33,22 +32,18 @@ pub record IsMeter (s : Shape) (n t : ℕ) (past : List Event) (g i : ℕ) (m : 
   pub members : (r : ℕ) → AreMembers (members_of s g r) (note_at m r).members
   pub kept : (r : ℕ) → IsKept s past g r i (kept_set m r)
 
--- the same of the book's plan after its past, before the readings of tick t are sent
-abbrev pub IsMeterOf : BookView → ℕ → ℕ → ℕ → MeterView → Type 0
-IsMeterOf b t g i m = IsMeter (shape_of b) b.presence.plan.rounds t (past b) g i m
+-- the same of who has readings, after these events, before the readings of tick t are sent
+abbrev pub IsMeterOf : PresenceView → List Event → ℕ → ℕ → ℕ → MeterView → Type 0
+IsMeterOf p past t g i m = IsMeter (shape_of_presence p) p.plan.rounds t past g i m
 
 -- the meters of group g, one after another
-abbrev pub AreOfGroup : BookView → ℕ → ℕ → List MeterView → Type 0
-AreOfGroup b t g meters = AllZip (IsMeterOf b t g) (range_with_len 0 (size b.presence.plan.groups g)) meters
+abbrev pub AreOfGroup : PresenceView → List Event → ℕ → ℕ → List MeterView → Type 0
+AreOfGroup p past t g meters = AllZip (IsMeterOf p past t g) (range_with_len 0 (size p.plan.groups g)) meters
 
--- a book, as one of these readings
-abbrev pub book_of : ReadingsView → BookView → BookView
-book_of readings b = record b { presence = presence_of readings }
-
--- by some book of these readings the meters of group g have read the rounds below t
+-- after some events the meters of group g with these readings have read the rounds below t
 pub record CanReadGroup (readings : ReadingsView) (t g : ℕ) (meters : List MeterView) : Type 0 where
-  pub book : BookView
-  pub are : AreOfGroup (book_of readings book) t g meters
+  pub past : List Event
+  pub are : AreOfGroup (presence_of readings) past t g meters
 
 -- ---- hearing
 
@@ -70,12 +65,12 @@ abbrev pub HasSet : Shape → List Event → Frame → Type 0
 HasSet s past f = is_announcement f.tag ≡ true → f.missing ≡ missing s f.tag.group f.tag.round past
 
 -- an announcement was taken with effect, of a round of the plan below t, and has the missing set
-pub record IsTold (b : BookView) (t : ℕ) (f : Frame) : Type 0 where
-  pub taken : is_announcement_taken (shape_of b) f.tag.group f.tag.round f.tag.meter (past b) ≡ true
-  pub round : f.tag.round < b.presence.plan.rounds
+pub record IsTold (p : PresenceView) (past : List Event) (t : ℕ) (f : Frame) : Type 0 where
+  pub taken : is_announcement_taken (shape_of_presence p) f.tag.group f.tag.round f.tag.meter past ≡ true
+  pub round : f.tag.round < p.plan.rounds
   pub early : f.tag.round < t
-  pub set : f.missing ≡ missing (shape_of b) f.tag.group f.tag.round (past b)
+  pub set : f.missing ≡ missing (shape_of_presence p) f.tag.group f.tag.round past
 
 -- so is each announcement among these frames
-abbrev pub AreTold : BookView → ℕ → List Frame → Type 0
-AreTold b t came = All (λ f. is_announcement f.tag ≡ true → IsTold b t f) came
+abbrev pub AreTold : PresenceView → List Event → ℕ → List Frame → Type 0
+AreTold p past t came = All (λ f. is_announcement f.tag ≡ true → IsTold p past t f) came

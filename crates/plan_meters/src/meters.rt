@@ -1,10 +1,10 @@
 //! What the meters of a group read and answer, one after another.
 
-ghost use Rattle.std.specs.Prelude.{◌≡◌, ◌+◌, ◌<◌, IfOk, IsTrue, is_some, length};
+ghost use Rattle.std.specs.Prelude.{◌≡◌, ◌+◌, ◌<◌, IfOk, IsTrue, is_some, length, List};
 ghost use Rattle.group_plan.specs.Plans.{is_place, is_member};
-ghost use Rattle.group_plan.specs.Tables.{reading};
-ghost use Rattle.group_book.specs.Books.{BookView};
-ghost use Rattle.plan_meters.specs.Meters.{AreOfGroup, book_of, CanReadGroup, is_answer, is_announcement};
+ghost use Rattle.group_plan.specs.Tables.{presence_of, reading};
+ghost use Rattle.transcript_log.specs.declared.Event.{Event};
+ghost use Rattle.plan_meters.specs.Meters.{AreOfGroup, CanReadGroup, is_answer, is_announcement};
 
 use group_plan::{Kind, Readings, Tag};
 use meter_core::{Heard, Meter};
@@ -18,7 +18,7 @@ pub(crate) fn new_group(
     group: u16,
 ) -> Result<Vec<Meter>, AllocError>
     requires { group < length readings.now.plan.groups }
-    ensures { IfOk result (λ meters. (b : BookView) → AreOfGroup (book_of readings.now b) 0 group meters.items) }
+    ensures { IfOk result (λ meters. (past : List Event) → AreOfGroup (presence_of readings.now) past 0 group meters.items) }
 {
     let plan = readings.plan();
     let floor = floor_of(plan, group);
@@ -44,7 +44,7 @@ pub(crate) fn read_group(meters: &mut [Meter], readings: &Readings, group: u16, 
     requires group { group < length readings.now.plan.groups }
     requires round { round < readings.now.plan.rounds }
     requires meters { CanReadGroup readings.now round group meters.old }
-    ensures { (b : BookView) → AreOfGroup (book_of readings.now b) round group meters.old → AreOfGroup (book_of readings.now b) (round + 1) group meters.new }
+    ensures { (past : List Event) → AreOfGroup (presence_of readings.now) past round group meters.old → AreOfGroup (presence_of readings.now) past (round + 1) group meters.new }
 {
     let members = members(readings.plan(), group, round);
     for meter in 0..readings.plan().meters(group) {

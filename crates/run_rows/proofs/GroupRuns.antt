@@ -14,9 +14,8 @@ use Rattle.transcript_log.specs.declared.Event.{Event}
 use Rattle.transcript_log.specs.declared.Entry.{Entry}
 use Rattle.transcript_log.specs.Events.{event_of, events_of, is_take, is_close, is_end}
 use Rattle.transcript_log.specs.Schedule.{Shape, members_of, survivors, is_announced}
-use Rattle.group_book.specs.ByGroup.{group_of, events_in}
-use Rattle.group_book.proofs.EventsByGroup.{send-elsewhere, take-elsewhere, close-elsewhere, end-elsewhere, announced-in, survivors-in}
-use Rattle.group_book.proofs.LinesByGroup.{reverse_aux-filter}
+use Rattle.transcript_log.specs.ByGroup.{group_of, events_in}
+use Rattle.transcript_log.proofs.EventsByGroup.{reverse_aux-filter, send-elsewhere, take-elsewhere, close-elsewhere, end-elsewhere, announced-in, survivors-in}
 use Rattle.run_rows.specs.Ticks.{Clock, last_tick, takes_at, copies, StandsOnce, in_plan, tag_of, tags, sent_at, due_of, tags_of, IsTickRun}
 use Rattle.run_rows.specs.ByGroup.{entries_in, AreGroupRuns}
 

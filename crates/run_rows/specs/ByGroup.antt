@@ -6,7 +6,7 @@ use Rattle.link_lanes.specs.Lanes.{Slot, fates_after}
 use Rattle.transcript_log.specs.declared.Entry.{Entry}
 use Rattle.transcript_log.specs.Events.{event_of, is_close, is_end}
 use Rattle.transcript_log.specs.Schedule.{Shape}
-use Rattle.group_book.specs.ByGroup.{group_of}
+use Rattle.transcript_log.specs.ByGroup.{group_of}
 use Rattle.run_rows.specs.Ticks.{Clock, last_tick, IsOrdered, takes_at, copies, StandsOnce, tags_of, sent_at, due_of, posts_of, IsTickRun}
 
 -- the entries of a group among these, in their order

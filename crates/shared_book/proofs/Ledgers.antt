@@ -12,10 +12,10 @@ use Rattle.transcript_log.specs.Events.{event_of}
 use Rattle.transcript_log.specs.Schedule.{Shape, shape_of_presence, is_sent}
 use Rattle.transcript_log.specs.Journal.{past_of}
 use Rattle.group_book.specs.Books.{BookView, posted}
-use Rattle.group_book.specs.ByGroup.{group_of, lines_in}
+use Rattle.transcript_log.specs.ByGroup.{group_of, lines_in}
 use Rattle.group_book.specs.Groups.{GroupView}
 use Rattle.group_book.specs.Replay.{IsJournal, IsLedger}
-use Rattle.group_book.proofs.EventsByGroup.{sent-in}
+use Rattle.transcript_log.proofs.EventsByGroup.{sent-in}
 use Rattle.group_book.proofs.LinesByGroup.{past-in, posted-in, journal-part, journal-whole, append-elsewhere}
 use Rattle.group_book.proofs.OwnLines.{groups_stay}
 use Rattle.shared_book.specs.declared.turn.Turn.{Turn}

@@ -12,7 +12,7 @@ use Rattle.std.proofs.lemmas.List.Elements.{All-head, All-tail}
 use Rattle.atomic_table.specs.Table.{State, opening, Final, Seen}
 use Rattle.transcript_log.specs.declared.Line.{Line}
 use Rattle.group_book.specs.Books.{BookView}
-use Rattle.group_book.specs.ByGroup.{lines_in}
+use Rattle.transcript_log.specs.ByGroup.{lines_in}
 use Rattle.group_book.specs.Groups.{GroupView}
 use Rattle.group_book.specs.Replay.{IsLedger, IsGroup, AreReplayed}
 use Rattle.shared_book.specs.declared.turn.Turn.{Turn}

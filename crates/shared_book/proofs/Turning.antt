@@ -17,7 +17,7 @@ use Rattle.transcript_log.specs.Lines.{LinesView}
 use Rattle.transcript_log.specs.Schedule.{Shape}
 use Rattle.group_book.specs.declared.answers.TakeError.TheVariants.{Unknown}
 use Rattle.group_book.specs.Books.{BookView, shape_of, posted, posted_in}
-use Rattle.group_book.specs.ByGroup.{group_of, lines_in}
+use Rattle.transcript_log.specs.ByGroup.{group_of, lines_in}
 use Rattle.group_book.specs.Groups.{GroupView}
 use Rattle.group_book.specs.Replay.{IsGroup}
 use Rattle.group_book.proofs.LinesByGroup.{posted-in, lines_of_groups}

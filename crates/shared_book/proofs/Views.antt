@@ -11,7 +11,7 @@ use Rattle.atomic_table.specs.Table.{State}
 use Rattle.atomic_table.proofs.Lists.{at_set, at_longer, set_here, set_else}
 use Rattle.shared_book.specs.declared.turn.Turn.{Turn}
 use Rattle.group_book.specs.Books.{BookView}
-use Rattle.group_book.specs.ByGroup.{lines_in}
+use Rattle.transcript_log.specs.ByGroup.{lines_in}
 use Rattle.transcript_log.specs.declared.Line.{Line}
 use Rattle.shared_book.specs.declared.turn.View.{View}
 use Rattle.shared_book.specs.declared.handed.Handed.{Handed}

@@ -20,7 +20,7 @@ use Rattle.transcript_log.specs.Schedule.{shape_of_presence}
 use Rattle.group_book.specs.declared.answers.TakeError.{TakeError}
 use Rattle.group_book.specs.declared.answers.TakeError.TheVariants.{Unknown, Forged}
 use Rattle.group_book.specs.Books.{BookView, posted_of, TakeEnds, CloseEnds, EndEnds}
-use Rattle.group_book.specs.ByGroup.{group_of}
+use Rattle.transcript_log.specs.ByGroup.{group_of}
 use Rattle.group_book.specs.Groups.{GroupView}
 use Rattle.group_book.specs.Replay.{Replays, PagesEnd, book_at}
 use Rattle.shared_book.specs.declared.parcel.Reply.{Reply}

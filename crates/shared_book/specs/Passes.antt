@@ -4,7 +4,7 @@ use Rattle.transcript_log.specs.declared.Event.{Event}
 use Rattle.transcript_log.specs.declared.Line.{Line}
 use Rattle.transcript_log.specs.Journal.{core_line}
 use Rattle.group_book.specs.Books.{BookView, shape_of}
-use Rattle.group_book.specs.ByGroup.{lines_in}
+use Rattle.transcript_log.specs.ByGroup.{lines_in}
 use Rattle.group_book.specs.Groups.{GroupView}
 use Rattle.meter_frames.specs.declared.FrameError.{FrameError}
 use Rattle.shared_book.specs.declared.parcel.Request.{Request}

@@ -7,7 +7,7 @@ use Rattle.transcript_log.specs.Events.{event_of}
 use Rattle.transcript_log.specs.Journal.{core_line}
 use Rattle.transcript_log.specs.Lines.{LinesView}
 use Rattle.transcript_log.specs.Schedule.{shape_of_presence}
-use Rattle.group_book.specs.ByGroup.{group_of}
+use Rattle.transcript_log.specs.ByGroup.{group_of}
 use Rattle.group_book.specs.Groups.{GroupView}
 use Rattle.group_book.specs.Replay.{IsGroup}
 use Rattle.shared_book.specs.declared.parcel.Reply.{Reply}

@@ -6,14 +6,14 @@ use Rattle.std.proofs.lemmas.Bool.{false≢true, eq-eqb, ne_eqb, cases_eq}
 use Rattle.std.proofs.lemmas.List.{map-append}
 use Rattle.std.proofs.lemmas.List.Elements.{All-weaker, All-head, All-tail, All-nil, All-cons, All-append, All-map, filter-append}
 use Rattle.missing_round.specs.Masks.{Masks}
-use Rattle.group_plan.specs.Tables.{ReadingsView}
+use Rattle.group_plan.specs.Tables.{ReadingsView, presence_of}
 use Rattle.group_plan.specs.declared.Tag.{Tag}
 use Rattle.meter_frames.specs.declared.Frame.{Frame}
 use Rattle.transcript_log.specs.declared.Line.{Line}
 use Rattle.transcript_log.specs.declared.Entry.{Entry}
 use Rattle.transcript_log.specs.Drafts.{quiet}
 use Rattle.transcript_log.specs.Events.{event_of, lines_of}
-use Rattle.group_book.specs.ByGroup.{group_of}
+use Rattle.transcript_log.specs.ByGroup.{group_of}
 use Rattle.group_book.specs.Groups.{GroupView}
 use Rattle.run_rows.specs.ByGroup.{entries_in}
 use Rattle.run_rows.specs.Ticks.{moment, phase, sent_at, IsOrdered}
@@ -22,7 +22,7 @@ use Rattle.plan_meters.specs.GroupMeters.{AreGroupMeters}
 use Rattle.shared_book.specs.declared.parts.SharedBook.{SharedBook}
 use Rattle.tick_run.specs.declared.group_tick.GroupWork.{GroupWork}
 use Rattle.tick_run.specs.declared.running.Group.{Group}
-use Rattle.tick_run.specs.GroupRuns.{IsGroupAt, IsWorkAt, GroupTicks, book_with, script_of, posted_all, taken_in, closed_in, sends_in, entries_then, sent_with}
+use Rattle.tick_run.specs.GroupRuns.{IsGroupAt, IsWorkAt, GroupTicks, book_with, script_of, posted_all, taken_in, closed_in, sends_in, entries_then, sent_with, past_in}
 use Rattle.tick_run.specs.ByGroups.{IsAt, StandsFor, AllStand, CanShare, IsMade, AllMade, Ticked, AllTick, AreWhole, Fated, taken_by, closed_by, sent_by, whole_then}
 use Rattle.tick_run.specs.Progress.{sending}
 use Rattle.tick_run.specs.Running.{AreRunning, starting}
@@ -164,7 +164,7 @@ without_pages readings m t g entries fates kept work group at = record {
   fits = at.fits;
   running = subst (λ (h : ℕ). AreRunning readings m (h ∷ []) (starting t) (book_with readings entries) (script_of readings entries) (posted_all (t - 1) work.frames.items fates work.link)) group at.running;
   ledger = at.pages.ledger;
-  meters = subst (λ (h : ℕ). AreGroupMeters (book_with readings entries) t h work.meters.meters.items) group at.meters;
+  meters = subst (λ (h : ℕ). AreGroupMeters (presence_of readings) (past_in entries) t h work.meters.meters.items) group at.meters;
 }
 
 -- the lines of a group's entries after a tick are those before and those of the tick

@@ -8,7 +8,7 @@ use Rattle.transcript_log.specs.declared.Line.{Line}
 use Rattle.transcript_log.specs.declared.Entry.{Entry}
 use Rattle.transcript_log.specs.Events.{event_of, lines_of}
 use Rattle.group_book.specs.Books.{BookView}
-use Rattle.group_book.specs.ByGroup.{group_of, lines_in}
+use Rattle.transcript_log.specs.ByGroup.{group_of, lines_in}
 use Rattle.group_book.specs.Groups.{GroupView}
 use Rattle.group_book.specs.Replay.{IsLedger, Replays}
 use Rattle.group_book.proofs.OwnLines.{groups_stay}
@@ -24,7 +24,7 @@ use Rattle.shared_book.proofs.Ledgers.{ledger_added, journal-turns, lines_in-app
 use Rattle.tick_run.specs.declared.group_tick.GroupWork.{GroupWork}
 use Rattle.tick_run.specs.declared.running.Group.{Group}
 use Rattle.tick_run.specs.ByGroups.{IsAt}
-use Rattle.tick_run.specs.GroupRuns.{IsGroupAt, IsWorkAt, GroupTicks, book_with, script_of, posted_all}
+use Rattle.tick_run.specs.GroupRuns.{IsGroupAt, IsWorkAt, GroupTicks, book_with, script_of, posted_all, past_in}
 use Rattle.tick_run.specs.Running.{AreRunning, starting}
 use Rattle.tick_run.specs.Sharing.{HasTurns}
 
@@ -67,7 +67,7 @@ at-out o seen g t readings m entries fates pages work presence same stands at =
       running = subst (λ (h : ℕ). AreRunning readings m (h ∷ []) (starting t) (book_with readings entries) (script_of readings entries) (posted_all (t - 1) work.frames.items fates work.link)) own at.running;
       pages = groups_stay (presence_of readings) (journal_after o seen) (lines_of entries) pages at.ledger (subst (λ (h : ℕ). lines_in h (lines_of entries) ≡ lines_in h (journal_after o seen)) own (sym same))
           (subst (λ (p : PresenceView). Replays p (journal_after o seen) pages) presence stands.replays);
-      meters = subst (λ (h : ℕ). AreGroupMeters (book_with readings entries) t h work.meters.meters.items) own at.meters;
+      meters = subst (λ (h : ℕ). AreGroupMeters (presence_of readings) (past_in entries) t h work.meters.meters.items) own at.meters;
     }
 
 -- ---- a tick between check-out and check-in

@@ -23,7 +23,7 @@ use Rattle.group_book.specs.declared.answers.SendAnswer.{SendAnswer}
 use Rattle.group_book.specs.declared.answers.TakeError.{TakeError}
 use Rattle.group_book.specs.declared.answers.TakeError.TheVariants as refused
 use Rattle.group_book.specs.Books.{SendEnds, TakeEnds, CloseEnds, EndEnds, is_plain}
-use Rattle.group_book.specs.ByGroup.{group_of}
+use Rattle.transcript_log.specs.ByGroup.{group_of}
 use Rattle.group_book.specs.Groups.{GroupView}
 use Rattle.group_book.specs.Replay.{Replays, PagesEnd, book_at}
 use Rattle.group_book.proofs.PlainLines.{posted_in-added}

@@ -32,7 +32,7 @@ use Rattle.transcript_log.proofs.EventLemmas.{is_send-true}
 use Rattle.transcript_log.proofs.ListLemmas.{sum_by-map}
 use Rattle.run_rows.specs.Ticks.{clock_of, phase, tag_of}
 use Rattle.group_book.specs.Books.{BookView, past}
-use Rattle.group_book.specs.ByGroup.{group_of}
+use Rattle.transcript_log.specs.ByGroup.{group_of}
 use Rattle.group_book.specs.Groups.{GroupView}
 use Rattle.group_book.specs.Replay.{Replays, book_at}
 use Rattle.plan_meters.specs.Came.{frame_in, tag_in, frames_in, tags_of}
@@ -48,7 +48,7 @@ use Rattle.plan_meters.proofs.SpellingLemmas.{frame_in-is}
 use Rattle.run_rows.proofs.TickRun.{all_member}
 use Rattle.tick_run.specs.declared.group_tick.GroupWork.{GroupWork}
 use Rattle.tick_run.specs.Batches.{CanTake, Batched}
-use Rattle.tick_run.specs.GroupRuns.{Calls, IsTakeable, takes_of, send_line, AreSendable, SendsAll, posted_all, sent_with, script_of, book_with, taken_in, closed_in, sends_in, IsGroupAt, entries_then, GroupTicks}
+use Rattle.tick_run.specs.GroupRuns.{Calls, IsTakeable, takes_of, send_line, AreSendable, SendsAll, posted_all, sent_with, script_of, book_with, taken_in, closed_in, sends_in, IsGroupAt, entries_then, GroupTicks, past_in}
 use Rattle.tick_run.specs.Jobs.{announcements_due}
 use Rattle.tick_run.specs.Progress.{IsDelay, KeepSets, past_of_entries, sending}
 use Rattle.tick_run.specs.Running.{starting, emptied, taken, closed, sending_at, run_contents, AreRunning, AreCopiesDue, HaveCome, HaveEvents, calls_of, calls_due}
@@ -158,7 +158,7 @@ group-closed readings m t g entries waiting copies before after v is come calls 
 -- ---- the meters
 
 -- the meters stay those of a group as its entries go on
-pub group-stays : (readings : ReadingsView) (t g : ℕ) (xs ys : List Entry) (meters : List MeterView) → AreGroupMeters (book_with readings xs) t g meters → AreGroupMeters (book_with readings (xs ++ ys)) t g meters
+pub group-stays : (readings : ReadingsView) (t g : ℕ) (xs ys : List Entry) (meters : List MeterView) → AreGroupMeters (presence_of readings) (past_in xs) t g meters → AreGroupMeters (presence_of readings) (past_in (xs ++ ys)) t g meters
 group-stays readings t g xs ys meters are =
     let s : Shape = run_shape readings in
     let told : KeepTold s (past (book_with readings xs)) (past (book_with readings (xs ++ ys)))
@@ -166,17 +166,17 @@ group-stays readings t g xs ys meters are =
     (subst (λ p. KeepSets s p (past (book_with readings (xs ++ ys)))) (sym (past_of-lines xs)) (subst (KeepSets s (past_of_entries xs)) (sym (past_of-lines (xs ++ ys))) (sets-append s xs ys))) in
     record {
       table = are.table;
-      are = range_weaker (IsMeterOf (book_with readings xs) t g) (IsMeterOf (book_with readings (xs ++ ys)) t g) 0 (size readings.plan.groups g) meters
+      are = range_weaker (IsMeterOf (presence_of readings) (past_in xs) t g) (IsMeterOf (presence_of readings) (past_in (xs ++ ys)) t g) 0 (size readings.plan.groups g) meters
           (λ i meter _ _ is. stays s readings.plan.rounds t (past (book_with readings xs)) (past (book_with readings (xs ++ ys))) g i meter told is) are.are;
     }
 
 -- the announcements that came were told
 pub group-told : (readings : ReadingsView) (m : Masks) (t g : ℕ) (entries : List Entry) (waiting : List Arrival) (copies : List (List ℕ)) (came : List Frame)
     → AreRunning readings m (g ∷ []) (closed t) (book_with readings entries) (script_of readings entries) waiting → HaveCome t entries copies → came ≡ frames_in copies
-    → AreTold (book_with readings entries) (t + 1) came
+    → AreTold (presence_of readings) (past_in entries) (t + 1) came
 group-told readings m t g entries waiting copies came is come are =
-    subst (AreTold (book_with readings entries) (t + 1)) (sym are)
-    (are-told (book_with readings entries) t (frames_in copies) (heard-past readings m (g ∷ []) t (book_with readings entries) (script_of readings entries) waiting (tags_of (frames_in copies)) is come.due)
+    subst (AreTold (presence_of readings) (past_in entries) (t + 1)) (sym are)
+    (are-told (presence_of readings) (past_in entries) t (frames_in copies) (heard-past readings m (g ∷ []) t (book_with readings entries) (script_of readings entries) waiting (tags_of (frames_in copies)) is come.due)
     (sets-come readings m (g ∷ []) (closed t) (book_with readings entries) (script_of readings entries) waiting copies is come.spelled))
 
 -- so they can be answered
@@ -313,7 +313,7 @@ pub group-next : (readings : ReadingsView) (m : Masks) (t g : ℕ) (es : List En
     → All (λ e. group_of (event_of e.line) ≡ g) es → AreRunning readings m (g ∷ []) (closed t) (book_with readings es) (script_of readings es) waiting → AreCopiesDue t es tags
     → after.frames.items ≡ frames_at readings m (g ∷ []) t (script_of readings es) tags → All IsFrame after.frames.items
     → kept.group ≡ g → Replays (presence_of readings) (lines_of es ++ map send_line after.frames.items) kept
-    → AreGroupMeters (book_with readings es) (t + 1) g after.meters.meters.items → after.link ≡ waiting
+    → AreGroupMeters (presence_of readings) (past_in es) (t + 1) g after.meters.meters.items → after.link ≡ waiting
     → All (All IsDelay) fates → length fates ≡ length after.frames.items
     → IsGroupAt readings m (t + 1) (es ++ sent_with t after.frames.items fates) fates kept after
 group-next readings m t g es waiting tags fates kept after own is due are framed group rep meters link delays long =
@@ -333,7 +333,7 @@ group-next readings m t g es waiting tags fates kept after own is due are framed
           (subst (λ (l : List Arrival). AreRunning readings m (g ∷ []) (starting (t + 1)) (book_with readings last) (script_of readings last) (posted_all (t + 1 - 1) frames fates l)) (sym link)
           (subst (λ (u : ℕ). AreRunning readings m (g ∷ []) (starting (t + 1)) (book_with readings last) (script_of readings last) (posted_all u frames fates waiting)) before over));
       pages = subst (λ j. Replays (presence_of readings) j kept) (sym (lines_sent t es frames fates long)) rep;
-      meters = subst (λ (h : ℕ). AreGroupMeters (book_with readings last) (t + 1) h after.meters.meters.items) (sym group)
+      meters = subst (λ (h : ℕ). AreGroupMeters (presence_of readings) (past_in last) (t + 1) h after.meters.meters.items) (sym group)
           (group-stays readings (t + 1) g es (sent_with t frames fates) after.meters.meters.items meters);
     }
 
@@ -382,7 +382,7 @@ pub group-ticks : (readings : ReadingsView) (m : Masks) (t g : ℕ) (entries : L
     → AreRunning readings m (g ∷ []) (emptied t) (book_with readings entries) (script_of readings entries) waiting → HaveCome t entries copies → came ≡ frames_in copies
     → (takes : Calls (presence_of readings) (lines_of entries) (takes_of came) taken_before g v taken_after)
     → (closes : Calls (presence_of readings) (lines_of (entries ++ map (quiet t) takes.added)) (calls_of (clock_of readings.plan) t g) closed_before g w closed_after)
-    → heard ≡ announcements came → AreGroupMeters (book_with readings ((entries ++ map (quiet t) takes.added) ++ map (quiet t) closes.added)) (t + 1) g after.meters.meters.items
+    → heard ≡ announcements came → AreGroupMeters (presence_of readings) (past_in ((entries ++ map (quiet t) takes.added) ++ map (quiet t) closes.added)) (t + 1) g after.meters.meters.items
     → after.frames.items ≡ readings_at readings m t g ++ announcements_due (book_with readings ((entries ++ map (quiet t) takes.added) ++ map (quiet t) closes.added)) t g ++ answers_at readings.plan m heard g
     → SendsAll (presence_of readings) (lines_of ((entries ++ map (quiet t) takes.added) ++ map (quiet t) closes.added)) after.frames.items sent_before g kept sent_after → after.link ≡ waiting
     → after.lines.items ≡ (takes.added ++ closes.added) ++ map send_line after.frames.items
@@ -489,10 +489,10 @@ group-shut readings m t g one plan v left copies before w after same group rep i
 
 -- the meters have read, and can hear
 pub group-read : (readings : ReadingsView) (t g h : ℕ) (entries more last : List Entry) (meters : List MeterView) → h ≡ g → IsPresenceTable readings.plan (presence_of readings).table
-    → AreOfGroup (book_with readings entries) (t + 1) h meters → AreGroupMeters (book_with readings ((entries ++ more) ++ last)) (t + 1) g meters
+    → AreOfGroup (presence_of readings) (past_in entries) (t + 1) h meters → AreGroupMeters (presence_of readings) (past_in ((entries ++ more) ++ last)) (t + 1) g meters
 group-read readings t g h entries more last meters same table are =
     group-stays readings (t + 1) g (entries ++ more) last meters
-    (group-stays readings (t + 1) g entries more meters (record { table = table; are = subst (λ (k : ℕ). AreOfGroup (book_with readings entries) (t + 1) k meters) same are }))
+    (group-stays readings (t + 1) g entries more meters (record { table = table; are = subst (λ (k : ℕ). AreOfGroup (presence_of readings) (past_in entries) (t + 1) k meters) same are }))
 
 -- the frames can be sent
 pub group-can_send : (readings : ReadingsView) (m : Masks) (t g : ℕ) (es : List Entry) (left : List Arrival) (copies : List (List ℕ)) (frames : List Frame)

@@ -10,7 +10,7 @@ use Rattle.transcript_log.specs.declared.Line.{Line}
 use Rattle.transcript_log.specs.Events.{event_of}
 use Rattle.group_book.specs.declared.book.Parts.{Parts}
 use Rattle.group_book.specs.Books.{BookView}
-use Rattle.group_book.specs.ByGroup.{group_of, lines_in}
+use Rattle.transcript_log.specs.ByGroup.{group_of, lines_in}
 use Rattle.group_book.specs.Replay.{AreReplayed}
 use Rattle.group_book.proofs.OwnLines.{groups_stay}
 use Rattle.shared_book.specs.declared.parts.SharedBook.{SharedBook}

@@ -14,7 +14,7 @@ use Rattle.transcript_log.specs.Journal.{HasFramesOf}
 use Rattle.transcript_log.specs.Schedule.{Shape}
 use Rattle.transcript_log.specs.Transcripts.{TranscriptView}
 use Rattle.group_book.specs.Books.{BookView}
-use Rattle.group_book.specs.ByGroup.{lines_in}
+use Rattle.transcript_log.specs.ByGroup.{lines_in}
 use Rattle.group_book.specs.Replay.{IsLedger}
 use Rattle.run_rows.specs.ByGroup.{entries_in}
 use Rattle.run_rows.specs.Ticks.{Clock, clock_of, last_tick}

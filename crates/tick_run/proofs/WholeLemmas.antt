@@ -18,9 +18,9 @@ use Rattle.transcript_log.specs.Journal.{past_of, HasFramesOf}
 use Rattle.transcript_log.specs.Schedule.{Shape, may_send, shape_of_presence, is_sent}
 use Rattle.transcript_log.specs.Transcript.{Contents, set_sent, word_sent, frame}
 use Rattle.group_book.specs.Books.{posted}
-use Rattle.group_book.specs.ByGroup.{group_of, events_in, lines_in}
+use Rattle.transcript_log.specs.ByGroup.{group_of, events_in, lines_in}
 use Rattle.group_book.specs.Replay.{IsLedger}
-use Rattle.group_book.proofs.EventsByGroup.{may_send-in, set_sent-in, missing-in, sent-in}
+use Rattle.transcript_log.proofs.EventsByGroup.{may_send-in, set_sent-in, missing-in, sent-in}
 use Rattle.group_book.proofs.LinesByGroup.{past-in, posted-in, push-here, push-elsewhere, journal-whole}
 use Rattle.run_rows.specs.ByGroup.{entries_in, IsGroupRun}
 use Rattle.run_rows.specs.Ticks.{Clock, last_tick}

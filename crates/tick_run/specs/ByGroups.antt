@@ -7,7 +7,7 @@ use Rattle.transcript_log.specs.declared.Line.{Line}
 use Rattle.transcript_log.specs.declared.Entry.{Entry}
 use Rattle.transcript_log.specs.Drafts.{quiet}
 use Rattle.transcript_log.specs.Events.{event_of, lines_of}
-use Rattle.group_book.specs.ByGroup.{group_of}
+use Rattle.transcript_log.specs.ByGroup.{group_of}
 use Rattle.group_book.specs.Groups.{GroupView}
 use Rattle.run_rows.specs.ByGroup.{entries_in}
 use Rattle.run_rows.specs.Ticks.{moment, sent_at, IsOrdered}

@@ -14,14 +14,14 @@ use Rattle.transcript_log.specs.declared.Line.TheVariants.{Send as SendLine}
 use Rattle.transcript_log.specs.declared.Entry.{Entry}
 use Rattle.transcript_log.specs.Drafts.{quiet}
 use Rattle.transcript_log.specs.Events.{event_of, lines_of}
-use Rattle.transcript_log.specs.Journal.{core_line}
+use Rattle.transcript_log.specs.Journal.{past_of, core_line}
 use Rattle.transcript_log.specs.Lines.{LinesView, HasOwnTag}
 use Rattle.transcript_log.specs.Schedule.{shape_of_presence}
 use Rattle.transcript_log.specs.Transcripts.{TranscriptView, FitsLine}
 use Rattle.group_book.specs.declared.answers.SendAnswer.{SendAnswer}
 use Rattle.run_rows.specs.Ticks.{phase}
 use Rattle.group_book.specs.Books.{BookView, Adds, SendEnds, posted_in}
-use Rattle.group_book.specs.ByGroup.{group_of}
+use Rattle.transcript_log.specs.ByGroup.{group_of}
 use Rattle.group_book.specs.Groups.{GroupView}
 use Rattle.group_book.specs.Replay.{IsLedger, Replays, book_at}
 use Rattle.plan_meters.specs.GroupMeters.{AreGroupMeters}
@@ -97,14 +97,15 @@ pub record SendsAll (p : PresenceView) (j : List Line) (frames : List Frame) (be
   pub framed : All IsFrame frames
   pub lines : after.items ≡ before.items ++ map send_line frames
 
--- by some book the meters of a group have read the rounds below some t, and the announcements among these frames are to them and of one of these
+-- after some events the meters of a group have read the rounds below some t, and the announcements among these frames are to them and of one of these
 pub record CanHearFrames (meters : List MeterView) (came : List Frame) : Type 0 where
-  pub book : BookView
+  pub presence : PresenceView
+  pub past : List Event
   pub until : ℕ
   pub group : ℕ
   pub own : All (λ f. f.tag.group ≡ group) came
-  pub are : AreGroupMeters book until group meters
-  pub told : AreTold book until came
+  pub are : AreGroupMeters presence past until group meters
+  pub told : AreTold presence past until came
 
 -- ---- a group between ticks
 
@@ -123,6 +124,10 @@ sent_with t (f ∷ frames) (fate ∷ fates) = sending t f.tag (Some f) fate ∷ 
 -- the transcript of these readings with these entries
 abbrev pub script_of : ReadingsView → List Entry → TranscriptView
 script_of readings entries = record { plan = readings.plan; entries = entries }
+
+-- the events of these entries, the newest first
+abbrev pub past_in : List Entry → List Event
+past_in entries = past_of (lines_of entries)
 
 -- the book of these readings with the lines of these entries
 abbrev pub book_with : ReadingsView → List Entry → BookView
@@ -152,7 +157,7 @@ pub record IsGroupAt (readings : ReadingsView) (m : Masks) (t : ℕ) (entries : 
   pub fits : All (λ f. FitsKind f.tag.kind f.missing f.word) work.frames.items
   pub running : AreRunning readings m (kept.group ∷ []) (starting t) (book_with readings entries) (script_of readings entries) (posted_all (t - 1) work.frames.items fates work.link)
   pub pages : Replays (presence_of readings) (lines_of entries) kept
-  pub meters : AreGroupMeters (book_with readings entries) t kept.group work.meters.meters.items
+  pub meters : AreGroupMeters (presence_of readings) (past_in entries) t kept.group work.meters.meters.items
 
 -- group g before tick t, but for its pages, which are in the shared book: the lines of its entries are a book's
 pub record IsWorkAt (readings : ReadingsView) (m : Masks) (t : ℕ) (entries : List Entry) (fates : List (List ℕ)) (g : ℕ) (work : GroupWork) : Type 0 where
@@ -162,7 +167,7 @@ pub record IsWorkAt (readings : ReadingsView) (m : Masks) (t : ℕ) (entries : L
   pub fits : All (λ f. FitsKind f.tag.kind f.missing f.word) work.frames.items
   pub running : AreRunning readings m (g ∷ []) (starting t) (book_with readings entries) (script_of readings entries) (posted_all (t - 1) work.frames.items fates work.link)
   pub ledger : IsLedger (presence_of readings) (lines_of entries)
-  pub meters : AreGroupMeters (book_with readings entries) t g work.meters.meters.items
+  pub meters : AreGroupMeters (presence_of readings) (past_in entries) t g work.meters.meters.items
 
 -- the entries of a group after a tick, in which it added these lines and its frames met these fates
 abbrev pub entries_then : ℕ → List Entry → List Line → List Line → List Frame → List (List ℕ) → List Entry

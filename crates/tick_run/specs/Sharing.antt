@@ -2,7 +2,7 @@
 use Rattle.std.specs.Prelude.{◌≡◌, ℕ, ◌+◌, ◌<◌, List, [], length, slice_index_or, None}
 use Rattle.std.specs.List.{range_with_len}
 use Rattle.transcript_log.specs.declared.Line.{Line}
-use Rattle.group_book.specs.ByGroup.{lines_in}
+use Rattle.transcript_log.specs.ByGroup.{lines_in}
 use Rattle.group_book.specs.Replay.{IsLedger}
 use Rattle.shared_book.specs.declared.parts.SharedBook.{SharedBook}
 use Rattle.shared_book.specs.declared.parts.Pass.{Pass}

@@ -13,7 +13,7 @@ use Rattle.shared_book.specs.declared.parts.Pass.{Pass}
 use Rattle.shared_book.specs.Ends.{opening, view, IsPassOf}
 use Rattle.shared_book.specs.Passes.{new_pass}
 use Rattle.tick_run.specs.ByGroups.{AllStand, AreWhole}
-use Rattle.tick_run.specs.GroupRuns.{book_with}
+use Rattle.tick_run.specs.GroupRuns.{past_in}
 use Rattle.tick_run.specs.Sharing.{leading}
 
 -- a run's shared book was opened with no line, and a pass was split from its first one for each of so many groups
@@ -37,7 +37,7 @@ pub record IsFirst (book : SharedBook) (readings : ReadingsView) (g : ℕ) (it :
   pub number : it.number ≡ g
   pub pass : IsPassOf book it.pass
   pub new : view it.pass ≡ new_pass (g + 1) []
-  pub meters : AreOfGroup (book_with readings []) 0 g it.work.meters.meters.items
+  pub meters : AreOfGroup (presence_of readings) (past_in []) 0 g it.work.meters.meters.items
   pub link : it.work.link ≡ []
   pub frames : it.work.frames.items ≡ []
   pub fates : it.work.fates.items ≡ []

@@ -5,8 +5,8 @@ ghost use Rattle.missing_round.specs.Sets.{IsSet};
 ghost use Rattle.group_plan.specs.Tables.{PresenceView, presence_of};
 ghost use Rattle.meter_frames.specs.Frames.{FitsKind, IsFrame};
 ghost use Rattle.transcript_log.specs.declared.Entry.{Entry as EntryView};
+ghost use Rattle.transcript_log.specs.declared.Event.{Event};
 ghost use Rattle.transcript_log.specs.declared.Line.{Line as LineView};
-ghost use Rattle.group_book.specs.Books.{BookView};
 ghost use Rattle.group_book.specs.Replay.{Replays, CanCall, book_at};
 ghost use Rattle.run_rows.specs.Ticks.{clock_of};
 ghost use Rattle.plan_meters.specs.Came.{frame_in, frames_in, IsSpelling};
@@ -174,7 +174,7 @@ fn hear_all(
     came: &[Frame],
 ) -> Result<Vec<Frame>, AllocError>
     requires can { CanHearFrames meters.old.meters.items came.now }
-    ensures meters { (b : BookView) (t g : ℕ) → All (λ f. f.tag.group ≡ g) came.now → AreGroupMeters b t g meters.old.meters.items → AreTold b t came.now → OnOk result (AreGroupMeters b t g meters.new.meters.items) }
+    ensures meters { (p : PresenceView) (past : List Event) (t g : ℕ) → All (λ f. f.tag.group ≡ g) came.now → AreGroupMeters p past t g meters.old.meters.items → AreTold p past t came.now → OnOk result (AreGroupMeters p past t g meters.new.meters.items) }
     ensures answered { IfOk result (λ heard. heard.items ≡ announcements came.now) }
 {
     let mut heard = Vec::new(alloc);

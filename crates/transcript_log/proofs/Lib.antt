@@ -8,6 +8,7 @@ pub mod ShapeLemmas
 pub mod FrameLemmas
 pub mod JournalLemmas
 pub mod OutcomeLemmas
+pub mod EventsByGroup
 mod KeptExtras
 mod KeptLines
 pub mod RoundMembers

@@ -4,6 +4,7 @@ pub mod Schedule
 pub mod Transcript
 pub mod Frames
 pub mod Journal
+pub mod ByGroup
 pub mod Statements
 pub mod Rows
 pub mod Lines

@@ -1,6 +1,6 @@
 use Rattle.std.proofs.Common.{◌≡◌, ◌+◌, ℕ, [], refl, ap, ◌∙◌, arith}
 use Rattle.shared_book.specs.Passes.{PassView, new_pass}
-use Rattle.tick_run.specs.GroupRuns.{book_with}
+use Rattle.tick_run.specs.GroupRuns.{past_in}
 use Rattle.tick_run.proofs.first.first_group.Goals as goal
 
 pub split-pass-requires-clause-few : goal.split-pass-requires-clause-few
@@ -22,7 +22,7 @@ returns-clause-group c =
       number = refl;
       pass = c.split-pass.ensures.passes.1;
       new = ends.second ∙ ap (λ (v : PassView). new_pass (v.made + 1) v.seen) c.requires.leads;
-      meters = c.in_ok-new.ensures (book_with c.args.readings.now []);
+      meters = c.in_ok-new.ensures (past_in []);
       link = c.new-2.ensures;
       frames = c.new-3.ensures.items;
       fates = c.new-4.ensures.items;

@@ -10,7 +10,7 @@ use Rattle.group_book.specs.Replay.{Replays}
 use Rattle.plan_meters.specs.Came.{frames_in}
 use Rattle.plan_meters.specs.Meters.{AreOfGroup, announcements}
 use Rattle.plan_meters.specs.Sent.{readings_at, answers_at}
-use Rattle.tick_run.specs.GroupRuns.{send_line, AreSendable, CanSendFrames, SendsAll, posted_all, book_with}
+use Rattle.tick_run.specs.GroupRuns.{send_line, AreSendable, CanSendFrames, SendsAll, posted_all, book_with, past_in}
 use Rattle.tick_run.specs.Jobs.{announcements_due}
 use Rattle.tick_run.proofs.TakeLemmas.{all-spelled}
 use Rattle.tick_run.proofs.GroupTickLemmas.{group-begun, group-took, group-shut, group-read, group-told, group-answerable, group-frames, group-can_send, group-takeable, group-ticks}
@@ -117,7 +117,7 @@ read-requires-clause-can g c =
     let fates = work.fates.items in
     let entries = c.requires.can.entries in
     let at = c.requires.can.stands in
-    record { book = book_with readings entries; are = subst (λ (k : ℕ). AreOfGroup (book_with readings entries) t k work.meters.meters.items) (sym c.group-group.ensures) at.meters.are }
+    record { past = past_in entries; are = subst (λ (k : ℕ). AreOfGroup (presence_of readings) (past_in entries) t k work.meters.meters.items) (sym c.group-group.ensures) at.meters.are }
 
 pub hear_all-requires : goal.hear_all-requires
 hear_all-requires g c =
@@ -146,10 +146,10 @@ hear_all-requires g c =
     let heard_is : heard_from ≡ frames_in copies = c.deref-5.ensures.value ∙ c.in_ok-came.ensures in
     let same_came : came ≡ heard_from = came_is ∙ sym heard_is in
     let read = group-read readings t group c.group-group.result entries (map (quiet t) took.takes.added) (map (quiet t) shut.closes.added) c.read.new.self.meters.items c.group-group.ensures at.meters.table
-    (c.read.ensures (book_with readings entries) (subst (λ (k : ℕ). AreOfGroup (book_with readings entries) t k work.meters.meters.items) (sym c.group-group.ensures) at.meters.are)) in
+    (c.read.ensures (past_in entries) (subst (λ (k : ℕ). AreOfGroup (presence_of readings) (past_in entries) t k work.meters.meters.items) (sym c.group-group.ensures) at.meters.are)) in
     let told = group-told readings m t group es left copies heard_from shut.running shut.come heard_is in
     let own = subst (All (λ (f : Frame). f.tag.group ≡ group)) same_came took.own in
-    record { can = record { book = book_with readings es; until = t + 1; group = group; own = own; are = read; told = told } }
+    record { can = record { presence = presence_of readings; past = past_in es; until = t + 1; group = group; own = own; are = read; told = told } }
 
 pub add_due-requires-clause-can : goal.add_due-requires-clause-can
 add_due-requires-clause-can g c =
@@ -318,7 +318,7 @@ returns g c = λ entries at.
     let heard_is : heard_from ≡ frames_in copies = c.deref-5.ensures.value ∙ c.in_ok-came.ensures in
     let same_came : came ≡ heard_from = came_is ∙ sym heard_is in
     let read = group-read readings t group c.group-group.result entries (map (quiet t) took.takes.added) (map (quiet t) shut.closes.added) c.read.new.self.meters.items c.group-group.ensures at.meters.table
-    (c.read.ensures (book_with readings entries) (subst (λ (k : ℕ). AreOfGroup (book_with readings entries) t k work.meters.meters.items) (sym c.group-group.ensures) at.meters.are)) in
+    (c.read.ensures (past_in entries) (subst (λ (k : ℕ). AreOfGroup (presence_of readings) (past_in entries) t k work.meters.meters.items) (sym c.group-group.ensures) at.meters.are)) in
     let told = group-told readings m t group es left copies heard_from shut.running shut.come heard_is in
     let own = subst (All (λ (f : Frame). f.tag.group ≡ group)) same_came took.own in
     let heard = c.deref-6.result.now in

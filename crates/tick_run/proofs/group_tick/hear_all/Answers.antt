@@ -11,8 +11,9 @@ hear-requires c =
     let f = c.frame-item.result in
     let own : f.tag.group ≡ can.group = subst (λ (x : Frame). x.tag.group ≡ can.group) (sym c.frame-item.is) (can.own k f c.loop-frame-test.true) in
     record {
-      book = can.book;
+      presence = can.presence;
+      past = can.past;
       until = can.until;
-      are = subst (λ h. AreGroupMeters can.book can.until h c.loop-frame.meters.meters.items) (sym own) (c.loop-frame.invariant.meters can.book can.until can.group can.own can.are can.told);
-      told = subst (λ (x : Frame). is_announcement x.tag ≡ true → IsTold can.book can.until x) (sym c.frame-item.is) (can.told k f c.loop-frame-test.true);
+      are = subst (λ h. AreGroupMeters can.presence can.past can.until h c.loop-frame.meters.meters.items) (sym own) (c.loop-frame.invariant.meters can.presence can.past can.until can.group can.own can.are can.told);
+      told = subst (λ (x : Frame). is_announcement x.tag ≡ true → IsTold can.presence can.past can.until x) (sym c.frame-item.is) (can.told k f c.loop-frame-test.true);
     }

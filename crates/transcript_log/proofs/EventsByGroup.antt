@@ -2,6 +2,7 @@
 use Rattle.std.proofs.Common.{◌≡◌, ℕ, Bool, true, false, cond, not, ◌&&◌, ◌||◌, List, [], ◌∷◌, length, refl, sym, ap, ◌∙◌}
 use Rattle.std.specs.Prelude.{◌==◌, nat_le, if◌then◌else◌}
 use Rattle.std.specs.List.{filter, list_all}
+use mathlib.Core.List.{reverse_aux}
 use mathlib.Core.Path.{fun_ext}
 use Rattle.group_plan.specs.declared.Kind.{Kind}
 use Rattle.group_plan.specs.declared.Kind.TheVariants.{Reading, Announcement, Answer}
@@ -12,7 +13,17 @@ use Rattle.transcript_log.specs.declared.Event.TheVariants.{Send, Take, Close, E
 use Rattle.transcript_log.specs.Events.{once, is_send, is_take, is_close, is_end, same_kind}
 use Rattle.transcript_log.specs.Schedule.{Shape, members_of, floor_of, is_closed, is_reading_sent, is_reading_taken, survivors, missing, reaches_floor, is_announced, may_announce, is_announcement_sent, is_announcement_taken, is_answer_sent, is_ended, is_answer_taken, all_taken, lacking, may_send, is_sent, is_taken, is_late, has_effective_take, is_fresh, has_fresh_take, verdict, closing}
 use Rattle.transcript_log.specs.Transcript.{set_sent}
-use Rattle.group_book.specs.ByGroup.{group_of, events_in}
+use Rattle.transcript_log.specs.ByGroup.{group_of, events_in}
+
+-- ---- some events, turned round
+
+pub reverse_aux-filter : (t : Event → Bool) (xs ys : List Event) → filter t (reverse_aux xs ys) ≡ reverse_aux (filter t xs) (filter t ys)
+reverse_aux-filter t [] ys = refl
+reverse_aux-filter t (x ∷ xs) ys = reverse_aux-filter t xs (x ∷ ys) ∙ step (t x)
+  where
+    step : (b : Bool) → reverse_aux (filter t xs) (cond b (x ∷ filter t ys) (filter t ys)) ≡ reverse_aux (cond b (x ∷ filter t xs) (filter t xs)) (filter t ys)
+    step true = refl
+    step false = refl
 
 -- ---- events of other groups
 
