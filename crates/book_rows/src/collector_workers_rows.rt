@@ -1,7 +1,7 @@
 //! Worked rows. The book of the plain case has one group of three meters with floor 2, and one round, in which each has a
 //! reading; the words are those of the readings 10, 20 and 30 under keys of zeros.
 
-ghost use Rattle.std.specs.Prelude.{◌≡◌, ◌≤◌, OnOk, None, []};
+ghost use Rattle.std.specs.Prelude.{◌≡◌, OnOk, None, []};
 ghost use Rattle.shared_book.specs.Passes.{new_pass};
 ghost use Rattle.shared_book.specs.Ends.{view, IsPassOf};
 
@@ -9,7 +9,7 @@ use crate::fixtures::{
     book_of_north, book_of_two, check, check_all, check_same, parcel, reading_frame, sent_book,
     shared_of,
 };
-use collector_workers::{Collected, Free, Gate, Mark, Outcome, collect, gather};
+use collector_workers::{Collected, Crew, Free, Gate, Mark, Outcome, Workers, collect, gather};
 use group_book::{Book, TakeError};
 use meter_frames::FrameError;
 use missing_round::MeterSet;
@@ -37,53 +37,48 @@ fn new_book(alloc: Global) -> Result<Book, Fail> {
     book_of_north(alloc, &READINGS, 0)
 }
 
-// What so many workers make of a copy of the book by a batch.
-fn collected(
-    rt: &(impl Threads + Wait + Sync),
-    alloc: Global,
+// So many workers, and a gate.
+fn crew_of<'a, R, G>(rt: &'a R, alloc: Global, workers: Workers, gate: &'a G) -> Crew<'a, R, G> {
+    Crew {
+        rt,
+        alloc,
+        workers,
+        gate,
+    }
+}
+
+// What a crew makes of a copy of the book by a batch.
+fn collected<R: Threads + Wait + Sync>(
+    crew: &Crew<'_, R, Free>,
     book: &Book,
     batch: &[Parcel],
-    workers: u32,
-    gate: &impl Gate,
 ) -> Result<Collected, Fail> {
-    if workers < 1 || workers > 16 {
-        return Err(Fail::new("too many"));
-    }
-    match collect(rt, alloc, book.try_copy()?, batch, workers, gate) {
+    match collect(crew, book.try_copy()?, batch) {
         Ok(collected) => Ok(collected),
         Err(_) => Err(Fail::new("no memory")),
     }
 }
 
-// What the parcels of a batch become, where so many workers commit it behind the first pass.
-fn outcomes_of(
-    rt: &(impl Threads + Wait + Sync),
-    alloc: Global,
+// What the parcels of a batch become, where a crew commits it behind the first pass.
+fn outcomes_of<R: Threads + Wait + Sync>(
+    crew: &Crew<'_, R, Watch>,
     shared: &SharedBook,
     first: &mut Pass,
     batch: &[Parcel],
-    workers: u32,
-    gate: &Watch,
 ) -> Result<Vec<Outcome>, Fail>
-    requires { IsPassOf shared.now first.old × (view first.old ≡ new_pass 0 []) × (1 ≤ workers) × (workers ≤ 16) }
+    requires { IsPassOf shared.now first.old × (view first.old ≡ new_pass 0 []) }
 {
-    Ok(gather(rt, alloc, shared, first, batch, workers, gate)?)
+    Ok(gather(crew, shared, first, batch)?)
 }
 
 // The same on a shared book of its own.
-fn gathered(
-    rt: &(impl Threads + Wait + Sync),
-    alloc: Global,
+fn gathered<R: Threads + Wait + Sync>(
+    crew: &Crew<'_, R, Watch>,
     book: Book,
     batch: &[Parcel],
-    workers: u32,
-    gate: &Watch,
 ) -> Result<Vec<Outcome>, Fail> {
-    if workers < 1 || workers > 16 {
-        return Err(Fail::new("too many"));
-    }
-    let (shared, mut first) = shared_of(alloc, book)?;
-    outcomes_of(rt, alloc, &shared, &mut first, batch, workers, gate)
+    let (shared, mut first) = shared_of(crew.alloc, book)?;
+    outcomes_of(crew, &shared, &mut first, batch)
 }
 
 // Looks for the marks of a batch that was collected, and for the number of lines that the book then has.
@@ -103,8 +98,9 @@ fn check_batch(
     marks: &[Mark],
     lines: usize,
 ) -> Result<(), Fail> {
-    for workers in [16, 1] {
-        let collected = collected(rt, alloc, book, batch, workers, &Free)?;
+    for workers in [Workers::new(16), Workers::new(1)] {
+        let crew = crew_of(rt, alloc, workers, &Free);
+        let collected = collected(&crew, book, batch)?;
         check_marks(rt, row, &collected, marks, lines);
     }
     Ok(())
@@ -202,23 +198,24 @@ fn check_closes(
     rt: &(impl Threads + Wait + Abort + Sync),
     alloc: Global,
     count: usize,
-    workers: u32,
+    workers: Workers,
 ) -> Result<(), Fail> {
     let batch = vec![in alloc; Parcel::Close { group: 0, round: 0 }; count]?;
     let book = new_book(alloc)?;
-    let collected = collected(rt, alloc, &book, &batch, workers, &Free)?;
+    let crew = crew_of(rt, alloc, workers, &Free);
+    let collected = collected(&crew, &book, &batch)?;
     check_closings(rt, &collected, count);
     Ok(())
 }
 
 #[test]
 fn two_closes_in_one_batch(rt: HostRuntime) -> Result<(), Fail> {
-    check_closes(&rt, rt.alloc(), 2, 2)
+    check_closes(&rt, rt.alloc(), 2, Workers::new(2))
 }
 
 #[test]
 fn many_closes_in_one_batch(rt: HostRuntime) -> Result<(), Fail> {
-    check_closes(&rt, rt.alloc(), 1200, 4)
+    check_closes(&rt, rt.alloc(), 1200, Workers::new(4))
 }
 
 // The parcels of the three readings.
@@ -249,7 +246,8 @@ fn check_gathered(
     requires { IsPassOf shared.now first.old × (view first.old ≡ new_pass 0 []) }
     ensures { OnOk result (IsPassOf shared.now first.new × ((view first.new).number ≡ 0) × ((view first.new).held ≡ None) × ((view first.new).out ≡ 0)) }
 {
-    let outcomes = gather(rt, alloc, shared, first, batch, 2, &Free)?;
+    let crew = crew_of(rt, alloc, Workers::new(2), &Free);
+    let outcomes = gather(&crew, shared, first, batch)?;
     check_outcomes(rt, &outcomes, &[FRESH; 3], "the marks");
     check_same(rt, &first.out(), &0, "the passes that are out");
     Ok(())
@@ -382,7 +380,8 @@ fn two_commits_cross(rt: HostRuntime) -> Result<(), Fail> {
     let alloc = rt.alloc();
     let gate = Watch::new(1);
     let batch = [close(0), close(1)];
-    let outcomes = gathered(&rt, alloc, book_of_two(alloc)?, &batch, 2, &gate)?;
+    let crew = crew_of(&rt, alloc, Workers::new(2), &gate);
+    let outcomes = gathered(&crew, book_of_two(alloc)?, &batch)?;
     check_met(&rt, &gate);
     check_outcomes(&rt, &outcomes, &[thin(), thin()], "the marks");
     Ok(())
@@ -401,7 +400,8 @@ fn each_parcel_has_its_call(rt: HostRuntime) -> Result<(), Fail> {
         close(1),
         close(1),
     ];
-    let outcomes = gathered(&rt, alloc, book_of_two(alloc)?, &batch, 2, &gate)?;
+    let crew = crew_of(&rt, alloc, Workers::new(2), &gate);
+    let outcomes = gathered(&crew, book_of_two(alloc)?, &batch)?;
     check_calls(&rt, &gate, &[2, 3, 0]);
     let bad = Mark::Bad(FrameError::Magic);
     let marks = [thin(), thin(), bad, already(), already()];
@@ -414,7 +414,8 @@ fn each_parcel_has_its_call(rt: HostRuntime) -> Result<(), Fail> {
 fn one_group_has_one_worker(rt: HostRuntime) -> Result<(), Fail> {
     let alloc = rt.alloc();
     let gate = Watch::new(0);
-    let outcomes = gathered(&rt, alloc, new_book(alloc)?, &[close(0); 4], 16, &gate)?;
+    let crew = crew_of(&rt, alloc, Workers::new(16), &gate);
+    let outcomes = gathered(&crew, new_book(alloc)?, &[close(0); 4])?;
     check_calls(&rt, &gate, &[4, 0, 0]);
     let marks = [thin(), already(), already(), already()];
     check_outcomes(&rt, &outcomes, &marks, "the marks");

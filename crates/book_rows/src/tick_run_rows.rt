@@ -7,7 +7,7 @@ ghost use Rattle.transcript_log.specs.Events.{lines_of};
 
 use crate::fixtures::{check, check_same, is_same, reading_frame};
 use crate::twin_worlds_table_rows::ideal_table;
-use collector_workers::Free;
+use collector_workers::{Crew, Free, Workers};
 use group_plan::Readings;
 use link_lanes::Rack;
 use mask_stream::Masks;
@@ -17,7 +17,7 @@ use std::alloc::Global;
 use std::sync::Wait;
 use std::test::Fail;
 use std::thread::Threads;
-use tick_run::{Crew, Finished, Run, Workers, run_masked, run_plan};
+use tick_run::{Finished, Run, run_masked, run_plan};
 use transcript_log::{Line, Lines};
 
 // Whether this is the last line.

@@ -6,7 +6,7 @@ use Rattle.shared_book.specs.contracts.parts.SharedBook as Book
 use Rattle.shared_book.proofs.Crossings.{slot_send, seat_send, shared_sync, lease_sync, pages_sync, lines_sync, presence_sync}
 use Rattle.shared_book.specs.contracts.parcel.Parcel as Parcel
 use Rattle.transcript_log.specs.contracts.lines.Lines as Lines
-use Rattle.collector_workers.specs.contracts.crew.Worker as Worker
+use Rattle.collector_workers.specs.contracts.worker.Worker as Worker
 use Rattle.collector_workers.specs.contracts.workload.Workload as Workload
 use Rattle.collector_workers.specs.contracts.outcome.Outcome as Outcome
 

@@ -14,11 +14,11 @@ use Rattle.shared_book.specs.Ends.{opening, view}
 use Rattle.shared_book.specs.Parcels.{request_of, group_in}
 use Rattle.shared_book.specs.Turns.{turns_by, turns_of}
 use Rattle.shared_book.specs.Passes.{PassView}
-use Rattle.collector_workers.specs.declared.crew.Worker.{Worker}
+use Rattle.collector_workers.specs.declared.worker.Worker.{Worker}
 use Rattle.collector_workers.specs.declared.workload.Workload.{Workload}
 use Rattle.collector_workers.specs.declared.outcome.Outcome.{Outcome}
 use Rattle.collector_workers.specs.Outcomes.{Becomes, lines_told, worker_if_read, worker_for, parcels_for}
-use Rattle.collector_workers.specs.Gathering.{IsWorkloadFor, AreWorkloads, SplitsAll, IsNewWorker, IsNewCrew, AllWork, Works, Merges, told_by, AreWhole, numbers_of, JoinsAll, Gathers}
+use Rattle.collector_workers.specs.Gathering.{IsWorkloadFor, AreWorkloads, SplitsAll, IsNewWorker, AreNewWorkers, AllWork, Works, Merges, told_by, AreWhole, numbers_of, JoinsAll, Gathers}
 use Rattle.collector_workers.proofs.Told.{all_wider, starts_same}
 use Rattle.collector_workers.proofs.Dealing.{all_told, lines_dealt}
 
@@ -29,7 +29,7 @@ worker_below n p some = of_read (request_of p)
     of_read (Ok request) = mod_below (group_in request) n some
     of_read (Err e) = some
 
-pub numbers_are : (from : ℕ) (crew : List Worker) → ((k : ℕ) (d : Worker) → k < length crew → (view (get_or crew k d).pass).number ≡ from + k) → numbers_of crew ≡ range_with_len from (length crew)
+pub numbers_are : (from : ℕ) (workers : List Worker) → ((k : ℕ) (d : Worker) → k < length workers → (view (get_or workers k d).pass).number ≡ from + k) → numbers_of workers ≡ range_with_len from (length workers)
 numbers_are from [] each = refl
 numbers_are from (w ∷ ws) each =
     let first : (view w.pass).number ≡ from = each 0 w (omega arith) ∙ omega arith in
@@ -70,53 +70,53 @@ has_told book v batch n k workload a b for new works =
 
 -- ---- all of them
 
-module _ (book : SharedBook) (v : PassView) (batch : List Parcel) (n : ℕ) (workloads : List Workload) (crew0 crew1 : List Worker)
-    (many : length workloads ≡ n) (are : AreWorkloads batch n workloads) (new : IsNewCrew book v workloads crew0) (work : AllWork book crew0 crew1) where
-  pub crew_long : length crew1 ≡ n
-  crew_long = work.0 ∙ new.0 ∙ many
+module _ (book : SharedBook) (v : PassView) (batch : List Parcel) (n : ℕ) (workloads : List Workload) (workers0 workers1 : List Worker)
+    (many : length workloads ≡ n) (are : AreWorkloads batch n workloads) (new : AreNewWorkers book v workloads workers0) (work : AllWork book workers0 workers1) where
+  pub workers_long : length workers1 ≡ n
+  workers_long = work.0 ∙ new.0 ∙ many
 
-  pub each_told : (k : ℕ) (d : Worker) → k < n → HasTold (opening book) v batch n k (get_or crew1 k d)
+  pub each_told : (k : ℕ) (d : Worker) → k < n → HasTold (opening book) v batch n k (get_or workers1 k d)
   each_told k d lt =
-      let in0 : k < length crew0 = (let e = new.0 in omega arith) in
-      has_told book v batch n k (get_or workloads k d.workload) (get_or crew0 k d) (get_or crew1 k d) (are k d.workload (omega arith)) (new.1 k d in0) (work.1 k d in0)
+      let in0 : k < length workers0 = (let e = new.0 in omega arith) in
+      has_told book v batch n k (get_or workloads k d.workload) (get_or workers0 k d) (get_or workers1 k d) (are k d.workload (omega arith)) (new.1 k d in0) (work.1 k d in0)
 
-  pub are_whole : AreWhole batch crew1
+  pub are_whole : AreWhole batch workers1
   are_whole k d lt =
-      let t = each_told k d (let e = crew_long in omega arith) in
-      sym (zip_long (Becomes (opening book) v.seen (view (get_or crew1 k d).pass).seen) (parcels_for n k batch) (get_or crew1 k d).workload.outcomes.items t.told)
-      ∙ ap (λ (m : ℕ). length (parcels_for m k batch)) (sym crew_long)
+      let t = each_told k d (let e = workers_long in omega arith) in
+      sym (zip_long (Becomes (opening book) v.seen (view (get_or workers1 k d).pass).seen) (parcels_for n k batch) (get_or workers1 k d).workload.outcomes.items t.told)
+      ∙ ap (λ (m : ℕ). length (parcels_for m k batch)) (sym workers_long)
 
-  pub are_ready : All (λ worker. (view worker.pass).held ≡ None) crew1
+  pub are_ready : All (λ worker. (view worker.pass).held ≡ None) workers1
   are_ready k d lt = (work.1 k d (let e = work.0 in omega arith)).1.held
 
-  pub gathered : (w1 w2 : PassView) (outs : List Outcome) → 0 < n → v.out ≡ 0 → v.held ≡ None → SplitsAll v n w1 → Merges batch crew1 outs → JoinsAll w1 crew1 w2 → Gathers (opening book) v batch n outs w2
+  pub gathered : (w1 w2 : PassView) (outs : List Outcome) → 0 < n → v.out ≡ 0 → v.held ≡ None → SplitsAll v n w1 → Merges batch workers1 outs → JoinsAll w1 workers1 w2 → Gathers (opening book) v batch n outs w2
   gathered w1 w2 outs some out held split merges joins1 =
       let o : BookView = opening book in
-      let joins : JoinsAll (record v { made = v.made + n; out = v.out + n }) crew1 w2 = subst (λ (x : PassView). JoinsAll x crew1 w2) split joins1 in
-      let d : Worker = one_of crew1 (let e = crew_long in omega arith) in
-      let at : (k : ℕ) → Worker = λ k. get_or crew1 k d in
+      let joins : JoinsAll (record v { made = v.made + n; out = v.out + n }) workers1 w2 = subst (λ (x : PassView). JoinsAll x workers1 w2) split joins1 in
+      let d : Worker = one_of workers1 (let e = workers_long in omega arith) in
+      let at : (k : ℕ) → Worker = λ k. get_or workers1 k d in
       let outs_at : (k : ℕ) → k < n → told_by n k batch outs ≡ (at k).workload.outcomes.items = λ k lt.
-      ap (λ (m : ℕ). told_by m k batch outs) (sym crew_long) ∙ merges.1 k d (let e = crew_long in omega arith) in
+      ap (λ (m : ℕ). told_by m k batch outs) (sym workers_long) ∙ merges.1 k d (let e = workers_long in omega arith) in
       let told : AllZip (Becomes o v.seen w2.seen) batch outs = all_told (Becomes o v.seen w2.seen) n batch outs (λ p. worker_below n p some) merges.0 (λ k lt.
       subst (λ (xs : List Outcome). AllZip (Becomes o v.seen w2.seen) (parcels_for n k batch) xs) (sym (outs_at k lt))
-      (all_wider o v.seen v.seen (view (at k).pass).seen w2.seen (parcels_for n k batch) (at k).workload.outcomes.items (starts_same v.seen) (joins.all k d (let e = crew_long in omega arith)).0 (each_told k d lt).told)) in record {
+      (all_wider o v.seen v.seen (view (at k).pass).seen w2.seen (parcels_for n k batch) (at k).workload.outcomes.items (starts_same v.seen) (joins.all k d (let e = workers_long in omega arith)).0 (each_told k d lt).told)) in record {
         seen = joins.seen;
         mine = joins.mine;
         number = joins.number;
         made = joins.made;
-        out = (let x = joins.out in let e = crew_long in omega arith);
+        out = (let x = joins.out in let e = workers_long in omega arith);
         held = joins.held ∙ held;
-        joined = joins.joined ∙ ap (λ (ns : List ℕ). v.joined ++ ns) (numbers_are (v.made + 1) crew1 (λ k e lt. (each_told k e (let h = crew_long in omega arith)).number) ∙ ap (range_with_len (v.made + 1)) crew_long);
+        joined = joins.joined ∙ ap (λ (ns : List ℕ). v.joined ++ ns) (numbers_are (v.made + 1) workers1 (λ k e lt. (each_told k e (let h = workers_long in omega arith)).number) ∙ ap (range_with_len (v.made + 1)) workers_long);
         told = told;
-        own = joins.own (let e = crew_long in omega arith);
+        own = joins.own (let e = workers_long in omega arith);
         turns = λ k lt.
             let t = each_told k d lt in
             ap (λ (m : ℕ). turns_by m w2.seen) (sym t.number)
-            ∙ (joins.all k d (let e = crew_long in omega arith)).1
+            ∙ (joins.all k d (let e = workers_long in omega arith)).1
             ∙ t.mine
             ∙ ap (λ (xs : List Outcome). turns_of (v.made + 1 + k) (lines_told xs)) (sym (outs_at k lt))
             ∙ ap (turns_of (v.made + 1 + k)) (lines_dealt n k o v.seen w2.seen batch outs told);
-        others = λ m h le. joins.others m h (λ k e lt same. let q = (each_told k e (let x = crew_long in omega arith)).number in let z = same in absurd (omega arith));
+        others = λ m h le. joins.others m h (λ k e lt same. let q = (each_told k e (let x = workers_long in omega arith)).number in let z = same in absurd (omega arith));
       }
     where
       one_of : (ws : List Worker) → 0 < length ws → Worker

@@ -23,7 +23,7 @@ use Rattle.shared_book.specs.Passes.{PassView, Refuses, CommitEnds}
 use Rattle.shared_book.proofs.Turning.{starts_on, event_of-core}
 use Rattle.collector_workers.specs.declared.mark.Mark.{Mark}
 use Rattle.collector_workers.specs.declared.mark.Mark.TheVariants.{Bad, Refused, OutOfPlan}
-use Rattle.collector_workers.specs.declared.crew.Worker.{Worker}
+use Rattle.collector_workers.specs.declared.worker.Worker.{Worker}
 use Rattle.collector_workers.specs.declared.outcome.Outcome.{Outcome}
 use Rattle.collector_workers.specs.Outcomes.{IsOutcome, Becomes, IsTold, lines_told, line_before, with_line, without_line}
 use Rattle.collector_workers.specs.Gathering.{Commits, Does}

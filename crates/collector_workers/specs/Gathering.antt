@@ -10,7 +10,7 @@ use Rattle.shared_book.specs.declared.parts.SharedBook.{SharedBook}
 use Rattle.shared_book.specs.Ends.{opening, view, IsPassOf}
 use Rattle.shared_book.specs.Turns.{StartsWith, turns_by, turns_of}
 use Rattle.shared_book.specs.Passes.{PassView, new_pass}
-use Rattle.collector_workers.specs.declared.crew.Worker.{Worker}
+use Rattle.collector_workers.specs.declared.worker.Worker.{Worker}
 use Rattle.collector_workers.specs.declared.workload.Workload.{Workload}
 use Rattle.collector_workers.specs.declared.outcome.Outcome.{Outcome}
 use Rattle.collector_workers.specs.Outcomes.{Becomes, lines_told, lines_by, worker_for, parcels_for}
@@ -75,38 +75,38 @@ abbrev pub IsNewWorker : SharedBook → PassView → ℕ → Workload → Worker
 IsNewWorker book v number workload worker = IsPassOf book worker.pass × (view worker.pass ≡ new_pass number v.seen) × (worker.workload ≡ workload)
 
 -- a worker for each workload, whose passes have the next numbers
-abbrev pub IsNewCrew : SharedBook → PassView → List Workload → List Worker → Type 0
-IsNewCrew book v workloads crew = (length crew ≡ length workloads)
-    × ((k : ℕ) (d : Worker) → k < length crew → IsNewWorker book v (v.made + 1 + k) (slice_index_or workloads k d.workload) (slice_index_or crew k d))
+abbrev pub AreNewWorkers : SharedBook → PassView → List Workload → List Worker → Type 0
+AreNewWorkers book v workloads workers = (length workers ≡ length workloads)
+    × ((k : ℕ) (d : Worker) → k < length workers → IsNewWorker book v (v.made + 1 + k) (slice_index_or workloads k d.workload) (slice_index_or workers k d))
 
 -- each worker has committed all its parcels
 abbrev pub AllWork : SharedBook → List Worker → List Worker → Type 0
-AllWork book crew crew' = (length crew' ≡ length crew) × ((k : ℕ) (d : Worker) → k < length crew → Works book (slice_index_or crew k d) (slice_index_or crew' k d))
+AllWork book workers workers' = (length workers' ≡ length workers) × ((k : ℕ) (d : Worker) → k < length workers → Works book (slice_index_or workers k d) (slice_index_or workers' k d))
 
 -- the workers' passes have the last numbers, in their order, of so many that were made
 abbrev pub AreLast : ℕ → List Worker → Type 0
-AreLast made crew = (k : ℕ) (d : Worker) → k < length crew → (view (slice_index_or crew k d).pass).number + length crew ≡ made + 1 + k
+AreLast made workers = (k : ℕ) (d : Worker) → k < length workers → (view (slice_index_or workers k d).pass).number + length workers ≡ made + 1 + k
 
 -- the numbers of some workers' passes
 abbrev pub numbers_of : List Worker → List ℕ
-numbers_of crew = map (λ worker. (view worker.pass).number) crew
+numbers_of workers = map (λ worker. (view worker.pass).number) workers
 
 -- a worker's turns are all in the history, which begins with what the worker has seen
 abbrev pub IsJoined : List Turn → Worker → Type 0
 IsJoined seen worker = StartsWith seen (view worker.pass).seen × (turns_by (view worker.pass).number seen ≡ (view worker.pass).mine)
 
 -- the workers' passes were joined in their order
-pub record JoinsAll (v : PassView) (crew : List Worker) (w : PassView) : Type 0 where
+pub record JoinsAll (v : PassView) (workers : List Worker) (w : PassView) : Type 0 where
   pub seen : StartsWith w.seen v.seen
   pub mine : w.mine ≡ v.mine
   pub number : w.number ≡ v.number
   pub made : w.made ≡ v.made
   pub held : w.held ≡ v.held
-  pub out : w.out + length crew ≡ v.out
-  pub joined : w.joined ≡ v.joined ++ numbers_of crew
-  pub own : 0 < length crew → turns_by v.number w.seen ≡ w.mine
-  pub all : All (IsJoined w.seen) crew
-  pub others : (n : ℕ) → Contains v.joined n → ((k : ℕ) (d : Worker) → k < length crew → n ≢ (view (slice_index_or crew k d).pass).number) → turns_by n w.seen ≡ turns_by n v.seen
+  pub out : w.out + length workers ≡ v.out
+  pub joined : w.joined ≡ v.joined ++ numbers_of workers
+  pub own : 0 < length workers → turns_by v.number w.seen ≡ w.mine
+  pub all : All (IsJoined w.seen) workers
+  pub others : (n : ℕ) → Contains v.joined n → ((k : ℕ) (d : Worker) → k < length workers → n ≢ (view (slice_index_or workers k d).pass).number) → turns_by n w.seen ≡ turns_by n v.seen
 
 -- ---- what became of the parcels, in the order of the batch
 
@@ -118,12 +118,12 @@ told_by workers k (p ∷ ps) (x ∷ xs) = if worker_for workers p == k then x �
 
 -- each worker has told of all its parcels
 abbrev pub AreWhole : List Parcel → List Worker → Type 0
-AreWhole batch crew = (k : ℕ) (d : Worker) → k < length crew → length (slice_index_or crew k d).workload.outcomes.items ≡ length (parcels_for (length crew) k batch)
+AreWhole batch workers = (k : ℕ) (d : Worker) → k < length workers → length (slice_index_or workers k d).workload.outcomes.items ≡ length (parcels_for (length workers) k batch)
 
 -- what the workers told, in the order of the batch
 abbrev pub Merges : List Parcel → List Worker → List Outcome → Type 0
-Merges batch crew outcomes = (length outcomes ≡ length batch)
-    × ((k : ℕ) (d : Worker) → k < length crew → told_by (length crew) k batch outcomes ≡ (slice_index_or crew k d).workload.outcomes.items)
+Merges batch workers outcomes = (length outcomes ≡ length batch)
+    × ((k : ℕ) (d : Worker) → k < length workers → told_by (length workers) k batch outcomes ≡ (slice_index_or workers k d).workload.outcomes.items)
 
 -- ---- gather
 

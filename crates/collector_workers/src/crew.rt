@@ -1,130 +1,13 @@
-//! Workers, each with a pass of its own and the parcels of its groups.
+//! Who does a piece of work.
 
-ghost use Rattle.std.specs.Prelude.{◌≡◌, ◌∷◌, [], ◌+◌, ◌^◌, ◌<◌, ◌≤◌, None, length, slice_index_or, vec_len, vec_capacity, All, ℕ};
-ghost use Rattle.shared_book.specs.Ends.{opening, view, IsPassOf};
-ghost use Rattle.shared_book.specs.declared.parcel.Parcel.{Parcel as ParcelView};
-ghost use Rattle.collector_workers.specs.Gathering.{AreWorkloads, IsReady, Commits, Works, SplitsAll, IsNewCrew, AllWork, JoinsAll, AreLast, Merges, AreWhole};
+use crate::workers::Workers;
+use std::alloc::Global;
 
-use crate::gate::Gate;
-use crate::outcome::{Outcome, outcome_at, outcome_of};
-use crate::workload::{Workload, worker_for};
-use shared_book::{Parcel, Pass, SharedBook};
-use std::sync::Wait;
-use std::thread;
-use std::thread::Threads;
-
-/// A worker: its pass, and what it has to do.
+/// Who does a piece of work: threads of the handle, so many workers, each through the gate, with memory of the allocator.
 #[derive(Drop)]
-pub struct Worker {
-    pub pass: Pass,
-    pub workload: Workload,
-}
-
-/// Splits a pass for each workload from the first.
-pub(crate) fn split_all(
-    shared: &SharedBook,
-    first: &mut Pass,
-    workloads: Vec<Workload>,
-    crew: &mut Vec<Worker>,
-)
-    requires pass { IsPassOf shared.now first.old }
-    requires first { ((view first.old).number ≡ 0) × ((view first.old).held ≡ None) }
-    requires few { (view first.old).made + length workloads.items < 2 ^ 32 }
-    requires empty { (crew.old.items ≡ []) × (vec_len crew.old ≡ 0) }
-    requires room { length workloads.items ≤ vec_capacity crew.old }
-    ensures pass { IsPassOf shared.now first.new }
-    ensures first { SplitsAll (view first.old) (length workloads.items) (view first.new) }
-    ensures crew { IsNewCrew shared.now (view first.old) workloads.items crew.new.items }
-{
-    for workload in workloads {
-        let pass = shared.split(first);
-        crew.push_reserved(Worker { pass, workload });
-    }
-}
-
-/// Commits one parcel of a worker.
-fn commit_one<R: Wait>(rt: &R, shared: &SharedBook, worker: &mut Worker, place: usize)
-    requires pass { IsPassOf shared.now worker.old.pass }
-    requires free { (view worker.old.pass).held ≡ None }
-    requires place { place < length worker.old.workload.parcels.items }
-    requires room { (vec_len worker.old.workload.outcomes < vec_capacity worker.old.workload.outcomes) × (1 ≤ worker.old.workload.lines.spare) }
-    ensures pass { IsPassOf shared.now worker.new.pass }
-    ensures committed { (d : ParcelView) → Commits (opening shared.now) worker.old (slice_index_or worker.old.workload.parcels.items place d) worker.new }
-    ensures room { (vec_capacity worker.new.workload.outcomes ≡ vec_capacity worker.old.workload.outcomes) × (vec_len worker.new.workload.outcomes ≡ vec_len worker.old.workload.outcomes + 1) × (worker.old.workload.lines.spare ≤ worker.new.workload.lines.spare + 1) }
-{
-    let parcel = worker.workload.parcels[place];
-    let came = shared.commit(rt, &mut worker.pass, &parcel, &mut worker.workload.lines);
-    let outcome = outcome_of(&came, &worker.workload.lines);
-    worker.workload.outcomes.push_reserved(outcome);
-}
-
-/// One worker: for each of its parcels it calls the gate and commits it.
-fn work<R: Wait, G: Gate>(rt: &R, shared: &SharedBook, worker: &mut Worker, gate: &G, number: u32)
-    requires { IsReady shared.now worker.old }
-    ensures { Works shared.now worker.old worker.new }
-{
-    for place in 0..worker.workload.parcels.len() {
-        gate.at(number);
-        commit_one(rt, shared, worker, place);
-    }
-}
-
-/// All workers beside each other. One of them works on the calling thread.
-pub(crate) fn work_all<R: Threads + Wait + Sync, G: Gate>(
-    rt: &R,
-    shared: &SharedBook,
-    crew: &mut [Worker],
-    gate: &G,
-)
-    requires crew { All (IsReady shared.now) crew.old }
-    requires few { (0 < length crew.old) × (length crew.old < 2 ^ 16) }
-    ensures { AllWork shared.now crew.old crew.new }
-{
-    let count = crew.len();
-    thread::for_each_mut(
-        rt,
-        crew,
-        count,
-        &|i: usize, worker: &mut Worker|
-            requires { IsReady shared.now worker.now × (i < 2 ^ 16) }
-            ensures { Works shared.entry.now worker.entry.now worker.exit.now }
-        { work(rt, shared, worker, gate, i as u32 + 1) },
-    );
-}
-
-/// Puts what became of the parcels into the order of the batch. `taken` has a 0 for each worker.
-pub(crate) fn merge(
-    batch: &[Parcel],
-    crew: &[Worker],
-    taken: &mut [usize],
-    outcomes: &mut Vec<Outcome>,
-)
-    requires some { (0 < length crew.now) × (length taken.old ≡ length crew.now) }
-    requires none_taken { All (λ n. n ≡ 0) taken.old }
-    requires whole { AreWhole batch.now crew.now }
-    requires empty { (outcomes.old.items ≡ []) × (vec_len outcomes.old ≡ 0) }
-    requires room { length batch.now ≤ vec_capacity outcomes.old }
-    ensures { Merges batch.now crew.now outcomes.new.items }
-{
-    for place in 0..batch.len() {
-        let worker = worker_for(&batch[place], crew.len());
-        let outcome = outcome_at(&crew[worker].workload.outcomes, taken[worker]);
-        outcomes.push_reserved(outcome);
-        taken[worker] += 1;
-    }
-}
-
-/// Takes the workers' passes back.
-pub(crate) fn join_all(shared: &SharedBook, first: &mut Pass, crew: Vec<Worker>)
-    requires pass { IsPassOf shared.now first.old }
-    requires first { ((view first.old).number ≡ 0) × ((view first.old).held ≡ None) }
-    requires crew { All (λ worker. IsPassOf shared.now worker.pass × ((view worker.pass).held ≡ None)) crew.items }
-    requires numbers { AreLast (view first.old).made crew.items }
-    ensures pass { IsPassOf shared.now first.new }
-    ensures joined { JoinsAll (view first.old) crew.items (view first.new) }
-{
-    for worker in crew {
-        let Worker { pass, workload: _ } = worker;
-        shared.join(first, pass);
-    }
+pub struct Crew<'a, R, G> {
+    pub rt: &'a R,
+    pub alloc: Global,
+    pub workers: Workers,
+    pub gate: &'a G,
 }

@@ -10,7 +10,7 @@ ghost use Rattle.tick_run.specs.Runs.{told_by, HaveMet, IsOver};
 ghost use Rattle.tick_run.specs.Finished.{IsFinishedUnder};
 
 use crate::ahead::Ahead;
-use collector_workers::Gate;
+use collector_workers::{Crew, Gate};
 use desk_outside::BegunFile;
 use group_plan::Readings;
 use link_lanes::{Lane, Rack};
@@ -20,7 +20,7 @@ use std::sync::Wait;
 use std::sync::atomic::{AtomicBool, Ordering};
 use std::thread;
 use std::thread::Threads;
-use tick_run::{Crew, Finished, Run};
+use tick_run::{Finished, Run};
 use transcript_log::Transcript;
 
 /// So many parts are written at once. With the program's gate they are 8,192 entries, whose text up to two threads make.

@@ -18,7 +18,7 @@ ghost use Rattle.link_lanes.specs.Lanes.{Meaning};
 use crate::run::{RunTexts, finished_texts};
 use crate::sharing::Sharing;
 use crate::values::fit_plan;
-use collector_workers::Gate;
+use collector_workers::{Crew, Gate};
 use command_words::{Outcome, RegisterFiles};
 use link_lanes::{Lane, Rack};
 use pair_keys::KeyTable;
@@ -27,7 +27,7 @@ use register_words::{SideWords, register_report, side_words};
 use std::alloc::{AllocError, Global};
 use std::sync::Wait;
 use std::thread::Threads;
-use tick_run::{Crew, RunError, run_plan};
+use tick_run::{RunError, run_plan};
 use totals_report::{Report, ReportError, read_report};
 use transcript_log::Transcript;
 

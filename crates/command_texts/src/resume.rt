@@ -12,7 +12,7 @@ ghost use Rattle.plan_files.specs.PlanFiles.{view_of};
 use crate::run::{RunTexts, finished_texts};
 use crate::sharing::Sharing;
 use crate::values::RunInput;
-use collector_workers::Gate;
+use collector_workers::{Crew, Gate};
 use command_words::Outcome;
 use cut_resume::{CutError, ResumeError, is_of_plan, read_cut, resume_plan};
 use group_plan::Plan;
@@ -20,7 +20,6 @@ use link_lanes::Lane;
 use std::alloc::{AllocError, Global};
 use std::sync::Wait;
 use std::thread::Threads;
-use tick_run::Crew;
 use transcript_log::Transcript;
 use transcript_text::ReadError;
 

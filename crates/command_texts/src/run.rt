@@ -14,14 +14,14 @@ ghost use Rattle.plan_files.specs.PlanFiles.{view_of};
 
 use crate::sharing::Sharing;
 use crate::values::RunInput;
-use collector_workers::Gate;
+use collector_workers::{Crew, Gate};
 use group_book::Book;
 use link_lanes::Lane;
 use sparse_masks::least_of_book;
 use std::alloc::{AllocError, Global};
 use std::sync::Wait;
 use std::thread::Threads;
-use tick_run::{Crew, Finished, RunError, run_plan};
+use tick_run::{Finished, RunError, run_plan};
 use totals_report::{report, summary};
 use transcript_log::Transcript;
 

@@ -9,14 +9,14 @@ ghost use Rattle.tick_run.specs.Runs.{HaveMet, IsOver};
 ghost use Rattle.cut_resume.specs.Heard.{AreAllFirst, AreFirst, AreHeard, IsInOrder};
 
 use crate::left::is_same;
-use collector_workers::Gate;
+use collector_workers::{Crew, Gate};
 use group_plan::Readings;
 use link_lanes::{Lane, Rack};
 use mask_stream::Masks;
 use std::alloc::AllocError;
 use std::sync::Wait;
 use std::thread::Threads;
-use tick_run::{Crew, Finished, Run};
+use tick_run::{Finished, Run};
 use transcript_log::Transcript;
 
 /// So many parts are heard at once. With the program's gate they are 8,192 entries.

@@ -12,7 +12,7 @@ use crate::ResumeError;
 use crate::heard::{Heard, run_beside};
 use crate::left::pick_all;
 use crate::made::{Made, remake};
-use collector_workers::Gate;
+use collector_workers::{Crew, Gate};
 use group_book::{Book, Parts};
 use group_plan::{Plan, Presence, Readings};
 use link_lanes::{Lane, Rack};
@@ -21,7 +21,7 @@ use pair_keys::KeyTable;
 use std::alloc::Global;
 use std::sync::Wait;
 use std::thread::Threads;
-use tick_run::{Crew, Finished};
+use tick_run::Finished;
 use transcript_log::Transcript;
 
 /// Learns that only members have a reading.

@@ -8,7 +8,7 @@ ghost use Rattle.run_commands.specs.LoadEnds.{LoadEnds};
 ghost use Rattle.command_words.specs.Outcomes.{IsFault};
 
 use crate::run_texts::run_texts;
-use collector_workers::Gate;
+use collector_workers::{Crew, Gate, Workers};
 use command_files::{Ahead, begin, commit_failed, commit_one, say};
 use command_texts::{Sharing, read_run, texts_in_memory};
 use command_words::{LoadWords, Outcome};
@@ -18,7 +18,6 @@ use load_maker::{Made, MakeError, make};
 use std::alloc::Global;
 use std::sync::Wait;
 use std::thread::Threads;
-use tick_run::{Crew, Workers};
 
 /// What the two made files are called, which are never refused.
 const PLAN: &str = "plan";

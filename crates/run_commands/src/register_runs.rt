@@ -6,7 +6,7 @@ ghost use Rattle.command_words.specs.Commands.{register_names_of};
 ghost use Rattle.command_words.specs.Outcomes.{IsFault};
 ghost use Rattle.run_commands.specs.RegisterEnds.{RegistersEnds};
 
-use collector_workers::Gate;
+use collector_workers::{Crew, Gate, Workers};
 use command_files::{Source, ThreeSources, begin_three, commit_three, fetch_two, first_of_three};
 use command_texts::{read_register_run, register_texts};
 use command_words::{Outcome, RegisterWords};
@@ -15,7 +15,6 @@ use link_lanes::Lane;
 use std::alloc::Global;
 use std::sync::Wait;
 use std::thread::Threads;
-use tick_run::{Crew, Workers};
 
 /// Fetches the plan and the readings of several registers, runs register 0, puts the transcript, the words of the other registers and
 /// the report with a total of each, and says the summary. The files are begun before the run, so that a name that can't be written is

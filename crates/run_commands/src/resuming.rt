@@ -6,7 +6,7 @@ ghost use Rattle.command_words.specs.Commands.{resume_names_of};
 ghost use Rattle.command_words.specs.Outcomes.{IsFault};
 ghost use Rattle.run_commands.specs.ResumeEnds.{ResumeCommandEnds};
 
-use collector_workers::Gate;
+use collector_workers::{Crew, Gate, Workers};
 use command_files::{Ahead, Source, begin, commit_two, fetch, fetch_two, first_of_two};
 use command_texts::{cut_in, read_run, resume_texts};
 use command_words::{Outcome, ResumeWords};
@@ -16,7 +16,6 @@ use link_lanes::Lane;
 use std::alloc::Global;
 use std::sync::Wait;
 use std::thread::Threads;
-use tick_run::{Crew, Workers};
 
 /// Fetches the plan, the readings and a cut transcript, goes on from it, puts the transcript and then the report, and says the summary.
 /// Both files are begun before the run, so that a name that can't be written is found then, and the new transcript gets the cut's own

@@ -11,7 +11,7 @@ ghost use Rattle.link_lanes.specs.Lanes.{Meaning};
 ghost use Rattle.plan_files.specs.PlanFiles.{view_of};
 ghost use Rattle.command_texts.specs.RunTexts.{texts_of};
 
-use collector_workers::Gate;
+use collector_workers::{Crew, Gate};
 use command_files::{Ahead, run_ahead};
 use command_texts::{RunInput, RunTexts, Sharing, finished_texts};
 use desk_outside::BegunFile;
@@ -23,7 +23,7 @@ use sparse_masks::RingMasks;
 use std::alloc::AllocError;
 use std::sync::Wait;
 use std::thread::Threads;
-use tick_run::{Crew, Finished};
+use tick_run::Finished;
 
 // Runs a plan under the mask words that its meters share.
 fn run_shared<'n, 'r, R: Threads + Wait + Sync, G: Gate, B: BegunFile + Send + Drop>(

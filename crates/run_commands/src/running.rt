@@ -7,7 +7,7 @@ ghost use Rattle.run_commands.specs.RunEnds.{RunEnds, RingEnds, RunEndsBy};
 ghost use Rattle.command_words.specs.Outcomes.{IsFault};
 
 use crate::run_texts::run_texts;
-use collector_workers::Gate;
+use collector_workers::{Crew, Gate, Workers};
 use command_files::{Ahead, Source, begin, commit_two, fetch_two, first_of_two};
 use command_texts::{Sharing, read_run};
 use command_words::{Outcome, RingWords, RunFiles, RunWords};
@@ -16,7 +16,6 @@ use link_lanes::Lane;
 use std::alloc::Global;
 use std::sync::Wait;
 use std::thread::Threads;
-use tick_run::{Crew, Workers};
 
 /// Fetches the plan and the readings, runs, puts the transcript and then the report, and says the summary.
 pub fn run<'a, R: Threads + Wait + Sync, D: Desk, G: Gate>(

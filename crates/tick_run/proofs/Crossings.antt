@@ -16,7 +16,7 @@ use Rattle.transcript_log.specs.contracts.lines.Lines as Lines
 use Rattle.shared_book.specs.contracts.parts.SharedBook as Book
 use Rattle.shared_book.proofs.Crossings.{slot_send, seat_send, seat_sync, shared_sync, lease_sync, pages_sync, lines_sync, presence_sync}
 use Rattle.tick_run.specs.contracts.context.Context as Context
-use Rattle.tick_run.specs.contracts.context.Crew as Crew
+use Rattle.collector_workers.specs.contracts.crew.Crew as Crew
 use Rattle.tick_run.specs.contracts.running.Group as Group
 
 link_send : IsSend Link.the_row

@@ -1,23 +1,12 @@
-//! Who makes a run, and what never changes in it.
+//! What never changes in a run, and how many threads make its ticks.
 
 ghost use Rattle.std.specs.Prelude.{◌<◌};
 
-use crate::workers::Workers;
-use collector_workers::Gate;
+use collector_workers::{Crew, Gate};
 use group_plan::Plan;
 use plan_meters::Known;
-use std::alloc::Global;
 use std::thread;
 use std::thread::Threads;
-
-/// Who makes a run: threads of the handle, so many workers, each through the gate, with memory of the allocator.
-#[derive(Drop)]
-pub struct Crew<'a, R, G> {
-    pub rt: &'a R,
-    pub alloc: Global,
-    pub workers: Workers,
-    pub gate: &'a G,
-}
 
 /// About how many frames a tick of a plan has: the readings of all of its meters.
 fn frames_a_tick(plan: &Plan) -> usize {

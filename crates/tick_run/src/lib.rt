@@ -12,14 +12,11 @@ mod plan_run;
 mod run;
 mod running;
 mod tick;
-mod workers;
 
-pub use context::Crew;
 pub use finished::Finished;
 pub use plan_run::{run_masked, run_plan};
 pub use run::Run;
 use std::alloc::AllocError;
-pub use workers::Workers;
 
 /// Why there is no run.
 #[derive(Clone, Copy)]

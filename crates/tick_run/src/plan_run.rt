@@ -9,10 +9,9 @@ ghost use Rattle.tick_run.specs.Finished.{IsFinished, IsFinishedUnder, HasRowsOf
 ghost use Rattle.tick_run.specs.Runs.{HaveMet, IsOver, MakesTicks};
 
 use crate::RunError;
-use crate::context::Crew;
 use crate::finished::Finished;
 use crate::run::Run;
-use collector_workers::Gate;
+use collector_workers::{Crew, Gate};
 use group_plan::{Plan, Readings};
 use link_lanes::{Lane, Rack};
 use mask_stream::{ChaMasks, Masks};

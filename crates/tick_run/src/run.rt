@@ -8,12 +8,12 @@ ghost use Rattle.link_lanes.specs.Racks.{slots, posts_of, HasRoom};
 ghost use Rattle.tick_run.specs.Finished.{IsFinishedUnder, HasRowsOf};
 ghost use Rattle.tick_run.specs.Runs.{before_ticks, told_by, HaveMet, IsOver, MakesTicks};
 
-use crate::context::{Context, Crew, threads_of};
+use crate::context::{Context, threads_of};
 use crate::finished::{Finished, make_finished, presence_is_of_members, readings_are_limited};
 use crate::first::{begin, sends_about};
 use crate::running::Running;
 use crate::tick::run_tick;
-use collector_workers::Gate;
+use collector_workers::{Crew, Gate};
 use group_plan::Readings;
 use link_lanes::{Lane, Rack};
 use mask_stream::Masks;

@@ -33,10 +33,10 @@ take_down-requires-clause-own g c =
 pub of_parts-book-requires : goal.of_parts-book-requires
 of_parts-book-requires g c =
     let o = opening c.args.shared in
-    let n = c.args.workers in
+    let n = c.args.crew.now.workers.count in
     let w = view c.gather-gathered.new.first in
     let outs : List Outcome = c.in-Ok.outcomes.items in
-    let some = c.requires.workers.0 in
+    let some = c.args.crew.now.workers.within.0 in
     let ends = c.shut-parts.ensures.ends in
     let gathers : Gathers o (new_pass 0 []) c.args.batch.now n outs w = subst (λ (v : PassView). Gathers o v c.args.batch.now n outs w) c.requires.pass.1 c.in-Ok.ensures.ends in
     let lines : c.take_down.new.lines.items ≡ o.journal ++ lines_told outs = c.take_down.ensures.lines ∙ (λ i. ends.journal i ++ lines_told (c.as_slice.ensures.value i)) in
@@ -45,10 +45,10 @@ of_parts-book-requires g c =
 pub returns-in-Ok : goal.returns-in-Ok
 returns-in-Ok g c =
     let o = opening c.args.shared in
-    let n = c.args.workers in
+    let n = c.args.crew.now.workers.count in
     let w = view c.gather-gathered.new.first in
     let outs : List Outcome = c.in-Ok.outcomes.items in
-    let some = c.requires.workers.0 in
+    let some = c.args.crew.now.workers.within.0 in
     let ends = c.shut-parts.ensures.ends in
     let gathers : Gathers o (new_pass 0 []) c.args.batch.now n outs w = subst (λ (v : PassView). Gathers o v c.args.batch.now n outs w) c.requires.pass.1 c.in-Ok.ensures.ends in
     let lines : c.take_down.new.lines.items ≡ o.journal ++ lines_told outs = c.take_down.ensures.lines ∙ (λ i. ends.journal i ++ lines_told (c.as_slice.ensures.value i)) in

@@ -1,7 +1,7 @@
 use Rattle.std.proofs.Common.{◌≡◌, ◌≤◌, ◌+◌, take, length, vec_capacity, vec_len}
 use Rattle.shared_book.specs.Ends.{opening, IsPassOf}
 use Rattle.collector_workers.specs.Gathering.{Does}
-use Rattle.collector_workers.proofs.crew.work.Given as goal
+use Rattle.collector_workers.proofs.worker.work.Given as goal
 
 abbrev pub invariant-loop-place : goal.invariant-loop-place
 invariant-loop-place g l = record {

@@ -4,7 +4,7 @@ use Rattle.shared_book.specs.Ends.{opening, view}
 use Rattle.shared_book.specs.declared.parcel.Parcel.{Parcel}
 use Rattle.collector_workers.specs.Outcomes.{Becomes}
 use Rattle.collector_workers.proofs.Told.{Comes, came}
-use Rattle.collector_workers.proofs.crew.commit_one.Goals as goal
+use Rattle.collector_workers.proofs.worker.commit_one.Goals as goal
 
 pub returns-clause-committed : goal.returns-clause-committed
 returns-clause-committed g c d =

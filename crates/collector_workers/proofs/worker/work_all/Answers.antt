@@ -1,10 +1,10 @@
 use Rattle.std.proofs.Common.{◌≡◌, length, rules, subst}
 use denote.Param.Send.{sendable}
 use Rattle.std.proofs.Crossing.{crosses}
-use Rattle.collector_workers.specs.declared.crew.Worker.{Worker}
+use Rattle.collector_workers.specs.declared.worker.Worker.{Worker}
 use Rattle.collector_workers.specs.Gathering.{Works}
 use Rattle.collector_workers.proofs.Crossings.{worker_send, book_sync}
-use Rattle.collector_workers.proofs.crew.work_all.Goals as goal
+use Rattle.collector_workers.proofs.worker.work_all.Goals as goal
 
 pub for_each_mut-requires-send-T : goal.for_each_mut-requires-send-T
 for_each_mut-requires-send-T g c κs q = search (sendable, crosses, worker_send) depth 60
@@ -14,7 +14,7 @@ for_each_mut-requires-sync-F g c κs q = search (sendable, crosses, book_sync, c
 
 pub returns : goal.returns
 returns g c =
-    let long : length c.for_each_mut.new.s ≡ length c.args.crew.now = search rules in (
+    let long : length c.for_each_mut.new.s ≡ length c.args.workers.now = search rules in (
       long,
       λ k d lt.
           let change = (c.for_each_mut.ensures k d lt).1 in

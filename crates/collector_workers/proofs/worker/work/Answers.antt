@@ -1,7 +1,7 @@
 use Rattle.std.proofs.Common.{◌+◌, ap, ◌∙◌, arith}
 use Rattle.shared_book.specs.Ends.{opening}
 use Rattle.collector_workers.proofs.Told.{worked_more}
-use Rattle.collector_workers.proofs.crew.work.Goals as goal
+use Rattle.collector_workers.proofs.worker.work.Goals as goal
 
 pub loop-place-preserved : goal.loop-place-preserved
 loop-place-preserved g c =

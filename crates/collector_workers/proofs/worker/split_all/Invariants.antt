@@ -1,7 +1,7 @@
 use Rattle.std.proofs.Common.{◌≡◌, length, vec_len, vec_capacity}
 use Rattle.shared_book.specs.Ends.{IsPassOf, view}
-use Rattle.collector_workers.specs.Gathering.{SplitsAll, IsNewCrew}
-use Rattle.collector_workers.proofs.crew.split_all.Given as goal
+use Rattle.collector_workers.specs.Gathering.{SplitsAll, AreNewWorkers}
+use Rattle.collector_workers.proofs.worker.split_all.Given as goal
 
 abbrev pub invariant-loop-workload : goal.invariant-loop-workload
 invariant-loop-workload l = record {
@@ -9,7 +9,7 @@ invariant-loop-workload l = record {
   finite : (goal.iterator-loop-workload).is_finite l.workload-iterator;
   pass : IsPassOf l.shared l.first;
   splits : SplitsAll (view l.fn.first) (length l.yielded) (view l.first);
-  new : IsNewCrew l.shared (view l.fn.first) l.yielded l.crew.items;
-  long : vec_len l.crew ≡ length l.yielded;
-  room : vec_capacity l.crew ≡ vec_capacity l.fn.crew;
+  new : AreNewWorkers l.shared (view l.fn.first) l.yielded l.workers.items;
+  long : vec_len l.workers ≡ length l.yielded;
+  room : vec_capacity l.workers ≡ vec_capacity l.fn.workers;
 }

@@ -1,8 +1,8 @@
-//! How many workers a run has.
+//! How many workers there are.
 
 ghost use Rattle.std.specs.Prelude.{◌≡◌, ◌≤◌};
 
-/// How many workers a run has: 1 to 16.
+/// How many workers there are: 1 to 16.
 #[derive(Clone, Copy)]
 pub struct Workers {
     pub count: u32,
