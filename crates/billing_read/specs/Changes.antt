@@ -11,7 +11,7 @@ abbrev pub before_change : Change → Readings
 before_change c = reading c.readings.now.table
 
 abbrev pub after_change : Change → Readings
-after_change c = changed (before_change c) c.group c.round c.meter c.partner
+after_change c = changed (before_change c) c.place.group c.place.round c.place.meter c.partner
 
 -- the table has the readings f at each place before this one
 abbrev pub HasBefore : Readings → ReadingsView → (g r i : ℕ) → Type 0
@@ -19,7 +19,7 @@ HasBefore f y g r i = (a b c : ℕ) → is_earlier a b c g r i ≡ true → read
 
 -- the readings can move
 abbrev pub IsChange : Change → Type 0
-IsChange c = CanExchange (before_change c) c.group c.round c.meter c.partner
+IsChange c = CanExchange (before_change c) c.place.group c.place.round c.place.meter c.partner
 
 -- a number can move so, and stays below 2^40
 abbrev pub CanStep : Option Bool → ℕ → Type 0

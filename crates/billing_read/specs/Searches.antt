@@ -13,14 +13,14 @@ use Rattle.billing_read.specs.PartnerEnds.{comes_before, IsFirst}
 -- the readings are of the book's plan, the place is in it, its round lies in the period, and these are its survivors where it is opened
 pub record IsSearch (q : Search) : Type 0 where
   pub plan : q.readings.now.plan ≡ q.book.now.presence.plan
-  pub place : IsTrue (is_place q.readings.now.plan q.group q.round q.meter)
-  pub period : (q.from ≤ q.round) × (q.round < q.until)
-  pub opened : IsOpened (shape_of q.book.now) q.group q.round (past q.book.now) q.survivors
+  pub place : IsTrue (is_place q.readings.now.plan q.place.group q.place.round q.place.meter)
+  pub period : (q.from ≤ q.place.round) × (q.place.round < q.until)
+  pub opened : IsOpened (shape_of q.book.now) q.place.group q.place.round (past q.book.now) q.survivors
 
 -- a partner of what is looked for, after the events of the book
 abbrev pub PartnerOf : Search → Partner → Type 0
 PartnerOf q p =
-    IsPartner (shape_of q.book.now) (reading q.readings.now.table) (past q.book.now) q.from q.until q.group q.round q.meter p
+    IsPartner (shape_of q.book.now) (reading q.readings.now.table) (past q.book.now) q.from q.until q.place.group q.place.round q.place.meter p
 
 -- none with the property comes before plus at meter j in round s
 abbrev pub HasNoneBefore : (Partner → Type 0) → (s j : ℕ) → Type 0

@@ -6,7 +6,7 @@ ghost use Rattle.billing_read.specs.Partners.{CanExchange, move_of, moved};
 ghost use Rattle.billing_read.specs.PartnerEnds.{IsOtherWorld};
 ghost use Rattle.billing_read.specs.Changes.{after_change, HasBefore, IsChange, CanStep};
 
-use crate::Partner;
+use crate::{Partner, ReadingPlace};
 use group_plan::{Plan, Readings};
 use std::alloc::{AllocError, Global};
 
@@ -14,9 +14,7 @@ use std::alloc::{AllocError, Global};
 #[derive(Clone, Copy)]
 struct Change<'a> {
     readings: &'a Readings,
-    group: u16,
-    round: u32,
-    meter: u8,
+    place: ReadingPlace,
     partner: Partner,
 }
 
@@ -35,11 +33,11 @@ fn moved(step: Option<bool>, value: u64) -> u64
 impl<'a> Change<'a> {
     // Whether the reading of a place rises, or falls, where it moves.
     fn move_of(&self, group: u16, round: u32, meter: u8) -> Option<bool>
-        ensures { result ≡ move_of self.now.group self.now.round self.now.meter self.now.partner group round meter }
+        ensures { result ≡ move_of self.now.place.group self.now.place.round self.now.place.meter self.now.partner group round meter }
     {
-        let (here, there) = (round == self.round, round == self.partner.round);
-        let (same, partner) = (meter == self.meter, meter == self.partner.meter);
-        if group != self.group {
+        let (here, there) = (round == self.place.round, round == self.partner.round);
+        let (same, partner) = (meter == self.place.meter, meter == self.partner.meter);
+        if group != self.place.group {
             None
         } else if (here && same) || (there && partner) {
             Some(self.partner.plus)
@@ -101,22 +99,18 @@ pub fn other_world(
     alloc: Global,
     plan: &Plan,
     readings: &Readings,
-    group: u16,
-    round: u32,
-    meter: u8,
+    place: ReadingPlace,
     partner: &Partner,
 ) -> Result<Readings, AllocError>
     requires plan { readings.now.plan ≡ plan.now }
-    requires exchange { CanExchange (reading readings.now.table) group round meter partner.now }
-    ensures { IfOk result (IsOtherWorld readings.now group round meter partner.now) }
+    requires exchange { CanExchange (reading readings.now.table) place.group place.round place.meter partner.now }
+    ensures { IfOk result (IsOtherWorld readings.now place.group place.round place.meter partner.now) }
 {
     let _readings = readings.plan();
     let mut other = Readings::new(alloc, plan)?;
     let change = Change {
         readings,
-        group,
-        round,
-        meter,
+        place,
         partner: *partner,
     };
     for group in 0..plan.groups().len() {

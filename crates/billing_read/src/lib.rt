@@ -9,7 +9,7 @@ mod writing;
 
 pub use bills::{Bill, bills_of};
 pub use changes::other_world;
-pub use partners::Partner;
+pub use partners::{Partner, ReadingPlace};
 pub use search::partner;
 pub use writing::bills_text;
 

@@ -9,7 +9,7 @@ ghost use Rattle.billing_read.specs.Partners.{CanMove, CanExchange, KeepsTotal};
 ghost use Rattle.billing_read.specs.PartnerEnds.{IsFirst, IsFirstPartner, IsHiddenBy};
 ghost use Rattle.billing_read.specs.Searches.{IsSearch, PartnerOf, HasNoneBefore, IsFirstBefore, Keeps};
 
-use crate::Partner;
+use crate::{Partner, ReadingPlace};
 use group_book::Book;
 use group_plan::Readings;
 use ideal_masks::{opened_survivors, replay_events};
@@ -27,9 +27,7 @@ struct Search<'a> {
     book: &'a Book,
     from: u32,
     until: u32,
-    group: u16,
-    round: u32,
-    meter: u8,
+    place: ReadingPlace,
     // The survivors of its round, where that is opened.
     survivors: Option<MeterSet>,
 }
@@ -57,47 +55,50 @@ fn keeps_total(survivors: &Option<MeterSet>, one: u8, other: u8) -> bool
 impl<'a> Search<'a> {
     // The reading of a meter of the group.
     fn reading(&self, round: u32, meter: u8) -> Option<u64>
-        requires { IsTrue (is_place self.now.readings.now.plan self.now.group round meter) }
-        ensures { result ≡ reading self.now.readings.now.table self.now.group round meter }
+        requires { IsTrue (is_place self.now.readings.now.plan self.now.place.group round meter) }
+        ensures { result ≡ reading self.now.readings.now.table self.now.place.group round meter }
     {
-        self.readings.get(self.group, round, meter)
+        self.readings.get(self.place.group, round, meter)
     }
 
     // Whether the four readings can move.
     fn can_exchange(&self, partner: &Partner) -> bool
         requires search { IsSearch self.now }
-        requires place { IsTrue (is_place self.now.readings.now.plan self.now.group partner.now.round partner.now.meter) }
-        ensures { IsTrue result ↔ CanExchange (reading self.now.readings.now.table) self.now.group self.now.round self.now.meter partner.now }
+        requires place { IsTrue (is_place self.now.readings.now.plan self.now.place.group partner.now.round partner.now.meter) }
+        ensures { IsTrue result ↔ CanExchange (reading self.now.readings.now.table) self.now.place.group self.now.place.round self.now.place.meter partner.now }
     {
-        partner.round != self.round
-            && partner.meter != self.meter
-            && can_move(partner.plus, self.reading(self.round, self.meter))
+        partner.round != self.place.round
+            && partner.meter != self.place.meter
+            && can_move(
+                partner.plus,
+                self.reading(self.place.round, self.place.meter),
+            )
             && can_move(partner.plus, self.reading(partner.round, partner.meter))
-            && can_move(!partner.plus, self.reading(self.round, partner.meter))
-            && can_move(!partner.plus, self.reading(partner.round, self.meter))
+            && can_move(!partner.plus, self.reading(self.place.round, partner.meter))
+            && can_move(!partner.plus, self.reading(partner.round, self.place.meter))
     }
 
     // Whether it is a partner, in a round of the period with these survivors where it is opened.
     fn is_partner(&self, survivors: &Option<MeterSet>, partner: &Partner) -> bool
         requires search { IsSearch self.now }
-        requires place { IsTrue (is_place self.now.readings.now.plan self.now.group partner.now.round partner.now.meter) }
+        requires place { IsTrue (is_place self.now.readings.now.plan self.now.place.group partner.now.round partner.now.meter) }
         requires from { self.now.from ≤ partner.now.round }
         requires until { partner.now.round < self.now.until }
-        requires opened { IsOpened (shape_of self.now.book.now) self.now.group partner.now.round (past self.now.book.now) survivors.now }
+        requires opened { IsOpened (shape_of self.now.book.now) self.now.place.group partner.now.round (past self.now.book.now) survivors.now }
         ensures { IsTrue result ↔ PartnerOf self.now partner.now }
     {
-        keeps_total(&self.survivors, self.meter, partner.meter)
-            && keeps_total(survivors, self.meter, partner.meter)
+        keeps_total(&self.survivors, self.place.meter, partner.meter)
+            && keeps_total(survivors, self.place.meter, partner.meter)
             && self.can_exchange(partner)
     }
 
     // The partner at a meter, with plus or else with minus.
     fn partner_at(&self, survivors: &Option<MeterSet>, round: u32, meter: u8) -> Option<Partner>
         requires search { IsSearch self.now }
-        requires place { IsTrue (is_place self.now.readings.now.plan self.now.group round meter) }
+        requires place { IsTrue (is_place self.now.readings.now.plan self.now.place.group round meter) }
         requires from { self.now.from ≤ round }
         requires until { round < self.now.until }
-        requires opened { IsOpened (shape_of self.now.book.now) self.now.group round (past self.now.book.now) survivors.now }
+        requires opened { IsOpened (shape_of self.now.book.now) self.now.place.group round (past self.now.book.now) survivors.now }
         requires before { HasNoneBefore (PartnerOf self.now) round meter }
         ensures { IsFirstBefore (PartnerOf self.now) round (meter + 1) result }
     {
@@ -129,8 +130,8 @@ impl<'a> Search<'a> {
         requires before { HasNoneBefore (PartnerOf self.now) round 0 }
         ensures { IsFirstBefore (PartnerOf self.now) (round + 1) 0 result }
     {
-        let survivors = opened_survivors(self.book, self.group, round);
-        for meter in 0..self.readings.plan().meters(self.group) {
+        let survivors = opened_survivors(self.book, self.place.group, round);
+        for meter in 0..self.readings.plan().meters(self.place.group) {
             let found = self.partner_at(&survivors, round, meter as u8);
             if found.is_some() {
                 return found;
@@ -155,20 +156,13 @@ impl<'a> Search<'a> {
 }
 
 // Whether the plan has the place, and its round lies in the period.
-fn is_in_period(
-    readings: &Readings,
-    from: u32,
-    until: u32,
-    group: u16,
-    round: u32,
-    meter: u8,
-) -> bool
-    ensures test { result ≡ (is_place readings.now.plan group round meter && nat_le from round && nat_lt round until) }
+fn is_in_period(readings: &Readings, from: u32, until: u32, place: ReadingPlace) -> bool
+    ensures test { result ≡ (is_place readings.now.plan place.group place.round place.meter && nat_le from place.round && nat_lt place.round until) }
     ensures table { IsReadingTable readings.now.plan readings.now.table }
 {
     let plan = readings.plan();
-    let is_place = round < plan.rounds() && u32::from(meter) < plan.meters(group);
-    is_place && from <= round && round < until
+    let is_place = place.round < plan.rounds() && u32::from(place.meter) < plan.meters(place.group);
+    is_place && from <= place.round && place.round < until
 }
 
 /// The first partner of a reading in the rounds from `from` up to below `until`, by round, then by meter, plus before minus; none
@@ -179,15 +173,13 @@ pub fn partner(
     transcript: &Transcript,
     from: u32,
     until: u32,
-    group: u16,
-    round: u32,
-    meter: u8,
+    place: ReadingPlace,
 ) -> Result<Option<Partner>, AllocError>
     requires { readings.now.plan ≡ transcript.now.plan }
-    ensures first { IfOk result (IsFirstPartner readings.now (events_of transcript.now.entries) from until group round meter) }
-    ensures hidden { IfOk result (λ found. IfSome found (IsHiddenBy readings.now (events_of transcript.now.entries) from until group round meter)) }
+    ensures first { IfOk result (IsFirstPartner readings.now (events_of transcript.now.entries) from until place.group place.round place.meter) }
+    ensures hidden { IfOk result (λ found. IfSome found (IsHiddenBy readings.now (events_of transcript.now.entries) from until place.group place.round place.meter)) }
 {
-    if !is_in_period(readings, from, until, group, round, meter) {
+    if !is_in_period(readings, from, until, place) {
         return Ok(None);
     }
     let book = replay_events(alloc, readings, transcript)?;
@@ -196,10 +188,8 @@ pub fn partner(
         book: &book,
         from,
         until,
-        group,
-        round,
-        meter,
-        survivors: opened_survivors(&book, group, round),
+        place,
+        survivors: opened_survivors(&book, place.group, place.round),
     };
     Ok(search.first_partner())
 }

@@ -123,6 +123,13 @@ impl<B: BegunFile + Drop> Begun<'_, B> {
     }
 }
 
+/// A file that the desk has begun, and where the bytes that it still lacks come from.
+#[derive(Drop)]
+pub struct PendingFile<'a, 'b, B: BegunFile + Drop> {
+    pub begun: Begun<'a, B>,
+    pub source: Source<'b>,
+}
+
 /// Begins a file for a command.
 pub fn begin<'a, B: BegunFile + Drop, D: Desk<Begun = B>>(
     name: &'a str,
@@ -184,34 +191,37 @@ pub fn commit_one<'a, B: BegunFile + Drop, D: Desk<Begun = B>>(
     say(line, desk)
 }
 
-/// Appends the bytes of a source to the second of two files, commits both, one after the other, once both are on the disk, and then says a
+/// Appends the bytes that the second of two files lacks, commits both, one after the other, once both are on the disk, and then says a
 /// line. Where either of them has failed, neither is committed. A first file that is a pipe is closed before the second gets its bytes.
 pub fn commit_two<'a, R: Threads + Sync, B: BegunFile + Drop, D: Desk<Begun = B>>(
     rt: &R,
     alloc: Global,
     first: Begun<'a, B>,
-    second: Begun<'a, B>,
-    source: Source<'_>,
+    second: PendingFile<'a, '_, B>,
     line: &[u8],
     desk: &mut D,
 ) -> Outcome<'a>
-    ensures ends { (one : List ℕ) → B.has first.entry.file one → B.has second.entry.file []
-        → PutsEnd (putting first.entry.name.now one ∷ putting second.entry.name.now (source_bytes source.entry) ∷ []) line.now (D.view desk.old) (D.view desk.new) result }
-    ensures neither { (B.failed first.entry.file ≡ true) ⊎ (B.failed second.entry.file ≡ true)
-        → Unwritable (first.entry.name.now ∷ second.entry.name.now ∷ []) (D.view desk.old) (D.view desk.new) result }
+    ensures ends { (one : List ℕ) → B.has first.entry.file one → B.has second.entry.begun.file []
+        → PutsEnd (putting first.entry.name.now one ∷ putting second.entry.begun.name.now (source_bytes second.entry.source) ∷ []) line.now (D.view desk.old) (D.view desk.new) result }
+    ensures neither { (B.failed first.entry.file ≡ true) ⊎ (B.failed second.entry.begun.file ≡ true)
+        → Unwritable (first.entry.name.now ∷ second.entry.begun.name.now ∷ []) (D.view desk.old) (D.view desk.new) result }
     ensures later { D.faults desk.old ≤ D.faults desk.new }
     ensures cause { IsFault result → Rose (D.faults desk.old) (D.faults desk.new) }
 {
-    let (mut first, mut second) = (first, second);
-    if first.fails_to_flush() {
-        return commit_failed(first, desk);
+    let mut front = first;
+    let PendingFile {
+        begun: mut back,
+        source,
+    } = second;
+    if front.fails_to_flush() {
+        return commit_failed(front, desk);
     }
-    second.append_source(rt, alloc, source);
-    if second.fails_to_flush() {
-        return commit_failed(second, desk);
+    back.append_source(rt, alloc, source);
+    if back.fails_to_flush() {
+        return commit_failed(back, desk);
     }
-    or_end!(commit(first, desk));
-    commit_one(second, line, desk)
+    or_end!(commit(front, desk));
+    commit_one(back, line, desk)
 }
 
 /// Commits two files, one after the other, and then says a line.
@@ -392,9 +402,13 @@ pub fn put_two<'a, R: Threads + Sync, D: Desk>(
     let Ok(mut one) = begin(first.name, first.readers, desk) else {
         return Outcome::NoMemory;
     };
-    let Ok(two) = begin(second.name, second.readers, desk) else {
+    let Ok(begun) = begin(second.name, second.readers, desk) else {
         return Outcome::NoMemory;
     };
     one.append_source(rt, alloc, first.source);
-    commit_two(rt, alloc, one, two, second.source, line, desk)
+    let two = PendingFile {
+        begun,
+        source: second.source,
+    };
+    commit_two(rt, alloc, one, two, line, desk)
 }

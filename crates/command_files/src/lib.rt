@@ -28,9 +28,9 @@ mod source;
 
 pub use ahead::Ahead;
 pub use desk_calls::{
-    Begun, NewFile, ThreeBegun, ThreeSources, begin, begin_three, commit, commit_failed,
-    commit_one, commit_three, commit_two, fetch, fetch_two, first_of_three, first_of_two, put_one,
-    put_two, say,
+    Begun, NewFile, PendingFile, ThreeBegun, ThreeSources, begin, begin_three, commit,
+    commit_failed, commit_one, commit_three, commit_two, fetch, fetch_two, first_of_three,
+    first_of_two, put_one, put_two, say,
 };
 pub use leading::run_ahead;
 pub use source::Source;

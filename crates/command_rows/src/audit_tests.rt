@@ -1,10 +1,9 @@
 //! The command `audit`: what it confirms, and the first line or row that it doesn't.
 
 use crate::fixtures::{
-    NORTH, OLD_TRANSCRIPT, RUN, TRANSCRIPT, check_complained, check_refused, check_said,
-    check_status, desk_of as run_desk, held, replaced,
+    NORTH, OLD_TRANSCRIPT, RUN, Refusal, TRANSCRIPT, check_complained, check_refused, check_said,
+    check_status, held, replaced,
 };
-use collector_workers::Free;
 use desk_outside::MemoryDesk;
 use std::alloc::Global;
 use std::process::Abort;
@@ -277,7 +276,7 @@ fn check_confirmed(
     text: &str,
     name: &str,
 ) -> Result<(), Fail> {
-    check_status(rt, alloc, AUDIT, desk, &Free, 0, name)?;
+    check_status(rt, alloc, AUDIT, desk, 0, name)?;
     let wanted = format!(in alloc; "{text}\n")?;
     check_said(rt, desk, &wanted, name);
     check_complained(rt, desk, "", name);
@@ -298,7 +297,17 @@ fn check_audit(
     if status == 0 {
         check_confirmed(rt, alloc, &mut desk, text, name)
     } else {
-        check_refused(rt, alloc, AUDIT, &mut desk, status, text, name)?;
+        check_refused(
+            rt,
+            alloc,
+            AUDIT,
+            &mut desk,
+            Refusal {
+                status,
+                complaint: text,
+            },
+            name,
+        )?;
         check_said(rt, &desk, "", name);
         Ok(())
     }
@@ -328,7 +337,7 @@ fn explained_and_old(rt: HostRuntime) -> Result<(), Fail> {
         (OLD_TRANSCRIPT, REPORT, 7),
     ] {
         let mut desk = desk_of(alloc, transcript, report, Vec::new(alloc))?;
-        check_status(&rt, alloc, AUDIT, &mut desk, &Free, status, report)?;
+        check_status(&rt, alloc, AUDIT, &mut desk, status, report)?;
     }
     Ok(())
 }
@@ -346,7 +355,14 @@ fn failing_calls_of_audit(rt: HostRuntime) -> Result<(), Fail> {
     for case in FAILURES.iter() {
         let (failing, status, complaint) = *case;
         let mut desk = desk_of(alloc, TRANSCRIPT, REPORT, vec![in alloc; failing]?)?;
-        check_refused(&rt, alloc, AUDIT, &mut desk, status, complaint, complaint)?;
+        check_refused(
+            &rt,
+            alloc,
+            AUDIT,
+            &mut desk,
+            Refusal { status, complaint },
+            complaint,
+        )?;
     }
     Ok(())
 }
@@ -367,7 +383,7 @@ fn desk_after_run(
     let rows = format!(in alloc; "rounds,2\nwindows,1,2\n{NORTH}member,0,2,1,2\n")?;
     let readings = "north,0,10,20,\nnorth,1,1,2,3\n";
     let mut desk = run_desk(alloc, &rows, readings, Vec::new(alloc))?;
-    check_status(rt, alloc, RUN, &mut desk, &Free, 0, RUN)?;
+    check_status(rt, alloc, RUN, &mut desk, 0, RUN)?;
     Ok(desk)
 }
 
@@ -379,5 +395,15 @@ fn frame_of_no_member(rt: HostRuntime) -> Result<(), Fail> {
     let text = with_further_frame(alloc, held(&desk, "t.txt"))?;
     desk.place("t.txt", text.as_bytes())?;
     let complaint = "t.txt line 9: impossible";
-    check_refused(&rt, alloc, AUDIT, &mut desk, 7, complaint, complaint)
+    check_refused(
+        &rt,
+        alloc,
+        AUDIT,
+        &mut desk,
+        Refusal {
+            status: 7,
+            complaint,
+        },
+        complaint,
+    )
 }

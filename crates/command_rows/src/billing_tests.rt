@@ -1,10 +1,9 @@
 //! The commands `bill` and `hide`: the bills of a period, the readings that hide another behind them, and what is refused.
 
 use crate::fixtures::{
-    NORTH, RUN, TRANSCRIPT, check, check_calls, check_refused, check_said, check_status,
+    NORTH, RUN, Refusal, TRANSCRIPT, check, check_calls, check_refused, check_said, check_status,
     check_stored, check_text, desk_of, held,
 };
-use collector_workers::Free;
 use desk_outside::MemoryDesk;
 use std::alloc::Global;
 use std::process::Abort;
@@ -68,7 +67,7 @@ fn check_bills(
 ) -> Result<(), Fail> {
     let mut desk = desk_of_two(alloc, "", readings, Vec::new(alloc))?;
     let words = format!(in alloc; "bill plan.csv readings.csv {period} bills.csv")?;
-    check_status(rt, alloc, &words, &mut desk, &Free, 0, name)?;
+    check_status(rt, alloc, &words, &mut desk, 0, name)?;
     let text = format!(in alloc; "group,meter,from,until,readings,sum\n{lines}")?;
     check_text(rt, held(&desk, "bills.csv"), &text, name);
     check_said(rt, &desk, "bills=3\n", name);
@@ -146,9 +145,9 @@ fn check_hidden(
     said: &str,
     name: &str,
 ) -> Result<(), Fail> {
-    check_status(rt, alloc, RUN, desk, &Free, 0, name)?;
+    check_status(rt, alloc, RUN, desk, 0, name)?;
     let words = format!(in alloc; "hide plan.csv readings.csv t.txt {place} other.csv")?;
-    check_status(rt, alloc, &words, desk, &Free, 0, name)?;
+    check_status(rt, alloc, &words, desk, 0, name)?;
     check_text(rt, held(desk, "other.csv"), other, name);
     check(rt, desk.said().ends_with(said.as_bytes()), name);
     check_status(
@@ -156,7 +155,6 @@ fn check_hidden(
         alloc,
         "twin plan.csv readings.csv other.csv t.txt masks.txt",
         desk,
-        &Free,
         0,
         name,
     )?;
@@ -242,9 +240,19 @@ fn alone(rt: HostRuntime) -> Result<(), Fail> {
     for case in ALONE.iter() {
         let (name, lanes, readings, place, complaint) = *case;
         let mut desk = desk_of_two(alloc, lanes, readings, Vec::new(alloc))?;
-        check_status(&rt, alloc, RUN, &mut desk, &Free, 0, name)?;
+        check_status(&rt, alloc, RUN, &mut desk, 0, name)?;
         let words = format!(in alloc; "hide plan.csv readings.csv t.txt {place} other.csv")?;
-        check_refused(&rt, alloc, &words, &mut desk, 11, complaint, name)?;
+        check_refused(
+            &rt,
+            alloc,
+            &words,
+            &mut desk,
+            Refusal {
+                status: 11,
+                complaint,
+            },
+            name,
+        )?;
         check_stored(&rt, &desk, "other.csv", false, name);
     }
     Ok(())
@@ -303,7 +311,14 @@ fn hides_refused(rt: HostRuntime) -> Result<(), Fail> {
         let mut desk = desk_of(alloc, &rows, readings, Vec::new(alloc))?;
         desk.place("t.txt", transcript.as_bytes())?;
         let words = "hide plan.csv readings.csv t.txt 0 2 0 0 0 other.csv";
-        check_refused(&rt, alloc, words, &mut desk, status, complaint, name)?;
+        check_refused(
+            &rt,
+            alloc,
+            words,
+            &mut desk,
+            Refusal { status, complaint },
+            name,
+        )?;
         check_calls(&rt, &desk, 4, name);
         check_stored(&rt, &desk, "other.csv", false, name);
     }
@@ -393,7 +408,14 @@ fn check_failing_call(
 ) -> Result<(), Fail> {
     let mut desk = desk_of_two(alloc, "", BOTH, vec![in alloc; failing]?)?;
     desk.place("t.txt", NO_EVENTS.as_bytes())?;
-    check_refused(rt, alloc, words, &mut desk, status, complaint, complaint)?;
+    check_refused(
+        rt,
+        alloc,
+        words,
+        &mut desk,
+        Refusal { status, complaint },
+        complaint,
+    )?;
     check_stored(rt, &desk, "out.csv", stored, complaint);
     check_said(rt, &desk, "", complaint);
     Ok(())

@@ -1,10 +1,9 @@
 //! The commands `convert`, `public`, `help` and `version`: what they store and say, and what they refuse.
 
 use crate::fixtures::{
-    HEAD, NORTH, OLD_TRANSCRIPT, TRANSCRIPT, check_calls, check_complained, check_refused,
-    check_said, check_status, check_stored, check_text, desk_of as plan_desk, held, replaced,
+    HEAD, NORTH, OLD_TRANSCRIPT, Refusal, TRANSCRIPT, check_calls, check_complained, check_refused,
+    check_said, check_status, check_stored, check_text, held, replaced,
 };
-use collector_workers::Free;
 use commands::{USAGE, VERSION};
 use desk_outside::MemoryDesk;
 use std::alloc::Global;
@@ -23,7 +22,7 @@ fn desk_of(alloc: Global, text: &str, failing: Vec<u64>) -> Result<MemoryDesk, F
 fn old_transcript_converted(rt: HostRuntime) -> Result<(), Fail> {
     let alloc = rt.alloc();
     let mut desk = desk_of(alloc, OLD_TRANSCRIPT, Vec::new(alloc))?;
-    check_status(&rt, alloc, CONVERT, &mut desk, &Free, 0, CONVERT)?;
+    check_status(&rt, alloc, CONVERT, &mut desk, 0, CONVERT)?;
     check_text(&rt, held(&desk, "t.txt"), TRANSCRIPT, "t.txt");
     check_said(&rt, &desk, "converted: lines=20\n", CONVERT);
     check_complained(&rt, &desk, "", CONVERT);
@@ -87,7 +86,14 @@ fn old_transcript_refused(rt: HostRuntime) -> Result<(), Fail> {
         let (there, instead, failing, status, complaint, stored) = *case;
         let text = replaced(alloc, OLD_TRANSCRIPT, there, instead)?;
         let mut desk = desk_of(alloc, &text, vec![in alloc; failing]?)?;
-        check_refused(&rt, alloc, CONVERT, &mut desk, status, complaint, complaint)?;
+        check_refused(
+            &rt,
+            alloc,
+            CONVERT,
+            &mut desk,
+            Refusal { status, complaint },
+            complaint,
+        )?;
         check_stored(&rt, &desk, "t.txt", stored, complaint);
         check_said(&rt, &desk, "", complaint);
     }
@@ -103,7 +109,7 @@ fn public_plan_put(rt: HostRuntime) -> Result<(), Fail> {
         "rounds,2\nwindows,1,2\n{NORTH}member,0,2,1,2\nlane,clear,,0,0\nmember,0,1,0,2\nmember,0,0,0,1\n"
     )?;
     let mut desk = plan_desk(alloc, &rows, "", Vec::new(alloc))?;
-    check_status(&rt, alloc, PUBLIC, &mut desk, &Free, 0, PUBLIC)?;
+    check_status(&rt, alloc, PUBLIC, &mut desk, 0, PUBLIC)?;
     let wanted =
         "public,1\nrounds,2\nwindows,1,2\ngroup,north,3,2\nmember,0,0,0,1\nmember,0,2,1,2\n";
     check_text(&rt, held(&desk, "public.csv"), wanted, "public.csv");
@@ -134,7 +140,14 @@ fn public_plan_refused(rt: HostRuntime) -> Result<(), Fail> {
         let (row, failing, status, complaint, stored) = *case;
         let rows = format!(in alloc; "{HEAD}{NORTH}{row}")?;
         let mut desk = plan_desk(alloc, &rows, "", vec![in alloc; failing]?)?;
-        check_refused(&rt, alloc, PUBLIC, &mut desk, status, complaint, complaint)?;
+        check_refused(
+            &rt,
+            alloc,
+            PUBLIC,
+            &mut desk,
+            Refusal { status, complaint },
+            complaint,
+        )?;
         check_stored(&rt, &desk, "public.csv", stored, complaint);
         check_said(&rt, &desk, "", complaint);
     }
@@ -155,7 +168,7 @@ fn usage_and_version(rt: HostRuntime) -> Result<(), Fail> {
     let alloc = rt.alloc();
     for (words, said) in TOLD.iter() {
         let mut desk = MemoryDesk::new(Vec::new(alloc));
-        check_status(&rt, alloc, words, &mut desk, &Free, 0, words)?;
+        check_status(&rt, alloc, words, &mut desk, 0, words)?;
         check_said(&rt, &desk, said, words);
         check_calls(&rt, &desk, 1, words);
     }

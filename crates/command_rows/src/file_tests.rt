@@ -1,6 +1,6 @@
 //! Commands over real files: a name that can't be written is found before the run.
 
-use crate::fixtures::{check_number, check_status_over, empty_wire};
+use crate::fixtures::{check_ended, check_number, empty_wire, status_of};
 use crate::run_tests::Greatest;
 use collector_workers::Free;
 use commands::Outside;
@@ -49,14 +49,16 @@ fn names_that_cannot_be_written_cost_no_run(rt: HostRuntime) -> Result<(), Fail>
         desk: FileDesk::new(&rt),
         wire: empty_wire(alloc),
     };
-    check_status_over(&rt, alloc, MAKE, &mut outside, &Free, 0, MAKE)?;
+    let ended = status_of(&rt, alloc, MAKE, &mut outside, &Free)?;
+    check_ended(&rt, ended, 0, MAKE);
     for (words, status, worker) in COMMANDS.iter() {
         let gate = Greatest::new();
         let mut outside = Outside {
             desk: FileDesk::new(&rt),
             wire: empty_wire(alloc),
         };
-        check_status_over(&rt, alloc, words, &mut outside, &gate, *status, words)?;
+        let ended = status_of(&rt, alloc, words, &mut outside, &gate)?;
+        check_ended(&rt, ended, *status, words);
         check_number(&rt, gate.number(), *worker, words);
     }
     fs::remove_dir_all(&rt, "files")?;

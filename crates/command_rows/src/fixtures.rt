@@ -136,37 +136,39 @@ pub fn status_of<R: Threads + Wait + Sync, D: Desk, W: Wire, G: Gate>(
     Ok(with_lanes(rt, alloc, &words, outside, gate)?)
 }
 
-/// Runs the program on these words, parted by blanks, and looks for its status.
-pub fn check_status_over<R: Threads + Wait + Abort + Sync, D: Desk, W: Wire, G: Gate>(
-    rt: &R,
-    alloc: Global,
-    line: &str,
-    outside: &mut Outside<D, W>,
-    gate: &G,
-    status: u8,
-    row: &str,
-) -> Result<(), Fail> {
-    let answer = status_of(rt, alloc, line, outside, gate)?;
-    assert_eq!(rt; answer, status, "at {row}");
-    Ok(())
-}
-
-/// Runs the program on these words, parted by blanks, over a desk and an empty wire, and looks for its status.
-pub fn check_status<R: Threads + Wait + Abort + Sync, G: Gate>(
+/// The status of the program on these words, parted by blanks, over a desk and an empty wire.
+pub fn status_at_desk<R: Threads + Wait + Sync, G: Gate>(
     rt: &R,
     alloc: Global,
     line: &str,
     desk: &mut MemoryDesk,
     gate: &G,
-    status: u8,
-    row: &str,
-) -> Result<(), Fail> {
+) -> Result<u8, Fail> {
     let mut outside = Outside {
         desk: mem::replace(desk, MemoryDesk::new(Vec::new(alloc))),
         wire: empty_wire(alloc),
     };
-    check_status_over(rt, alloc, line, &mut outside, gate, status, row)?;
+    let status = status_of(rt, alloc, line, &mut outside, gate)?;
     *desk = outside.desk;
+    Ok(status)
+}
+
+/// Looks for the status with which the program ended.
+pub fn check_ended(rt: &impl Abort, ended: u8, status: u8, row: &str) {
+    assert_eq!(rt; ended, status, "at {row}");
+}
+
+/// Runs the program on these words, parted by blanks, over a desk and an empty wire, and looks for its status.
+pub fn check_status<R: Threads + Wait + Abort + Sync>(
+    rt: &R,
+    alloc: Global,
+    line: &str,
+    desk: &mut MemoryDesk,
+    status: u8,
+    row: &str,
+) -> Result<(), Fail> {
+    let ended = status_at_desk(rt, alloc, line, desk, &Free)?;
+    check_ended(rt, ended, status, row);
     Ok(())
 }
 
@@ -208,18 +210,24 @@ pub fn check_complaint(
     Ok(())
 }
 
-/// Runs the program on these words, which have to end with this status and one complaint.
+/// How a command has to be refused: its status, and the one complaint.
+#[derive(Clone, Copy)]
+pub struct Refusal<'a> {
+    pub status: u8,
+    pub complaint: &'a str,
+}
+
+/// Runs the program on these words, which have to be refused so.
 pub fn check_refused<R: Threads + Wait + Abort + Sync>(
     rt: &R,
     alloc: Global,
     line: &str,
     desk: &mut MemoryDesk,
-    status: u8,
-    complaint: &str,
+    refusal: Refusal<'_>,
     row: &str,
 ) -> Result<(), Fail> {
-    check_status(rt, alloc, line, desk, &Free, status, row)?;
-    check_complaint(rt, alloc, desk, complaint, row)
+    check_status(rt, alloc, line, desk, refusal.status, row)?;
+    check_complaint(rt, alloc, desk, refusal.complaint, row)
 }
 
 /// Asks whether a desk holds something under a name.

@@ -1,10 +1,9 @@
 //! The command `inspect`: what it counts of runs, and the first line that no run of the public plan has.
 
 use crate::fixtures::{
-    HEAD, NORTH, READINGS, RUN, TRANSCRIPT, check_complained, check_refused, check_said,
-    check_status, desk_of as run_desk, held, replaced,
+    HEAD, NORTH, READINGS, RUN, Refusal, TRANSCRIPT, check_complained, check_refused, check_said,
+    check_status, held, replaced,
 };
-use collector_workers::Free;
 use desk_outside::MemoryDesk;
 use std::alloc::Global;
 use std::process::Abort;
@@ -290,11 +289,21 @@ fn check_inspected(
     name: &str,
 ) -> Result<(), Fail> {
     if status > 0 {
-        check_refused(rt, alloc, INSPECT, desk, status, text, name)?;
+        check_refused(
+            rt,
+            alloc,
+            INSPECT,
+            desk,
+            Refusal {
+                status,
+                complaint: text,
+            },
+            name,
+        )?;
         check_said(rt, desk, "", name);
         return Ok(());
     }
-    check_status(rt, alloc, INSPECT, desk, &Free, 0, name)?;
+    check_status(rt, alloc, INSPECT, desk, 0, name)?;
     let wanted = format!(in alloc; "{text}\n")?;
     check_said(rt, desk, &wanted, name);
     check_complained(rt, desk, "", name);
@@ -396,16 +405,8 @@ fn check_run(
     said: &str,
 ) -> Result<(), Fail> {
     let mut desk = run_desk(alloc, rows, readings, Vec::new(alloc))?;
-    check_status(rt, alloc, RUN, &mut desk, &Free, 0, name)?;
-    check_status(
-        rt,
-        alloc,
-        "public plan.csv public.csv",
-        &mut desk,
-        &Free,
-        0,
-        name,
-    )?;
+    check_status(rt, alloc, RUN, &mut desk, 0, name)?;
+    check_status(rt, alloc, "public plan.csv public.csv", &mut desk, 0, name)?;
     let mut files = desk_of(
         alloc,
         held(&desk, "public.csv"),

@@ -1,8 +1,8 @@
 //! The commands `make` and `load`: made files that are run and audited, and sizes that are refused.
 
 use crate::fixtures::{
-    check, check_complained, check_number, check_refused, check_said, check_status, check_stored,
-    held,
+    Refusal, check, check_complained, check_ended, check_number, check_refused, check_said,
+    check_status, check_stored, held, status_at_desk,
 };
 use crate::run_tests::{Greatest, Meeting};
 use collector_workers::{Free, Gate};
@@ -36,7 +36,7 @@ fn made_run_audited(rt: HostRuntime) -> Result<(), Fail> {
     let mut desk = MemoryDesk::new(Vec::new(alloc));
     let mut said = String::new(alloc);
     for (words, line) in MADE.iter() {
-        check_status(&rt, alloc, words, &mut desk, &Free, 0, words)?;
+        check_status(&rt, alloc, words, &mut desk, 0, words)?;
         said.push_str(line)?;
         check_said(&rt, &desk, &said, words);
     }
@@ -71,7 +71,8 @@ fn run_commits_cross_in_load(rt: HostRuntime) -> Result<(), Fail> {
     let gate = Meeting::new();
     let mut desk = MemoryDesk::new(Vec::new(alloc));
     let words = "load 7 8 20 96 2 t.txt";
-    check_status(&rt, alloc, words, &mut desk, &gate, 0, words)?;
+    let ended = status_at_desk(&rt, alloc, words, &mut desk, &gate)?;
+    check_ended(&rt, ended, 0, words);
     check(&rt, gate.has_met(), "the meeting");
     let (sends, takes) = sends_and_takes(&rt, alloc, held(&desk, "t.txt"))?;
     check_number(&rt, sends, 45025, "sends");
@@ -126,7 +127,8 @@ fn large_plans_have_workers(rt: HostRuntime) -> Result<(), Fail> {
             most: *most,
         };
         let mut desk = MemoryDesk::new(Vec::new(alloc));
-        check_status(&rt, alloc, words, &mut desk, &gate, 0, words)?;
+        let ended = status_at_desk(&rt, alloc, words, &mut desk, &gate)?;
+        check_ended(&rt, ended, 0, words);
         check_number(&rt, gate.greatest.number(), *worker, words);
     }
     Ok(())
@@ -169,7 +171,7 @@ fn sizes_at_their_limits(rt: HostRuntime) -> Result<(), Fail> {
     let alloc = rt.alloc();
     for (words, said) in SIZES.iter() {
         let mut desk = MemoryDesk::new(Vec::new(alloc));
-        check_status(&rt, alloc, words, &mut desk, &Free, 0, words)?;
+        check_status(&rt, alloc, words, &mut desk, 0, words)?;
         check_said(&rt, &desk, said, words);
     }
     Ok(())
@@ -220,7 +222,17 @@ fn check_failing_call(
     stored: [bool; 3],
 ) -> Result<(), Fail> {
     let mut desk = MemoryDesk::new(vec![in alloc; failing]?);
-    check_refused(rt, alloc, words, &mut desk, 4, complaint, complaint)?;
+    check_refused(
+        rt,
+        alloc,
+        words,
+        &mut desk,
+        Refusal {
+            status: 4,
+            complaint,
+        },
+        complaint,
+    )?;
     check_stored(rt, &desk, "p.csv", stored[0], complaint);
     check_stored(rt, &desk, "r.csv", stored[1], complaint);
     check_stored(rt, &desk, "t.txt", stored[2], complaint);

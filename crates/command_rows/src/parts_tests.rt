@@ -1,10 +1,9 @@
 //! The command `parts`: what it puts for each meter, and what it refuses.
 
 use crate::fixtures::{
-    HEAD, NORTH, check_complained, check_refused, check_said, check_status, check_stored,
+    HEAD, NORTH, Refusal, check_complained, check_refused, check_said, check_status, check_stored,
     check_text, desk_of, held, with_keys,
 };
-use collector_workers::Free;
 use std::test::Fail;
 
 const PARTS: &str = "parts plan.csv 0 m";
@@ -28,7 +27,7 @@ fn parts_of_the_plain_case(rt: HostRuntime) -> Result<(), Fail> {
     let alloc = rt.alloc();
     let rows = format!(in alloc; "{HEAD}{NORTH}")?;
     let mut desk = desk_of(alloc, &rows, "", Vec::new(alloc))?;
-    check_status(&rt, alloc, PARTS, &mut desk, &Free, 0, PARTS)?;
+    check_status(&rt, alloc, PARTS, &mut desk, 0, PARTS)?;
     for (name, rest) in KEYS.iter() {
         let wanted = format!(in alloc; "meter,1\nrounds,1\ngroup,0,north,3,2\n{rest}")?;
         check_text(&rt, held(&desk, name), &with_keys(alloc, &wanted)?, name);
@@ -51,7 +50,7 @@ fn parts_of_a_plan_with_members(rt: HostRuntime) -> Result<(), Fail> {
         "rounds,2\nwindows,1,2\n{NORTH}member,0,2,1,2\nmember,0,1,0,2\nmember,0,0,0,1\n"
     )?;
     let mut desk = desk_of(alloc, &rows, "", Vec::new(alloc))?;
-    check_status(&rt, alloc, PARTS, &mut desk, &Free, 0, PARTS)?;
+    check_status(&rt, alloc, PARTS, &mut desk, 0, PARTS)?;
     let wanted =
         "meter,1\nrounds,2\ngroup,0,north,3,2\nself,1\nown,Z\npair,0,Z\npair,2,Z\nmember,0,0,1\nmember,2,1,2\n";
     check_text(
@@ -78,7 +77,7 @@ fn prefixes_that_are_no_file_names(rt: HostRuntime) -> Result<(), Fail> {
     let rows = format!(in alloc; "{HEAD}{NORTH}")?;
     for (words, name) in PREFIXES.iter() {
         let mut desk = desk_of(alloc, &rows, "", Vec::new(alloc))?;
-        check_status(&rt, alloc, words, &mut desk, &Free, 0, words)?;
+        check_status(&rt, alloc, words, &mut desk, 0, words)?;
         check_stored(&rt, &desk, name, true, words);
     }
     Ok(())
@@ -114,7 +113,14 @@ fn parts_over_a_file(rt: HostRuntime) -> Result<(), Fail> {
         if !taken.is_empty() {
             desk.place(taken, b"old")?;
         }
-        check_refused(&rt, alloc, words, &mut desk, status, complaint, complaint)?;
+        check_refused(
+            &rt,
+            alloc,
+            words,
+            &mut desk,
+            Refusal { status, complaint },
+            complaint,
+        )?;
         check_stored(&rt, &desk, "m0.csv", put, complaint);
         check_said(&rt, &desk, "", complaint);
     }

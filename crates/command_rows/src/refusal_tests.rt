@@ -1,10 +1,9 @@
 //! Refusals, failing calls of the desk, and words, with their statuses and complaints.
 
 use crate::fixtures::{
-    HEAD, NORTH, READINGS, RUN, check, check_calls, check_complained, check_refused, check_said,
-    check_status, check_stored, desk_of,
+    HEAD, NORTH, READINGS, RUN, Refusal, check, check_calls, check_complained, check_refused,
+    check_said, check_status, check_stored, desk_of,
 };
-use collector_workers::Free;
 use desk_outside::MemoryDesk;
 use std::alloc::{AllocError, Global};
 use std::process::Abort;
@@ -224,7 +223,14 @@ fn check_refused_files(
 ) -> Result<(), Fail> {
     let rows = plan_rows(alloc, pattern)?;
     let mut desk = desk_of(alloc, &rows, readings, Vec::new(alloc))?;
-    check_refused(rt, alloc, RUN, &mut desk, status, complaint, name)?;
+    check_refused(
+        rt,
+        alloc,
+        RUN,
+        &mut desk,
+        Refusal { status, complaint },
+        name,
+    )?;
     check_calls(rt, &desk, 3, name);
     check_said(rt, &desk, "", name);
     Ok(())
@@ -286,7 +292,7 @@ fn check_failing_calls(
     report: bool,
 ) -> Result<(), Fail> {
     let mut desk = failing_desk(alloc, failing)?;
-    check_status(rt, alloc, RUN, &mut desk, &Free, status, complaint)?;
+    check_status(rt, alloc, RUN, &mut desk, status, complaint)?;
     check_complained(rt, &desk, complaint, complaint);
     check_stored(rt, &desk, "t.txt", transcript, complaint);
     check(rt, has_new_report(&desk) == report, complaint);
@@ -300,10 +306,10 @@ fn check_without_files(
     alloc: Global,
 ) -> Result<(), Fail> {
     let mut desk = MemoryDesk::new(Vec::new(alloc));
-    check_status(rt, alloc, RUN, &mut desk, &Free, 3, "no file")?;
+    check_status(rt, alloc, RUN, &mut desk, 3, "no file")?;
     check_complained(rt, &desk, "meteragg: cannot read plan.csv\n", "no file");
     desk.place("plan.csv", b"no plan")?;
-    check_status(rt, alloc, RUN, &mut desk, &Free, 3, "a plan alone")?;
+    check_status(rt, alloc, RUN, &mut desk, 3, "a plan alone")?;
     check_complained(
         rt,
         &desk,
@@ -442,7 +448,17 @@ fn check_bad_words(
     words: &str,
 ) -> Result<(), Fail> {
     let mut desk = MemoryDesk::new(Vec::new(alloc));
-    check_refused(rt, alloc, words, &mut desk, 2, "bad words", words)?;
+    check_refused(
+        rt,
+        alloc,
+        words,
+        &mut desk,
+        Refusal {
+            status: 2,
+            complaint: "bad words",
+        },
+        words,
+    )?;
     check_calls(rt, &desk, 1, words);
     Ok(())
 }
@@ -526,7 +542,14 @@ fn check_shown_name(
     let mut desk = MemoryDesk::new(Vec::from_slice(alloc, &[failing])?);
     desk.place("x\ty", b"x\n")?;
     desk.place("c", b"x\n")?;
-    check_refused(rt, alloc, words, &mut desk, status, complaint, complaint)
+    check_refused(
+        rt,
+        alloc,
+        words,
+        &mut desk,
+        Refusal { status, complaint },
+        complaint,
+    )
 }
 
 #[test]

@@ -1,10 +1,9 @@
 //! The command `registers`: words and totals of several registers, and readings that are none.
 
 use crate::fixtures::{
-    HEAD, NORTH, check, check_calls, check_complained, check_refused, check_said, check_status,
-    check_stored, check_text, desk_of, held,
+    HEAD, NORTH, Refusal, check, check_calls, check_complained, check_refused, check_said,
+    check_status, check_stored, check_text, desk_of, held,
 };
-use collector_workers::Free;
 use desk_outside::DeskKind;
 use std::alloc::Global;
 use std::process::Abort;
@@ -93,7 +92,7 @@ fn check_registers(
 ) -> Result<(), Fail> {
     let rows = format!(in alloc; "{HEAD}{NORTH}{lanes}")?;
     let mut desk = desk_of(alloc, &rows, readings, Vec::new(alloc))?;
-    check_status(rt, alloc, command, &mut desk, &Free, 0, name)?;
+    check_status(rt, alloc, command, &mut desk, 0, name)?;
     check_text(rt, held(&desk, "words.txt"), words, name);
     check_text(rt, held(&desk, "report.csv"), report, name);
     check_said(rt, &desk, said, name);
@@ -130,7 +129,7 @@ fn register_calls(rt: HostRuntime) -> Result<(), Fail> {
     let alloc = rt.alloc();
     let rows = format!(in alloc; "{HEAD}{NORTH}")?;
     let mut desk = desk_of(alloc, &rows, BOTH, Vec::new(alloc))?;
-    check_status(&rt, alloc, TWO, &mut desk, &Free, 0, TWO)?;
+    check_status(&rt, alloc, TWO, &mut desk, 0, TWO)?;
     check_calls(&rt, &desk, CALLS.len(), TWO);
     for (call, kind) in desk.calls().iter().zip(CALLS.iter()) {
         check(&rt, call.kind == *kind && !call.failed, "a call");
@@ -161,7 +160,17 @@ fn check_field(
     let readings = format!(in alloc; "north,0,{field},20+2,30+3\n")?;
     let complaint = format!(in alloc; "readings.csv row 1: {cause}")?;
     let mut desk = desk_of(alloc, &rows, &readings, Vec::new(alloc))?;
-    check_refused(rt, alloc, TWO, &mut desk, 6, &complaint, field)?;
+    check_refused(
+        rt,
+        alloc,
+        TWO,
+        &mut desk,
+        Refusal {
+            status: 6,
+            complaint: &complaint,
+        },
+        field,
+    )?;
     check_stored(rt, &desk, "t.txt", false, field);
     check_stored(rt, &desk, "words.txt", false, field);
     check_stored(rt, &desk, "report.csv", false, field);

@@ -1,10 +1,9 @@
 //! The command `resume`: cuts of the plain case, and cuts that are none of it.
 
 use crate::fixtures::{
-    HEAD, NORTH, READINGS, TRANSCRIPT, check_complained, check_refused, check_said, check_status,
-    check_stored, check_text, desk_of, held, replaced,
+    HEAD, NORTH, READINGS, Refusal, TRANSCRIPT, check_complained, check_refused, check_said,
+    check_status, check_stored, check_text, desk_of, held, replaced,
 };
-use collector_workers::Free;
 use desk_outside::MemoryDesk;
 use std::alloc::Global;
 use std::process::Abort;
@@ -46,7 +45,7 @@ fn check_resumed(
     row: &str,
 ) -> Result<(), Fail> {
     let mut desk = desk_with(alloc, cut)?;
-    check_status(rt, alloc, RESUME, &mut desk, &Free, 0, row)?;
+    check_status(rt, alloc, RESUME, &mut desk, 0, row)?;
     check_text(rt, held(&desk, "report.csv"), REPORT, row);
     check_text(rt, held(&desk, "t.txt"), transcript, row);
     check_said(rt, &desk, SUMMARY, row);
@@ -115,7 +114,17 @@ fn refused_cuts(rt: HostRuntime) -> Result<(), Fail> {
     for (there, instead, complaint) in REFUSED.iter() {
         let cut = replaced(alloc, TRANSCRIPT, there, instead)?;
         let mut desk = desk_with(alloc, &cut)?;
-        check_refused(&rt, alloc, RESUME, &mut desk, 7, complaint, complaint)?;
+        check_refused(
+            &rt,
+            alloc,
+            RESUME,
+            &mut desk,
+            Refusal {
+                status: 7,
+                complaint,
+            },
+            complaint,
+        )?;
         check_stored(&rt, &desk, "t.txt", false, complaint);
         check_stored(&rt, &desk, "report.csv", false, complaint);
     }
@@ -132,8 +141,10 @@ fn cut_before_begin(rt: HostRuntime) -> Result<(), Fail> {
         alloc,
         RESUME,
         &mut desk,
-        7,
-        "cut.txt line 5: Head",
+        Refusal {
+            status: 7,
+            complaint: "cut.txt line 5: Head",
+        },
         "no begin",
     )
 }

@@ -1,10 +1,9 @@
 //! The commands `ring` and `ringtwin`: masks between neighbours alone, and the words that move on a ring.
 
 use crate::fixtures::{
-    HEAD, NORTH, READINGS, RUN, TRANSCRIPT, check, check_calls, check_complained, check_refused,
-    check_said, check_status, check_stored, check_text, desk_of, held,
+    HEAD, NORTH, READINGS, RUN, Refusal, TRANSCRIPT, check, check_calls, check_complained,
+    check_refused, check_said, check_status, check_stored, check_text, desk_of, held,
 };
-use collector_workers::Free;
 use desk_outside::{DeskKind, MemoryDesk};
 use std::alloc::Global;
 use std::process::Abort;
@@ -92,7 +91,7 @@ fn rings(rt: HostRuntime) -> Result<(), Fail> {
     for case in RUNS.iter() {
         let (name, command, lanes, readings, row, said) = *case;
         let mut desk = ring_desk(alloc, lanes, readings)?;
-        check_status(&rt, alloc, command, &mut desk, &Free, 0, name)?;
+        check_status(&rt, alloc, command, &mut desk, 0, name)?;
         let report = format!(in alloc; "group,round,survivors,missing,outcome,total\n{row}")?;
         check_text(&rt, held(&desk, "report.csv"), &report, name);
         check_said(&rt, &desk, said, name);
@@ -114,7 +113,7 @@ static CALLS: [DeskKind; 5] = [
 fn ring_calls(rt: HostRuntime) -> Result<(), Fail> {
     let alloc = rt.alloc();
     let mut desk = ring_desk(alloc, "", "north,0,10,20,30,\n")?;
-    check_status(&rt, alloc, RING, &mut desk, &Free, 0, RING)?;
+    check_status(&rt, alloc, RING, &mut desk, 0, RING)?;
     check_calls(&rt, &desk, CALLS.len(), RING);
     for (call, kind) in desk.calls().iter().zip(CALLS.iter()) {
         check(&rt, call.kind == *kind && !call.failed, "a call");
@@ -199,11 +198,21 @@ fn check_twin(
 ) -> Result<(), Fail> {
     let (name, status, text, moved) = case;
     if status != 0 {
-        check_refused(rt, alloc, RING_TWIN, desk, status, text, name)?;
+        check_refused(
+            rt,
+            alloc,
+            RING_TWIN,
+            desk,
+            Refusal {
+                status,
+                complaint: text,
+            },
+            name,
+        )?;
         check_stored(rt, desk, "masks.txt", false, name);
         return Ok(());
     }
-    check_status(rt, alloc, RING_TWIN, desk, &Free, 0, name)?;
+    check_status(rt, alloc, RING_TWIN, desk, 0, name)?;
     let masks = format!(in alloc; "meteragg masks 1\n{text}end,{moved}\n")?;
     let said = format!(in alloc; "twin: moved={moved}\n")?;
     check_text(rt, held(desk, "masks.txt"), &masks, name);
@@ -218,7 +227,7 @@ fn ring_twins(rt: HostRuntime) -> Result<(), Fail> {
     for case in TWINS.iter() {
         let (name, lanes, readings, other, status, text, moved) = *case;
         let mut desk = ring_desk(alloc, lanes, readings)?;
-        check_status(&rt, alloc, RING, &mut desk, &Free, 0, name)?;
+        check_status(&rt, alloc, RING, &mut desk, 0, name)?;
         desk.place("other.csv", other.as_bytes())?;
         check_twin(&rt, alloc, &mut desk, (name, status, text, moved))?;
     }
@@ -243,11 +252,11 @@ fn transcripts_of_other_masks(rt: HostRuntime) -> Result<(), Fail> {
     let alloc = rt.alloc();
     let mut desk = ring_desk(alloc, "", "north,0,10,20,30,\n")?;
     desk.place("other.csv", b"north,0,15,15,30,\n")?;
-    check_status(&rt, alloc, RUN, &mut desk, &Free, 0, "run")?;
-    check_status(&rt, alloc, RING_TWIN, &mut desk, &Free, 7, "of run")?;
-    check_status(&rt, alloc, RING, &mut desk, &Free, 0, "ring")?;
+    check_status(&rt, alloc, RUN, &mut desk, 0, "run")?;
+    check_status(&rt, alloc, RING_TWIN, &mut desk, 7, "of run")?;
+    check_status(&rt, alloc, RING, &mut desk, 0, "ring")?;
     let twin = "twin plan.csv readings.csv other.csv t.txt masks.txt";
-    check_status(&rt, alloc, twin, &mut desk, &Free, 7, "of ring")?;
+    check_status(&rt, alloc, twin, &mut desk, 7, "of ring")?;
     check_stored(&rt, &desk, "masks.txt", false, "other masks");
     Ok(())
 }
@@ -346,7 +355,14 @@ fn refused_rings(rt: HostRuntime) -> Result<(), Fail> {
         let mut desk = ring_desk(alloc, lanes, readings)?;
         desk.place("other.csv", other.as_bytes())?;
         desk.place("t.txt", transcript.as_bytes())?;
-        check_refused(&rt, alloc, command, &mut desk, status, complaint, complaint)?;
+        check_refused(
+            &rt,
+            alloc,
+            command,
+            &mut desk,
+            Refusal { status, complaint },
+            complaint,
+        )?;
         check_stored(&rt, &desk, "report.csv", false, complaint);
         check_stored(&rt, &desk, "masks.txt", false, complaint);
         check_said(&rt, &desk, "", complaint);

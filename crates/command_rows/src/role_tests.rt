@@ -1,7 +1,7 @@
 //! The commands `collect` and `meter`: what they say to the lines of an input, what their journals have then, and what they refuse.
 
 use crate::fixtures::{
-    check, check_complained, check_complaint, check_said, check_status_over, check_text, held,
+    check, check_complained, check_complaint, check_ended, check_said, check_text, held, status_of,
     with_keys,
 };
 use collector_workers::Free;
@@ -126,7 +126,8 @@ fn check_course(
 ) -> Result<(), Fail> {
     let (before, input, said, after, report) = case;
     let mut outside = outside_of(alloc, input, before, Vec::new(alloc), Vec::new(alloc))?;
-    check_status_over(rt, alloc, command, &mut outside, &Free, 0, row)?;
+    let ended = status_of(rt, alloc, command, &mut outside, &Free)?;
+    check_ended(rt, ended, 0, row);
     let Outside { desk, wire } = outside;
     let wanted = with_frames(alloc, said)?;
     check(
@@ -334,7 +335,8 @@ fn roles_that_stop(rt: HostRuntime) -> Result<(), Fail> {
             vec![in alloc; desk_fails]?,
             vec![in alloc; wire_fails]?,
         )?;
-        check_status_over(&rt, alloc, words, &mut outside, &Free, status, complaint)?;
+        let ended = status_of(&rt, alloc, words, &mut outside, &Free)?;
+        check_ended(&rt, ended, status, complaint);
         let Outside { desk, wire: _ } = outside;
         check_complaint(&rt, alloc, &desk, complaint, complaint)?;
         check_said(&rt, &desk, "", complaint);

@@ -1,10 +1,10 @@
 //! Worked runs, with their reports, summaries and transcripts, and what their workers do.
 
 use crate::fixtures::{
-    HEAD, NORTH, READINGS, RUN, TRANSCRIPT, check, check_complained, check_number, check_said,
-    check_status, check_text, desk_of, held,
+    HEAD, NORTH, READINGS, RUN, TRANSCRIPT, check, check_complained, check_ended, check_number,
+    check_said, check_status, check_text, desk_of, held, status_at_desk,
 };
-use collector_workers::{Free, Gate};
+use collector_workers::Gate;
 use desk_outside::{DeskCall, DeskKind, MemoryDesk};
 use std::alloc::Global;
 use std::process::Abort;
@@ -45,7 +45,7 @@ fn three_meters_total_60(rt: HostRuntime) -> Result<(), Fail> {
     let alloc = rt.alloc();
     let rows = format!(in alloc; "{HEAD}{NORTH}")?;
     let mut desk = desk_of(alloc, &rows, READINGS, Vec::new(alloc))?;
-    check_status(&rt, alloc, RUN, &mut desk, &Free, 0, RUN)?;
+    check_status(&rt, alloc, RUN, &mut desk, 0, RUN)?;
     check_lines(&rt, held(&desk, "t.txt"));
     check_complained(&rt, &desk, "", RUN);
     check_kinds(&rt, desk.calls());
@@ -213,7 +213,8 @@ fn check_run(
 ) -> Result<(), Fail> {
     let words = format!(in alloc; "{RUN} {workers}")?;
     let mut desk = desk_of(alloc, rows, readings, Vec::new(alloc))?;
-    check_status(rt, alloc, &words, &mut desk, &Each, 0, name)?;
+    let ended = status_at_desk(rt, alloc, &words, &mut desk, &Each)?;
+    check_ended(rt, ended, 0, name);
     check_text(rt, held(&desk, "report.csv"), report, name);
     check_said(rt, &desk, said, name);
     check(rt, held(&desk, "t.txt").contains(line), name);
@@ -274,7 +275,7 @@ fn check_greatest(
     let rows = group_rows(alloc, meters)?;
     let readings = greatest_row(alloc, meters)?;
     let mut desk = desk_of(alloc, &rows, &readings, Vec::new(alloc))?;
-    check_status(rt, alloc, RUN, &mut desk, &Free, 0, row)?;
+    check_status(rt, alloc, RUN, &mut desk, 0, row)?;
     let wanted = format!(in alloc; "{HEADING}{row}")?;
     check_text(rt, held(&desk, "report.csv"), &wanted, row);
     Ok(())
@@ -343,7 +344,7 @@ const MAKE: &str = "make 7 5 8 12 plan.csv readings.csv";
 // A desk with a made plan of five groups, and readings of it.
 fn made_desk(rt: &(impl Threads + Wait + Abort + Sync), alloc: Global) -> Result<MemoryDesk, Fail> {
     let mut desk = MemoryDesk::new(Vec::new(alloc));
-    check_status(rt, alloc, MAKE, &mut desk, &Free, 0, MAKE)?;
+    check_status(rt, alloc, MAKE, &mut desk, 0, MAKE)?;
     Ok(desk)
 }
 
@@ -353,7 +354,8 @@ fn run_commits_cross(rt: HostRuntime) -> Result<(), Fail> {
     let gate = Meeting::new();
     let words = format!(in alloc; "{RUN} 2")?;
     let mut desk = made_desk(&rt, alloc)?;
-    check_status(&rt, alloc, &words, &mut desk, &gate, 0, &words)?;
+    let ended = status_at_desk(&rt, alloc, &words, &mut desk, &gate)?;
+    check_ended(&rt, ended, 0, &words);
     check(&rt, gate.has_met(), "the meeting");
     Ok(())
 }
@@ -367,11 +369,13 @@ fn workers_make_one_transcript(rt: HostRuntime) -> Result<(), Fail> {
     let alloc = rt.alloc();
     let words = format!(in alloc; "{RUN} 1")?;
     let mut alone = made_desk(&rt, alloc)?;
-    check_status(&rt, alloc, &words, &mut alone, &Each, 0, &words)?;
+    let ended = status_at_desk(&rt, alloc, &words, &mut alone, &Each)?;
+    check_ended(&rt, ended, 0, &words);
     for workers in WORKERS.iter() {
         let words = format!(in alloc; "{RUN} {workers}")?;
         let mut desk = made_desk(&rt, alloc)?;
-        check_status(&rt, alloc, &words, &mut desk, &Each, 0, &words)?;
+        let ended = status_at_desk(&rt, alloc, &words, &mut desk, &Each)?;
+        check_ended(&rt, ended, 0, &words);
         check_text(&rt, held(&desk, "t.txt"), held(&alone, "t.txt"), &words);
     }
     Ok(())
@@ -410,7 +414,8 @@ fn one_worker_works_alone(rt: HostRuntime) -> Result<(), Fail> {
     let gate = Greatest::new();
     let words = format!(in alloc; "{RUN} 1")?;
     let mut desk = made_desk(&rt, alloc)?;
-    check_status(&rt, alloc, &words, &mut desk, &gate, 0, &words)?;
+    let ended = status_at_desk(&rt, alloc, &words, &mut desk, &gate)?;
+    check_ended(&rt, ended, 0, &words);
     check_number(&rt, gate.number(), 1, "the greatest worker");
     Ok(())
 }

@@ -1,11 +1,10 @@
 //! The commands `twin` and `pooled`: the words that move from one table of readings to another, and what they refuse.
 
 use crate::fixtures::{
-    HEAD, NORTH, READINGS, RUN, TRANSCRIPT, check, check_calls, check_complained, check_number,
-    check_refused, check_said, check_status, check_stored, check_text, desk_of as run_desk, held,
+    HEAD, NORTH, READINGS, RUN, Refusal, TRANSCRIPT, check, check_calls, check_complained,
+    check_number, check_refused, check_said, check_status, check_stored, check_text, held,
     replaced,
 };
-use collector_workers::Free;
 use desk_outside::MemoryDesk;
 use std::alloc::Global;
 use std::process::Abort;
@@ -111,7 +110,7 @@ fn desk_after_run(
 ) -> Result<MemoryDesk, Fail> {
     let rows = format!(in alloc; "{HEAD}{NORTH}{lanes}")?;
     let mut desk = run_desk(alloc, &rows, READINGS, Vec::new(alloc))?;
-    check_status(rt, alloc, RUN, &mut desk, &Free, 0, name)?;
+    check_status(rt, alloc, RUN, &mut desk, 0, name)?;
     desk.place("other.csv", other.as_bytes())?;
     Ok(desk)
 }
@@ -134,10 +133,20 @@ fn check_case(
     let (name, status, text, moved) = case;
     let before = desk.said().len();
     if status == 0 {
-        check_status(rt, alloc, words, desk, &Free, 0, name)?;
+        check_status(rt, alloc, words, desk, 0, name)?;
         return check_moved(rt, alloc, desk, name, verb, text, moved, before);
     }
-    check_refused(rt, alloc, words, desk, status, text, name)?;
+    check_refused(
+        rt,
+        alloc,
+        words,
+        desk,
+        Refusal {
+            status,
+            complaint: text,
+        },
+        name,
+    )?;
     check_unmoved(rt, desk, name, before);
     Ok(())
 }
@@ -497,7 +506,14 @@ fn twins_refused(rt: HostRuntime) -> Result<(), Fail> {
         let mut desk = desk_of(alloc, Vec::new(alloc))?;
         let text = replaced(alloc, held(&desk, file), there, instead)?;
         desk.place(file, text.as_bytes())?;
-        check_refused(&rt, alloc, TWIN, &mut desk, status, complaint, name)?;
+        check_refused(
+            &rt,
+            alloc,
+            TWIN,
+            &mut desk,
+            Refusal { status, complaint },
+            name,
+        )?;
         check_calls(&rt, &desk, 5, name);
         check_stored(&rt, &desk, "masks.txt", false, name);
     }
@@ -524,7 +540,14 @@ fn check_failing_call(
     stored: bool,
 ) -> Result<(), Fail> {
     let mut desk = desk_of(alloc, vec![in alloc; failing]?)?;
-    check_refused(rt, alloc, TWIN, &mut desk, status, complaint, complaint)?;
+    check_refused(
+        rt,
+        alloc,
+        TWIN,
+        &mut desk,
+        Refusal { status, complaint },
+        complaint,
+    )?;
     check_stored(rt, &desk, "masks.txt", stored, complaint);
     check_said(rt, &desk, "", complaint);
     Ok(())

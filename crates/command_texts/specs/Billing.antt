@@ -18,7 +18,7 @@ use Rattle.transcript_text.specs.Heads.{read_of}
 use Rattle.transcript_log.specs.Events.{events_of}
 use Rattle.billing_read.specs.declared.partners.Partner.{Partner}
 use Rattle.billing_read.specs.PartnerEnds.{IsFirstPartner, IsOtherWorld, IsHiddenBy}
-use Rattle.command_words.specs.declared.words.Place.{Place}
+use Rattle.command_words.specs.declared.words.PlaceWords.{PlaceWords}
 use Rattle.plan_files.specs.Spelling.{readings_text}
 use Rattle.command_words.specs.Words.{HideNames}
 
@@ -79,18 +79,18 @@ TextRefuses transcript plan text NoMemory = ⊤
 TextRefuses transcript plan text _ = ⊥
 
 -- the first partner of the place in the period, under the events of the transcript; none where there is none
-abbrev pub Finds : Period → Place → ReadingsView → TranscriptView → Option Partner → Type 0
+abbrev pub Finds : Period → PlaceWords → ReadingsView → TranscriptView → Option Partner → Type 0
 Finds period place x t found = IsFirstPartner x (events_of t.entries) period.from period.until place.group place.round place.meter found
 
 -- the place has no partner in the period
-abbrev pub IsAlone : Period → Place → ReadingsView → TranscriptView → Outcome → Type 0
+abbrev pub IsAlone : Period → PlaceWords → ReadingsView → TranscriptView → Outcome → Type 0
 IsAlone period place x t (NoPartner group round meter) = (group ≡ place.group) × (round ≡ place.round) × (meter ≡ place.meter) × Finds period place x t None
 IsAlone period place x t NoMemory = ⊤
 IsAlone period place x t _ = ⊥
 
 -- the first partner of the place, and the table that hides it: it agrees with the first table and has its bills, differs from it by 1 at the place, and
 -- its text is read as it
-pub record IsHidden (period : Period) (place : Place) (plan : PlanView) (x : ReadingsView) (t : TranscriptView) (p : Partner) (y : ReadingsView) : Type 0 where
+pub record IsHidden (period : Period) (place : PlaceWords) (plan : PlanView) (x : ReadingsView) (t : TranscriptView) (p : Partner) (y : ReadingsView) : Type 0 where
   pub first : Finds period place x t (Some p)
   pub hidden : IsHiddenBy x (events_of t.entries) period.from period.until place.group place.round place.meter p
   pub other : IsOtherWorld x place.group place.round place.meter p y
@@ -107,7 +107,7 @@ abbrev pub OfMetered : HideBytes → (PlanView → Type 0) → Type 0
 OfMetered bytes P = (values : Metered) × AreMetered bytes.plan bytes.readings values × P values.file.plan
 
 -- what the files say is refused, or the place has no partner
-abbrev pub HideRefuses : HideNames → Period → Place → HideBytes → Outcome → Type 0
+abbrev pub HideRefuses : HideNames → Period → PlaceWords → HideBytes → Outcome → Type 0
 HideRefuses names period place bytes outcome =
     MeteredRefuses names.plan names.readings bytes.plan bytes.readings outcome
     ⊎ (OfMetered bytes (λ plan. TextRefuses names.transcript plan bytes.transcript outcome)

@@ -9,8 +9,8 @@ ghost use Rattle.command_texts.specs.BillingParts.{IsOtherText, HidesPlace, Find
 ghost use Rattle.command_words.specs.Commands.{hide_names_of};
 
 use crate::values::read_metered;
-use billing_read::{Partner, other_world, partner};
-use command_words::{HideWords, Outcome, Place};
+use billing_read::{Partner, ReadingPlace, other_world, partner};
+use command_words::{HideWords, Outcome};
 use group_plan::{Plan, Readings};
 use plan_files::write_readings;
 use std::alloc::{AllocError, Global};
@@ -59,22 +59,14 @@ fn other_text(
     alloc: Global,
     plan: &Plan,
     readings: &Readings,
-    place: Place,
+    place: ReadingPlace,
     partner: &Partner,
 ) -> Result<Vec<u8>, AllocError>
     requires plan { readings.now.plan ≡ plan.now }
     requires exchange { CanExchange (reading readings.now.table) place.group place.round place.meter partner.now }
     ensures { IfOk result (λ text. IsOtherText plan.now readings.now place partner.now text.items) }
 {
-    let other = other_world(
-        alloc,
-        plan,
-        readings,
-        place.group,
-        place.round,
-        place.meter,
-        partner,
-    )?;
+    let other = other_world(alloc, plan, readings, place, partner)?;
     write_readings(alloc, plan, &other)
 }
 
@@ -92,16 +84,19 @@ fn hidden_in<'a>(
     ensures alone { IfErr result (IsAlone words.entry.period words.entry.place readings.now transcript.now) }
     ensures no_fault { IfErr result (λ outcome. ¬ IsFault outcome) }
 {
-    let (period, place) = (words.period, words.place);
+    let period = words.period;
+    let place = ReadingPlace {
+        group: words.place.group,
+        round: words.place.round,
+        meter: words.place.meter,
+    };
     let found = match partner(
         alloc,
         readings,
         transcript,
         period.from,
         period.until,
-        place.group,
-        place.round,
-        place.meter,
+        place,
     ) {
         Ok(found) => found,
         Err(_) => return Err(Outcome::NoMemory),

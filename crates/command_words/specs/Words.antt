@@ -5,7 +5,7 @@ use Rattle.field_texts.specs.Numbers.{number_of, within}
 use Rattle.load_maker.specs.Sizes.{is_within}
 use Rattle.command_words.specs.declared.known.KnownMeter.{KnownMeter}
 use Rattle.command_words.specs.declared.words.Period.{Period}
-use Rattle.command_words.specs.declared.words.Place.{Place}
+use Rattle.command_words.specs.declared.words.PlaceWords.{PlaceWords}
 use Rattle.command_words.specs.Known.{known_of}
 use Rattle.command_words.specs.declared.words.RunFiles.{RunFiles}
 
@@ -91,7 +91,7 @@ pub data Command : Type 0 where
   Meter : (meter journal : List ℕ) → Command
   Inspect : (names : InspectNames) → Command
   Bill : (names : BillNames) (period : Period) → Command
-  Hide : (names : HideNames) (period : Period) (place : Place) → Command
+  Hide : (names : HideNames) (period : Period) (place : PlaceWords) → Command
   Help : Command
   Version : Command
 
@@ -346,12 +346,12 @@ unfoldable pub period_of : (from until : List ℕ) → Option Period
 period_of from until = period_by (within 0 4097 (number_of from)) (within 0 4097 (number_of until))
 
 -- a place of three numbers
-abbrev pub place_by : (group round meter : Option ℕ) → Option Place
+abbrev pub place_by : (group round meter : Option ℕ) → Option PlaceWords
 place_by (Some group) (Some round) (Some meter) = Some (record { group = group; round = round; meter = meter })
 place_by _ _ _ = None
 
 -- the place that three words spell
-unfoldable pub place_of : (group round meter : List ℕ) → Option Place
+unfoldable pub place_of : (group round meter : List ℕ) → Option PlaceWords
 place_of group round meter = place_by (within 0 256 (number_of group)) (within 0 4096 (number_of round)) (within 0 256 (number_of meter))
 
 -- a command that takes a period, where there is one
@@ -360,7 +360,7 @@ with_period None command = None
 with_period (Some period) command = command period
 
 -- a command that takes a place, where there is one
-abbrev pub with_place : Option Place → (Place → Option Command) → Option Command
+abbrev pub with_place : Option PlaceWords → (PlaceWords → Option Command) → Option Command
 with_place None command = None
 with_place (Some place) command = command place
 
@@ -375,7 +375,7 @@ bill_of (plan ∷ readings ∷ from ∷ until ∷ bills ∷ []) = with_period (p
 bill_of _ = None
 
 -- `hide` with these files, where they are names, a period and a place
-unfoldable pub hide_with : HideNames → Period → Place → Option Command
+unfoldable pub hide_with : HideNames → Period → PlaceWords → Option Command
 hide_with names period place =
     if are_names (names.plan ∷ names.readings ∷ names.transcript ∷ names.other ∷ []) then Some (Hide names period place) else None
 

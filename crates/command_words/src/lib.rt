@@ -17,7 +17,7 @@ pub use parsing::parse;
 pub use usage::{USAGE, VERSION};
 pub use words::{
     AuditFiles, BillFiles, BillWords, CollectFiles, Command, ConvertFiles, HideFiles, HideWords,
-    InspectFiles, LoadWords, MakeWords, MeterFiles, PartsWords, Period, Place, PooledWords,
+    InspectFiles, LoadWords, MakeWords, MeterFiles, PartsWords, Period, PlaceWords, PooledWords,
     PublicFiles, RegisterFiles, RegisterWords, ResumeFiles, ResumeWords, RingTwinWords, RingWords,
     RunFiles, RunWords, Size, TwinFiles,
 };

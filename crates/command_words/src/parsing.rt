@@ -10,8 +10,9 @@ use crate::meter_parts::parts_words;
 use crate::role_parts::{collect_words, meter_words};
 use crate::words::{
     AuditFiles, BillFiles, BillWords, Command, ConvertFiles, HideFiles, HideWords, InspectFiles,
-    LoadWords, MakeWords, Period, Place, PooledWords, PublicFiles, RegisterFiles, RegisterWords,
-    ResumeFiles, ResumeWords, RingTwinWords, RingWords, RunFiles, RunWords, Size, TwinFiles,
+    LoadWords, MakeWords, Period, PlaceWords, PooledWords, PublicFiles, RegisterFiles,
+    RegisterWords, ResumeFiles, ResumeWords, RingTwinWords, RingWords, RunFiles, RunWords, Size,
+    TwinFiles,
 };
 use field_texts::{read_number, read_number_within};
 use load_maker::is_within;
@@ -599,13 +600,13 @@ fn read_period(from: &str, until: &str) -> Option<Period>
 
 // The place that three words spell.
 #[tactic(auto, unfolding(crate::specs::Words::place_of))]
-fn read_place(group: &str, round: &str, meter: &str) -> Option<Place>
+fn read_place(group: &str, round: &str, meter: &str) -> Option<PlaceWords>
     ensures { result ≡ place_of group.now round.now meter.now }
 {
     let group = read_number_within(group.as_bytes(), 0, MOST_OF_EACH)?;
     let round = read_number_within(round.as_bytes(), 0, MOST_ROUNDS)?;
     let meter = read_number_within(meter.as_bytes(), 0, MOST_OF_EACH)?;
-    Some(Place {
+    Some(PlaceWords {
         group: group as u16,
         round: round as u32,
         meter: meter as u8,
@@ -652,7 +653,7 @@ fn bill_words(words: &[String]) -> Option<Command<'_>>
 
 // `hide` with these files, where the words are names, a period and a place.
 #[tactic(auto, unfolding(crate::specs::Words::hide_with))]
-fn hide_with<'a>(files: HideFiles<'a>, period: Period, place: Place) -> Option<Command<'a>>
+fn hide_with<'a>(files: HideFiles<'a>, period: Period, place: PlaceWords) -> Option<Command<'a>>
     ensures command { MatchOption result (hide_with (hide_names_of files.entry) period place ≡ None)
         (λ command. hide_with (hide_names_of files.entry) period place ≡ Some (asked command)) }
     ensures within { IfSome result (λ command. IsWithin command) }

@@ -182,9 +182,9 @@ pub struct Period {
     pub until: u32,
 }
 
-/// A meter of a group in a round, all counted from 0.
+/// `G R I`: a meter of a group in a round, all counted from 0.
 #[derive(Clone, Copy)]
-pub struct Place {
+pub struct PlaceWords {
     /// Below 256.
     pub group: u16,
     /// Below 4096.
@@ -221,7 +221,7 @@ pub struct HideFiles<'a> {
 pub struct HideWords<'a> {
     pub files: HideFiles<'a>,
     pub period: Period,
-    pub place: Place,
+    pub place: PlaceWords,
 }
 
 /// What the words ask for.

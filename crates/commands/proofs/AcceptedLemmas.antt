@@ -51,7 +51,7 @@ use Rattle.command_texts.proofs.InspectedRuns.{no_line_late}
 use Rattle.command_texts.specs.Billing.{Metered, AreMetered, MeteredRefuses, bills_in, bills_text_in, HideBytes, TextRefuses, Finds, IsAlone, HideRefuses}
 use Rattle.command_words.specs.declared.words.Period.{Period}
 use Rattle.file_commands.specs.BillingEnds.{billed_by, BillEnds, AreHideBytes, hidden_by, HideEnds}
-use Rattle.command_words.specs.declared.words.Place.{Place}
+use Rattle.command_words.specs.declared.words.PlaceWords.{PlaceWords}
 use Rattle.group_plan.specs.Tables.{ReadingsView}
 use Rattle.command_words.specs.declared.usage.TheConstants.{USAGE, VERSION}
 use Rattle.command_texts.specs.declared.sharing.Sharing.TheVariants.{WithEach, WithNeighbours}
@@ -308,7 +308,7 @@ bill_calm names period v w outcome good (inr (p, r, p_read, r_read, inr (values,
     puts_calm (putting names.bills (bills_text_in values period) ∷ []) (bills_line (length (bills_in values period))) (after_fetches (billed_by names) v) w outcome ends
 
 -- the bytes that were read are the accepted ones
-same_three : (names : HideNames) (period : Period) (place : Place) (v : View) (good : HideAccepts names period place v) (bytes : HideBytes) → AreHideBytes names v bytes → good.bytes ≡ bytes
+same_three : (names : HideNames) (period : Period) (place : PlaceWords) (v : View) (good : HideAccepts names period place v) (bytes : HideBytes) → AreHideBytes names v bytes → good.bytes ≡ bytes
 same_three names period place v good bytes read =
     let plan = read_is v names.plan good.bytes.plan bytes.plan good.plan read.plan in
     let readings = read_is v names.readings good.bytes.readings bytes.readings good.readings read.readings in
@@ -318,7 +318,7 @@ same_three names period place v good bytes read =
     ∙ ap (λ t. record { plan = bytes.plan; readings = bytes.readings; transcript = t }) transcript
 
 -- the accepted text is that of a transcript of the plan
-text_of_plan : (names : HideNames) (period : Period) (place : Place) (v : View) (good : HideAccepts names period place v) (plan : PlanView) (outcome : Outcome)
+text_of_plan : (names : HideNames) (period : Period) (place : PlaceWords) (v : View) (good : HideAccepts names period place v) (plan : PlanView) (outcome : Outcome)
     → plan ≡ good.values.file.plan → TextRefuses names.transcript plan good.bytes.transcript outcome → IsCalm outcome
 text_of_plan names period place v good plan NoMemory same ends = inr (inr refl)
 text_of_plan names period place v good plan (BadTranscript name fault) same ends = absurd (ok_or_err _ _ _ good.of_plan.text_of.read ends.1)
@@ -327,7 +327,7 @@ text_of_plan names period place v good plan (OtherPlan name) same (named, (t, te
 text_of_plan names period place v good plan _ same ends = absurd ends
 
 -- the place has a partner
-has_partner : (names : HideNames) (period : Period) (place : Place) (v : View) (good : HideAccepts names period place v) (x : ReadingsView) (t : TranscriptView) (outcome : Outcome)
+has_partner : (names : HideNames) (period : Period) (place : PlaceWords) (v : View) (good : HideAccepts names period place v) (x : ReadingsView) (t : TranscriptView) (outcome : Outcome)
     → good.values.readings ≡ x → good.lines ≡ t → IsAlone period place x t outcome → IsCalm outcome
 has_partner names period place v good x t NoMemory table lines ends = inr (inr refl)
 has_partner names period place v good x t (NoPartner group round meter) table lines ends =
@@ -336,7 +336,7 @@ has_partner names period place v good x t (NoPartner group round meter) table li
     absurd (none good.partner good.is_partner)
 has_partner names period place v good x t _ table lines ends = absurd ends
 
-hide_not_refused : (names : HideNames) (period : Period) (place : Place) (v : View) (good : HideAccepts names period place v) (outcome : Outcome) → HideRefuses names period place good.bytes outcome → IsCalm outcome
+hide_not_refused : (names : HideNames) (period : Period) (place : PlaceWords) (v : View) (good : HideAccepts names period place v) (outcome : Outcome) → HideRefuses names period place good.bytes outcome → IsCalm outcome
 hide_not_refused names period place v good outcome (inl metered) = metered_not_refused names.plan names.readings good.bytes.plan good.bytes.readings good.values outcome good.of_bytes metered
 hide_not_refused names period place v good outcome (inr (inl (values, are, refused))) =
     text_of_plan names period place v good values.file.plan outcome (ap (λ m. m.file.plan) (same_metered good.bytes.plan good.bytes.readings values good.values are good.of_bytes)) refused
@@ -344,7 +344,7 @@ hide_not_refused names period place v good outcome (inr (inr (values, t, are, te
     has_partner names period place v good values.readings t outcome (ap (λ m. m.readings) (same_metered good.bytes.plan good.bytes.readings good.values values good.of_bytes are))
     (ok_same _ _ _ good.of_plan.text_of.read text.text_of.read) alone
 
-hide_calm : (names : HideNames) (period : Period) (place : Place) (v w : View) (outcome : Outcome) → HideAccepts names period place v → HideEnds names period place v w outcome → IsCalm outcome
+hide_calm : (names : HideNames) (period : Period) (place : PlaceWords) (v w : View) (outcome : Outcome) → HideAccepts names period place v → HideEnds names period place v w outcome → IsCalm outcome
 hide_calm names period place v w outcome good (inl unread) =
     unread_calm (hidden_by names) v w outcome
     (three_are_short v w names.plan names.readings names.transcript good.bytes.plan good.bytes.readings good.bytes.transcript good.plan good.readings good.transcript) unread

@@ -47,7 +47,7 @@ use Rattle.run_course.specs.Beginnings.{IsSomeRun}
 use Rattle.command_texts.specs.Inspecting.{InspectBytes}
 use Rattle.command_texts.specs.Billing.{Metered, AreMetered, HideBytes, IsTextIn}
 use Rattle.command_words.specs.declared.words.Period.{Period}
-use Rattle.command_words.specs.declared.words.Place.{Place}
+use Rattle.command_words.specs.declared.words.PlaceWords.{PlaceWords}
 use Rattle.billing_read.specs.declared.partners.Partner.{Partner}
 use Rattle.billing_read.specs.Partners.{IsPartner}
 use Rattle.transcript_log.specs.Transcript.{shape_of_readings}
@@ -197,7 +197,7 @@ pub record BillAccepts (names : BillNames) (v : View) : Type 0 where
   pub of_bytes : AreMetered plan_bytes readings_bytes values
 
 -- the three files of `hide` have values, the transcript is of the plan, and the place has a partner
-pub record HideAccepts (names : HideNames) (period : Period) (place : Place) (v : View) : Type 0 where
+pub record HideAccepts (names : HideNames) (period : Period) (place : PlaceWords) (v : View) : Type 0 where
   pub bytes : HideBytes
   pub plan : HoldsFile v names.plan bytes.plan
   pub readings : HoldsFile v names.readings bytes.readings

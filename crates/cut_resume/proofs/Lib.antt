@@ -8,7 +8,7 @@ pub mod Moves
 pub mod Picks
 pub mod LeftLemmas
 pub mod Replayed
-pub mod MadeLemmas
+pub mod RemakingLemmas
 pub mod HeardLemmas
 pub mod LastLine
 pub mod BegunBytes

@@ -1,7 +1,7 @@
 pub mod Cut
 pub mod Heard
 pub mod Left
-pub mod Made
+pub mod Remaking
 pub mod OnCourse
 pub mod Order
 pub mod Resumed

@@ -7,7 +7,7 @@ mod errors;
 mod heard;
 pub mod laws;
 mod left;
-mod made;
+mod remaking;
 mod resume;
 
 pub use cut::{begun_bytes, is_of_plan, read_cut};

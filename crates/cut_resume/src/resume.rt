@@ -11,7 +11,7 @@ ghost use Rattle.cut_resume.specs.Resumed.{FollowEnds, ResumeEnds};
 use crate::ResumeError;
 use crate::heard::{Heard, run_beside};
 use crate::left::pick_all;
-use crate::made::{Made, remake};
+use crate::remaking::{RemadeRun, remake};
 use collector_workers::{Crew, Gate};
 use group_book::{Book, Parts};
 use group_plan::{Plan, Presence, Readings};
@@ -49,7 +49,7 @@ fn follow(alloc: Global, run: Finished, cut: &Transcript) -> Result<Finished, Re
     let run = transcript.finish(journal)?;
     let _entries = (run.len(), cut.len());
     let left = pick_all(alloc, run, cut)?;
-    let Made { journal, draft } = remake(alloc, cut, &left)?;
+    let RemadeRun { journal, draft } = remake(alloc, cut, &left)?;
     let book = Book::of_parts(
         alloc,
         Parts {

@@ -11,7 +11,7 @@ use Rattle.command_texts.specs.declared.bill.BillsText.{BillsText}
 use Rattle.command_texts.specs.Lines.{bills_line, hidden_line}
 use Rattle.command_texts.specs.BillingParts.{AreBillsOf, HidesIn}
 use Rattle.command_files.proofs.CallLemmas.{read_after}
-use Rattle.command_words.specs.declared.words.Place.{Place}
+use Rattle.command_words.specs.declared.words.PlaceWords.{PlaceWords}
 use Rattle.plan_files.specs.Spelling.{readings_text}
 use Rattle.command_texts.specs.declared.hide.Hidden.{Hidden}
 
@@ -51,7 +51,7 @@ three_after : (names : HideNames) (v u w : View) → u ≡ after_fetches (names.
 three_after names v u w first second = second ∙ ap (after_fetches (names.transcript ∷ [])) first
 
 -- it is refused
-pub hide_refused : (names : HideNames) (period : Period) (place : Place) (v u w : View) (outcome : Outcome) (p r t gp gr gt : List ℕ) → IsRead (v.held names.plan) p → IsRead (v.held names.readings) r
+pub hide_refused : (names : HideNames) (period : Period) (place : PlaceWords) (v u w : View) (outcome : Outcome) (p r t gp gr gt : List ℕ) → IsRead (v.held names.plan) p → IsRead (v.held names.readings) r
     → u ≡ after_fetches (names.plan ∷ names.readings ∷ []) v → IsRead (u.held names.transcript) t → w ≡ after_fetches (names.transcript ∷ []) u → gp ≡ p → gr ≡ r → gt ≡ t
     → HideRefuses names period place (record { plan = gp; readings = gr; transcript = gt }) outcome → HideEnds names period place v w outcome
 hide_refused names period place v u w outcome p r t gp gr gt p_read r_read first t_read second p_is r_is t_is refused =
@@ -62,7 +62,7 @@ hide_refused names period place v u w outcome p r t gp gr gt p_read r_read first
     )
 
 -- the other table is put
-pub hide_ends : (names : HideNames) (period : Period) (place : Place) (v u x w : View) (outcome : Outcome) (found : Hidden) (p r t gp gr gt text line : List ℕ) → IsRead (v.held names.plan) p
+pub hide_ends : (names : HideNames) (period : Period) (place : PlaceWords) (v u x w : View) (outcome : Outcome) (found : Hidden) (p r t gp gr gt text line : List ℕ) → IsRead (v.held names.plan) p
     → IsRead (v.held names.readings) r → u ≡ after_fetches (names.plan ∷ names.readings ∷ []) v → IsRead (u.held names.transcript) t → x ≡ after_fetches (names.transcript ∷ []) u
     → gp ≡ p → gr ≡ r → gt ≡ t → HidesIn period place (record { plan = gp; readings = gr; transcript = gt }) found → text ≡ found.text.items
     → line ≡ hidden_line found.partner.round found.partner.meter → PutsEnd (putting names.other text ∷ []) line x w outcome → HideEnds names period place v w outcome

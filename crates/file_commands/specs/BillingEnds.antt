@@ -10,7 +10,7 @@ use Rattle.command_texts.specs.Lines.{bills_line, hidden_line}
 use Rattle.group_plan.specs.Tables.{ReadingsView}
 use Rattle.plan_files.specs.Spelling.{readings_text}
 use Rattle.billing_read.specs.declared.partners.Partner.{Partner}
-use Rattle.command_words.specs.declared.words.Place.{Place}
+use Rattle.command_words.specs.declared.words.PlaceWords.{PlaceWords}
 
 -- ---- `bill PLAN READINGS FROM UNTIL BILLS`
 
@@ -45,13 +45,13 @@ pub record AreHideBytes (names : HideNames) (v : View) (bytes : HideBytes) : Typ
   pub transcript : IsRead (v.held names.transcript) bytes.transcript
 
 -- the table that hides the place is put, and its partner said
-abbrev pub OtherPut : HideNames → Period → Place → HideBytes → View → View → Outcome → Type 0
+abbrev pub OtherPut : HideNames → Period → PlaceWords → HideBytes → View → View → Outcome → Type 0
 OtherPut names period place bytes v w outcome =
     (p : Partner) × (y : ReadingsView) × OfHidden bytes (λ plan x t. IsHidden period place plan x t p y)
     × PutsEnd (putting names.other (readings_text y) ∷ []) (hidden_line p.round p.meter) v w outcome
 
 -- how it ends: a file is not read, or it is refused, or the other table is put
-abbrev pub HideEnds : HideNames → Period → Place → View → View → Outcome → Type 0
+abbrev pub HideEnds : HideNames → Period → PlaceWords → View → View → Outcome → Type 0
 HideEnds names period place v w outcome =
     Unread (hidden_by names) v w outcome
     ⊎ ((bytes : HideBytes) × AreHideBytes names v bytes

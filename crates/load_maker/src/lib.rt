@@ -19,7 +19,7 @@ use std::alloc::{AllocError, Global};
 
 /// The bytes of a plan file and of a readings file of this plan.
 #[derive(Drop)]
-pub struct Made {
+pub struct MadeFiles {
     pub plan: Vec<u8>,
     pub readings: Vec<u8>,
 }
@@ -52,14 +52,14 @@ pub fn make(
     groups: u64,
     meters: u64,
     rounds: u64,
-) -> Result<Made, MakeError>
+) -> Result<MadeFiles, MakeError>
     ensures made { Makes seed groups meters rounds result }
     ensures read { IfOk result (λ _. AreRead seed groups meters rounds) }
 {
     let Some(size) = PlanSize::new(groups, meters, rounds) else {
         return Err(MakeError::Range);
     };
-    Ok(Made {
+    Ok(MadeFiles {
         plan: plan_text(alloc, seed, size)?,
         readings: readings_text(alloc, seed, size)?,
     })

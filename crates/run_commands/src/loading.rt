@@ -14,7 +14,7 @@ use command_texts::{Sharing, read_run, texts_in_memory};
 use command_words::{LoadWords, Outcome};
 use desk_outside::{BegunFile, Desk, Readers};
 use link_lanes::Lane;
-use load_maker::{Made, MakeError, make};
+use load_maker::{MadeFiles, MakeError, make};
 use std::alloc::Global;
 use std::sync::Wait;
 use std::thread::Threads;
@@ -41,7 +41,7 @@ pub fn load<'a, R: Threads + Wait + Sync, D: Desk, G: Gate>(
     ensures cause { IsFault result → Rose (D.faults desk.old) (D.faults desk.new) }
 {
     let size = words.size;
-    let Made { plan, readings } = match make(
+    let MadeFiles { plan, readings } = match make(
         alloc,
         size.seed,
         size.groups,

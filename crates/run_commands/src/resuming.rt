@@ -7,7 +7,9 @@ ghost use Rattle.command_words.specs.Outcomes.{IsFault};
 ghost use Rattle.run_commands.specs.ResumeEnds.{ResumeCommandEnds};
 
 use collector_workers::{Crew, Gate, Workers};
-use command_files::{Ahead, Source, begin, commit_two, fetch, fetch_two, first_of_two};
+use command_files::{
+    Ahead, PendingFile, Source, begin, commit_two, fetch, fetch_two, first_of_two,
+};
 use command_texts::{cut_in, read_run, resume_texts};
 use command_words::{Outcome, ResumeWords};
 use cut_resume::{ResumeError, begun_bytes};
@@ -63,7 +65,10 @@ pub fn resume<'a, R: Threads + Wait + Sync, D: Desk, G: Gate>(
         },
     };
     let transcript = ahead.finished(&texts.transcript);
-    let report_bytes = Source::Bytes(texts.report.as_slice());
+    let report = PendingFile {
+        begun: report,
+        source: Source::Bytes(texts.report.as_slice()),
+    };
     let line = texts.summary.as_slice();
-    commit_two(rt, alloc, transcript, report, report_bytes, line, desk)
+    commit_two(rt, alloc, transcript, report, line, desk)
 }

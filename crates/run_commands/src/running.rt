@@ -8,7 +8,7 @@ ghost use Rattle.command_words.specs.Outcomes.{IsFault};
 
 use crate::run_texts::run_texts;
 use collector_workers::{Crew, Gate, Workers};
-use command_files::{Ahead, Source, begin, commit_two, fetch_two, first_of_two};
+use command_files::{Ahead, PendingFile, Source, begin, commit_two, fetch_two, first_of_two};
 use command_texts::{Sharing, read_run};
 use command_words::{Outcome, RingWords, RunFiles, RunWords};
 use desk_outside::{BegunFile, Desk, Readers};
@@ -109,7 +109,10 @@ fn run_order<'a, R: Threads + Wait + Sync, D: Desk, G: Gate>(
     };
     let (texts, ahead) = told;
     let transcript = ahead.finished(&texts.transcript);
-    let report_bytes = Source::Bytes(texts.report.as_slice());
+    let report = PendingFile {
+        begun: report,
+        source: Source::Bytes(texts.report.as_slice()),
+    };
     let line = texts.summary.as_slice();
-    commit_two(rt, alloc, transcript, report, report_bytes, line, desk)
+    commit_two(rt, alloc, transcript, report, line, desk)
 }

@@ -19,7 +19,7 @@ returns c =
     let given = ap (λ (q : PlanView). length q.groups) c.requires.plan in
     record {
       plan = same;
-      readings = all_groups (changed (reading x.table) c.args.group c.args.round c.args.meter p) y c.loop-group.group c.loop-group.invariant.before
-          (λ g r i le. none_outside x y c.args.group c.args.round c.args.meter p c.plan-readings.ensures.table c.plan-whole.ensures.table same g r i
+      readings = all_groups (changed (reading x.table) c.args.place.group c.args.place.round c.args.place.meter p) y c.loop-group.group c.loop-group.invariant.before
+          (λ g r i le. none_outside x y c.args.place.group c.args.place.round c.args.place.meter p c.plan-readings.ensures.table c.plan-whole.ensures.table same g r i
           (out_meter x.plan g r i (let none = (past x.plan.groups g (omega (arith, long, given, le, c.loop-group-test.false))).0 in omega (arith, none))));
     }

@@ -12,5 +12,5 @@ returns-clause-after c =
     let same : y.plan ≡ x.plan = c.loop-round.invariant.plan ∙ c.requires.plan in
     let end = c.rounds-round-end.ensures.rounds ∙ ap (λ (p : PlanView). p.rounds) c.plan.ensures.plan in
     group_more (after_change at) y c.args.group c.loop-round.round c.loop-round.invariant.before
-    (λ r i le. none_outside x y at.group at.round at.meter at.partner c.plan-readings.ensures.table c.plan-whole.ensures.table same c.args.group r i
+    (λ r i le. none_outside x y at.place.group at.place.round at.place.meter at.partner c.plan-readings.ensures.table c.plan-whole.ensures.table same c.args.group r i
     (out_round x.plan c.args.group r i (omega (arith, end, le, c.loop-round-test.false))))

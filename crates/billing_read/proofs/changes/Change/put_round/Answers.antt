@@ -21,5 +21,5 @@ returns-clause-after c =
     let same : y.plan ≡ x.plan = c.loop-meter.invariant.plan ∙ c.requires.plan in
     let end = c.meters-meter-end.ensures.meters ∙ ap (λ (p : PlanView). size p.groups c.args.group) c.plan.ensures.plan in
     round_more (after_change at) y c.args.group c.args.round c.loop-meter.meter c.loop-meter.invariant.before
-    (λ i le. none_outside x y at.group at.round at.meter at.partner c.plan-readings.ensures.table c.plan-whole.ensures.table same c.args.group c.args.round i
+    (λ i le. none_outside x y at.place.group at.place.round at.place.meter at.partner c.plan-readings.ensures.table c.plan-whole.ensures.table same c.args.group c.args.round i
     (out_meter x.plan c.args.group c.args.round i (omega (arith, end, le, c.loop-meter-test.false))))

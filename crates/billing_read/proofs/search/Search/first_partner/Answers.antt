@@ -10,6 +10,6 @@ returns c =
     let plan = q.readings.now.plan in
     let rounds = c.rounds.ensures.rounds ∙ ap (λ p. p.rounds) c.plan.ensures.plan in
     none-all (PartnerOf q) c.loop-round.round c.loop-round.invariant
-    (λ p is. let below = (partner-place plan q.readings.now.table (shape_of q.book.now) (past q.book.now) q.from q.until q.group q.round q.meter p c.plan.ensures.table is).0 in
+    (λ p is. let below = (partner-place plan q.readings.now.table (shape_of q.book.now) (past q.book.now) q.from q.until q.place.group q.place.round q.place.meter p c.plan.ensures.table is).0 in
     let within = is.partner_period.1 in
     omega (arith, rounds, below, within, c.min-round-end.ensures, c.loop-round-test.false))

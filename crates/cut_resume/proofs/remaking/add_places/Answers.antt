@@ -1,5 +1,5 @@
-use Rattle.cut_resume.proofs.MadeLemmas.{places_next}
-use Rattle.cut_resume.proofs.made.add_places.Goals as goal
+use Rattle.cut_resume.proofs.RemakingLemmas.{places_next}
+use Rattle.cut_resume.proofs.remaking.add_places.Goals as goal
 
 pub add-requires : goal.add-requires
 add-requires c =

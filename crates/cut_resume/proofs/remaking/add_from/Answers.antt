@@ -1,6 +1,6 @@
 use Rattle.std.proofs.Common.{arith}
-use Rattle.cut_resume.proofs.MadeLemmas.{from_more, from_next}
-use Rattle.cut_resume.proofs.made.add_from.Goals as goal
+use Rattle.cut_resume.proofs.RemakingLemmas.{from_more, from_next}
+use Rattle.cut_resume.proofs.remaking.add_from.Goals as goal
 
 pub add-requires : goal.add-requires
 add-requires c =

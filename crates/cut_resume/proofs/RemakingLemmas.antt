@@ -7,9 +7,9 @@ use Rattle.transcript_log.specs.declared.Entry.{Entry}
 use Rattle.transcript_log.specs.Events.{lines_of}
 use Rattle.transcript_log.specs.Transcripts.{Fits, NeverFalls, TranscriptView, last_tick_from, no_entries}
 use Rattle.run_course.proofs.Members.{all_in, all_from_in, in_append}
-use Rattle.cut_resume.specs.declared.made.Made.{Made}
+use Rattle.cut_resume.specs.declared.remaking.RemadeRun.{RemadeRun}
 use Rattle.cut_resume.specs.Left.{at_places}
-use Rattle.cut_resume.specs.Made.{CanGoOn, GoesOn}
+use Rattle.cut_resume.specs.Remaking.{CanGoOn, GoesOn}
 use Rattle.cut_resume.proofs.LeftLemmas.{places_at}
 
 -- ---- ticks
@@ -32,21 +32,21 @@ last_tick-append a (z ∷ xs) ys = last_tick-append z.tick xs ys
 
 -- ---- entries that can be written
 
-pub starts : (m : Made) (plan : PlanView) (entries : List Entry) → m.journal.items ≡ [] → m.draft ≡ no_entries plan → All (Fits plan) entries → NeverFalls 0 entries → CanGoOn m entries
+pub starts : (m : RemadeRun) (plan : PlanView) (entries : List Entry) → m.journal.items ≡ [] → m.draft ≡ no_entries plan → All (Fits plan) entries → NeverFalls 0 entries → CanGoOn m entries
 starts m plan entries none empty fits ticks = record {
   made = none ∙ sym (ap (λ (t : TranscriptView). lines_of t.entries) empty);
   fits = subst (λ (t : TranscriptView). All (Fits t.plan) entries) (sym empty) fits;
   ticks = subst (λ (t : TranscriptView). NeverFalls (last_tick_from 0 t.entries) entries) (sym empty) ticks;
 }
 
-pub can_first : (m : Made) (xs ys : List Entry) → CanGoOn m (xs ++ ys) → CanGoOn m xs
+pub can_first : (m : RemadeRun) (xs ys : List Entry) → CanGoOn m (xs ++ ys) → CanGoOn m xs
 can_first m xs ys can = record {
   made = can.made;
   fits = all_from_in (Fits m.draft.plan) xs (λ x at. all_in (Fits m.draft.plan) (xs ++ ys) can.fits x (in_append x xs ys (inl at)));
   ticks = never_falls_first (last_tick_from 0 m.draft.entries) xs ys can.ticks;
 }
 
-pub can_rest : (old m : Made) (xs ys : List Entry) → CanGoOn old (xs ++ ys) → GoesOn old xs m → CanGoOn m ys
+pub can_rest : (old m : RemadeRun) (xs ys : List Entry) → CanGoOn old (xs ++ ys) → GoesOn old xs m → CanGoOn m ys
 can_rest old m xs ys can goes = record {
   made = goes.made;
   fits = subst (λ (t : TranscriptView). All (Fits t.plan) ys) (sym goes.draft) (all_from_in (Fits old.draft.plan) ys (λ y at. all_in (Fits old.draft.plan) (xs ++ ys) can.fits y (in_append y xs ys (inr at))));
@@ -54,10 +54,10 @@ can_rest old m xs ys can goes = record {
       (subst (λ n. NeverFalls n ys) (sym (last_tick-append 0 old.draft.entries xs)) (never_falls_rest (last_tick_from 0 old.draft.entries) xs ys can.ticks));
 }
 
-pub can_next : (old m : Made) (entries xs ys : List Entry) (x : Entry) → entries ≡ xs ++ x ∷ ys → CanGoOn old entries → GoesOn old xs m → CanGoOn m (x ∷ [])
+pub can_next : (old m : RemadeRun) (entries xs ys : List Entry) (x : Entry) → entries ≡ xs ++ x ∷ ys → CanGoOn old entries → GoesOn old xs m → CanGoOn m (x ∷ [])
 can_next old m entries xs ys x is can goes = can_first m (x ∷ []) ys (can_rest old m xs (x ∷ ys) (subst (CanGoOn old) is can) goes)
 
-pub goes_both : (old m new : Made) (xs ys : List Entry) → GoesOn old xs m → GoesOn m ys new → GoesOn old (xs ++ ys) new
+pub goes_both : (old m new : RemadeRun) (xs ys : List Entry) → GoesOn old xs m → GoesOn m ys new → GoesOn old (xs ++ ys) new
 goes_both old m new xs ys one two = record {
   draft = two.draft ∙ ap (λ (t : TranscriptView). with_more t) one.draft ∙ ap (λ es. made_of old.draft.plan es) (append_assoc old.draft.entries xs ys);
   made = two.made;
@@ -71,7 +71,7 @@ goes_both old m new xs ys one two = record {
 
 -- ---- at places of a run
 
-pub places_next : (old m : Made) (run : List Entry) (places : List ℕ) (at d : ℕ) (x : Entry) → at < length places → All (λ k. k < length run) places → x ≡ get_or run (get_or places at d) x
+pub places_next : (old m : RemadeRun) (run : List Entry) (places : List ℕ) (at d : ℕ) (x : Entry) → at < length places → All (λ k. k < length run) places → x ≡ get_or run (get_or places at d) x
     → CanGoOn old (at_places run places) → GoesOn old (at_places run (take at places)) m → CanGoOn m (x ∷ [])
 places_next old m run places at d x lt within is can goes =
     can_next old m (at_places run places) (at_places run (take at places)) (at_places run (drop (at + 1) places) ++ []) x (sym (append-nil (at_places run places)) ∙ places_at run places at d x [] lt within is) can goes
@@ -85,7 +85,7 @@ from_at entries from at x low lt is = (
   omega (arith, low, lt, length-drop from entries),
 )
 
-pub from_next : (old m : Made) (entries : List Entry) (from at : ℕ) (x : Entry) → from ≤ at → at < length entries → x ≡ get_or entries at x
+pub from_next : (old m : RemadeRun) (entries : List Entry) (from at : ℕ) (x : Entry) → from ≤ at → at < length entries → x ≡ get_or entries at x
     → CanGoOn old (drop from entries) → GoesOn old (take (at - from) (drop from entries)) m → CanGoOn m (x ∷ [])
 from_next old m entries from at x low lt is can goes =
     let es = drop from entries in
@@ -93,7 +93,7 @@ from_next old m entries from at x low lt is can goes =
     can_next old m es (take (at - from) es) (drop (at - from + 1) es) x
     (sym (take-append-drop (at - from) es) ∙ ap (λ l. take (at - from) es ++ l) (drop_more es (at - from) x here.1 ∙ ap (λ z. z ∷ drop (at - from + 1) es) here.0)) can goes
 
-pub from_more : (old m new : Made) (entries : List Entry) (from at : ℕ) (x : Entry) → from ≤ at → at < length entries → x ≡ get_or entries at x
+pub from_more : (old m new : RemadeRun) (entries : List Entry) (from at : ℕ) (x : Entry) → from ≤ at → at < length entries → x ≡ get_or entries at x
     → GoesOn old (take (at - from) (drop from entries)) m → GoesOn m (x ∷ []) new → GoesOn old (take (at + 1 - from) (drop from entries)) new
 from_more old m new entries from at x low lt is goes more =
     let es = drop from entries in

@@ -1,9 +1,9 @@
 use Rattle.std.proofs.Common.{◌∙◌, ◌++◌, ap, drop, sym, subst}
 use Rattle.transcript_log.specs.Transcripts.{no_entries}
 use Rattle.cut_resume.specs.Left.{at_places, entries_left}
-use Rattle.cut_resume.specs.Made.{CanGoOn}
-use Rattle.cut_resume.proofs.MadeLemmas.{can_first, can_rest, starts}
-use Rattle.cut_resume.proofs.made.remake.Goals as goal
+use Rattle.cut_resume.specs.Remaking.{CanGoOn}
+use Rattle.cut_resume.proofs.RemakingLemmas.{can_first, can_rest, starts}
+use Rattle.cut_resume.proofs.remaking.remake.Goals as goal
 
 pub add_from-requires-clause-entries : goal.add_from-requires-clause-entries
 add_from-requires-clause-entries c =
