@@ -341,6 +341,6 @@ returns g c = λ entries at.
     let closes_lines : c.close_and_end.new.lines.items ≡ took.takes.added ++ shut.closes.added = shut.closes.lines ∙ ap (λ (l : List Line). l ++ shut.closes.added) takes_lines in
     group-ticks readings m t group entries left copies came heard c.send_all.new.pages _ c.reserve.new.self c.take_all.new.lines c.take_all.new.lines c.close_and_end.new.lines c.reserve-2.new.self c.send_all.new.lines c.take_all.new.pages w
     at.own begun.0 begun.1 came_is took.takes shut.closes (some ∙ ap announcements (sym same_came))
-    (c.in_ok-heard.ensures.meters (book_with readings es) (t + 1) group own read told) made sends refl
+    (c.in_ok-heard.ensures.meters (presence_of readings) (past_in es) (t + 1) group own read told) made sends refl
     (sends.lines ∙ ap (λ (l : List Line). l ++ map send_line c.add_due.new.frames.items) (c.in_ok-reserve-2.ensures.items ∙ closes_lines))
     (c.len-work.ensures.len ∙ ap length takes_lines) (c.len-work-2.ensures.len ∙ ap length closes_lines)
