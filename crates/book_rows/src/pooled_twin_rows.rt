@@ -8,7 +8,7 @@ use row_fixtures::{keys_of_north, plan_of_north, table};
 use std::alloc::Global;
 use std::test::Fail;
 use std::thread::Threads;
-use twin_worlds::{MovedWords, PoolTwinError, TwinError, moved_text, pooled_twin};
+use twin_worlds::{MovedWords, PoolTwinError, ReadingTables, TwinError, moved_text, pooled_twin};
 
 // What `pooled_twin` answers for a pool, from 10, 20 and 30 to the second table.
 fn judged<R: Threads + Sync>(
@@ -21,16 +21,11 @@ fn judged<R: Threads + Sync>(
     let keys = keys_of_north(alloc, &plan, [0; 6])?;
     let first = table(alloc, &plan, &[10, 20, 30])?;
     let second = table(alloc, &plan, second)?;
-    Ok(pooled_twin(
-        rt,
-        alloc,
-        &plan,
-        &keys,
-        known,
-        &first,
-        &second,
-        DEAF.as_bytes(),
-    ))
+    let tables = ReadingTables {
+        first: &first,
+        second: &second,
+    };
+    Ok(pooled_twin(rt, alloc, &keys, known, &tables, DEAF.as_bytes()))
 }
 
 // Whether these are the moved words for the pool.

@@ -58,7 +58,7 @@ fn offsets_of(
 }
 
 // The words of a table of masks that move to the second table, where the text is that of the first under them.
-fn moved_under<R: Threads + Sync, M: Masks>(
+fn moved_under<R: Threads + Sync, M: Masks + Sync>(
     rt: &R,
     alloc: Global,
     plan: &Plan,

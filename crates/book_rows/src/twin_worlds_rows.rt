@@ -12,7 +12,7 @@ use std::test::Fail;
 use std::thread::Threads;
 use transcript_log::{Entry, Line, Transcript};
 use transcript_text::{ReadError, line_text, write};
-use twin_worlds::{MovedWords, TwinError, moved_text, twin};
+use twin_worlds::{MovedWords, ReadingTables, TwinError, moved_text, twin};
 
 // ---- files
 
@@ -108,7 +108,11 @@ fn judged<R: Threads + Sync>(
     let keys = keys_of_north(alloc, plan, [0; 6])?;
     let first = table(alloc, plan, first)?;
     let second = table(alloc, plan, second)?;
-    Ok(twin(rt, alloc, plan, &keys, &first, &second, text))
+    let tables = ReadingTables {
+        first: &first,
+        second: &second,
+    };
+    Ok(twin(rt, alloc, &keys, &tables, text))
 }
 
 // ---- moved words

@@ -25,7 +25,7 @@ use plan_files::{FileCause, FileError, PlanFile};
 use std::alloc::Global;
 use std::thread::Threads;
 use transcript_log::Entry;
-use twin_worlds::{MovedWords, PoolTwinError, TwinError, pooled_twin};
+use twin_worlds::{MovedWords, PoolTwinError, ReadingTables, TwinError, pooled_twin};
 
 /// The fault of a plan that hasn't each known meter.
 const OUTSIDE_PLAN: FileError = FileError {
@@ -151,16 +151,11 @@ fn compare_tables<'a, R: Threads + Sync>(
     ensures no_fault { IfErr result (λ outcome. ¬ IsFault outcome) }
 {
     let tables = or_fail!(read_tables(alloc, files, &file.plan, texts));
-    match pooled_twin(
-        rt,
-        alloc,
-        &file.plan,
-        &file.keys,
-        sets,
-        &tables.first,
-        &tables.second,
-        &texts.transcript,
-    ) {
+    let both = ReadingTables {
+        first: &tables.first,
+        second: &tables.second,
+    };
+    match pooled_twin(rt, alloc, &file.keys, sets, &both, &texts.transcript) {
         Ok(moved) => Ok(moved),
         Err(error) => Err(refusal(files.transcript, error)),
     }

@@ -1,22 +1,19 @@
 -- The parts of a twin, put together.
-use Rattle.std.proofs.Common.{◌≡◌, ℕ, ◌^◌, ◌<◌, List, take, sym, ap, ◌∙◌, subst, arith}
-use Rattle.std.specs.Prelude.{reverse, slice_get, Option, Some, None, Result, Ok, Err}
+use Rattle.std.proofs.Common.{◌≡◌, ℕ, ◌^◌, ◌<◌, List, sym, ap, ◌∙◌, subst, arith}
+use Rattle.std.specs.Prelude.{reverse, Option, Some, None, Result, Ok, Err}
 use Rattle.chacha_lanes.proofs.WordBounds.{mask_word_small}
 use Rattle.mask_stream.specs.KeyStreams.{word_of as stream_word_of, streams}
 use Rattle.pair_keys.specs.Keys.{Keys}
 use Rattle.group_plan.specs.Tables.{ReadingsView, IsReadingTable, reading}
-use Rattle.transcript_log.specs.declared.Line.{Line}
 use Rattle.transcript_log.specs.Events.{events_of}
 use Rattle.transcript_log.specs.Tables.{Masks, IsMasks}
 use Rattle.transcript_log.specs.Transcript.{transcript}
 use Rattle.transcript_log.proofs.ScheduleLemmas.{after-reverse}
 use Rattle.transcript_log.specs.Transcripts.{TranscriptView}
 use Rattle.ideal_masks.specs.declared.Offset.{Offset}
-use Rattle.ideal_masks.specs.ListTables.{MaskTable, masks_in, mask_table_of}
 use Rattle.ideal_masks.specs.Pools.{Pool}
 use Rattle.ideal_masks.specs.Offsets.{AgreeFor, offsets_for}
 use Rattle.ideal_masks.specs.Isolation.{offsets_between_for}
-use Rattle.ideal_masks.proofs.FiniteTables.{keeps_lines}
 use Rattle.ideal_masks.proofs.TwoWorlds.{two_worlds_for, words_stay}
 use Rattle.twin_worlds.specs.declared.rows.MovedRow.{MovedRow}
 use Rattle.twin_worlds.specs.declared.answers.TwinError.{TwinError}
@@ -24,7 +21,7 @@ use Rattle.twin_worlds.specs.declared.answers.TwinError.TheVariants as twin
 use Rattle.twin_worlds.specs.MovedRows.{rows_of, AreMoved}
 use Rattle.twin_worlds.specs.declared.answers.PoolTwinError.{PoolTwinError}
 use Rattle.twin_worlds.specs.declared.answers.PoolTwinError.TheVariants as pool_twin
-use Rattle.twin_worlds.specs.Twins.{IsTextOf, lines_under, IsRecord, shifted_for, IsFirstOther, SameWorldEnds, TwinEnds, PooledTwinEnds}
+use Rattle.twin_worlds.specs.Twins.{IsTextOf, lines_under, IsRecord, shifted_for, SameWorldEnds, TwinEnds, PooledTwinEnds}
 use Rattle.twin_worlds.specs.Ends.{HeadEnds, LinesEnd, AgreementEnds, PooledAgreementEnds}
 use Rattle.twin_worlds.proofs.MovedLemmas.{are-moved}
 
@@ -37,33 +34,7 @@ word_small (Some key) round = mask_word_small key round
 pub streams_small : (keys : Keys) → IsMasks (streams keys)
 streams_small keys = record { own = λ g r i. word_small _ r; pair = λ g r i j. word_small _ r }
 
--- ---- the first world
-
--- under the finite table of the masks m the readings give the lines that they give under m
-same-lines : (x : ReadingsView) (m : Masks) (w : MaskTable) (t : TranscriptView) → IsReadingTable x.plan x.table → w ≡ mask_table_of x.plan m → lines_under x (masks_in w) t ≡ lines_under x m t
-same-lines x m w t table is = ap (λ z. lines_under x (masks_in z) t) is ∙ keeps_lines x.plan x.table m (events_of t.entries) table
-
-other-line : (m : Masks) (x : ReadingsView) (w : MaskTable) (t : TranscriptView) (k : ℕ) (expected found : Line) (tick : ℕ) (fate : List ℕ) → IsReadingTable x.plan x.table → w ≡ mask_table_of x.plan m
-    → IsFirstOther (masks_in w) x t k expected found tick fate → IsFirstOther m x t k expected found tick fate
-other-line m x w t k expected found tick fate table is other =
-    let same = same-lines x m w t table is in
-    record {
-      entry = other.entry;
-      before = other.before ∙ ap (take k) same;
-      expected_is = ap (λ ls. slice_get ls k) (sym same) ∙ other.expected_is;
-      other = other.other;
-      writable = other.writable;
-    }
-
--- the lines end under the finite table as under the masks
-pub lines-end : (m : Masks) (x : ReadingsView) (w : MaskTable) (t : TranscriptView) (result : Result (Unit {0}) TwinError) → IsReadingTable x.plan x.table → w ≡ mask_table_of x.plan m
-    → LinesEnd (masks_in w) x t result → LinesEnd m x t result
-lines-end m x w t (Ok done) table is ends = ends ∙ same-lines x m w t table is
-lines-end m x w t (Err (twin.Transcript refusal)) table is ends = absurd ends
-lines-end m x w t (Err twin.Head) table is ends = absurd ends
-lines-end m x w t (Err (twin.NotThis line expected found tick fate)) table is ends = (ends.0, ends.1, other-line m x w t ends.0 expected found tick fate table is ends.2)
-lines-end m x w t (Err (twin.Differ cause)) table is ends = absurd ends
-lines-end m x w t (Err twin.Memory) table is ends = tt
+-- ---- refusals of the first world
 
 -- the head is refused
 pub head-refused : (m : Masks) (x : ReadingsView) (text : List ℕ) (e : TwinError) → HeadEnds x.plan text (Err e) → SameWorldEnds m x text (Err e)
@@ -80,8 +51,6 @@ lines-refused m x text t twin.Head text_of plan_is ends = absurd ends
 lines-refused m x text t (twin.NotThis line expected found tick fate) text_of plan_is ends = (t, text_of, plan_is, ends)
 lines-refused m x text t (twin.Differ cause) text_of plan_is ends = absurd ends
 lines-refused m x text t twin.Memory text_of plan_is ends = tt
-
--- ---- refusals of the first world
 
 pub world-refused : (m : Masks) (x y : ReadingsView) (text : List ℕ) (e : TwinError) → SameWorldEnds m x text (Err e) → TwinEnds m x y text (Err e)
 world-refused m x y text (twin.Transcript refusal) ends = ends

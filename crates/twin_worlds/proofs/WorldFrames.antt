@@ -1,25 +1,30 @@
 -- The frames of a table of readings under masks.
 use Rattle.std.proofs.Common.{◌≡◌, ℕ, zero, suc, ◌+◌, ◌<◌, Bool, true, false, not, cond, ◌&&◌, List, ◌∷◌, refl, sym, ap, ◌∙◌, subst, arith}
-use Rattle.std.specs.Prelude.{nat_lt, Some}
+use Rattle.std.specs.Prelude.{nat_lt, length, slice_index, Option, Some, None, is_some, unwrap_or}
 use Rattle.std.specs.List.{list_all, filter, range_with_len}
 use Rattle.std.proofs.Math.Bool.{and-false}
-use Rattle.std.proofs.lemmas.Bool.{and_from, lt-ltb}
+use Rattle.std.proofs.lemmas.Bool.{false≢true, and_from, lt-ltb}
 use Rattle.missing_round.specs.Sets.{is_member as is_in}
-use Rattle.missing_round.proofs.SetLemmas.{is_member-picked, is_member-filter, filter-picked}
+use Rattle.missing_round.proofs.SetLemmas.{is_member-filter, filter-picked}
 use Rattle.group_plan.specs.declared.Kind.TheVariants.{Answer}
 use Rattle.group_plan.specs.declared.Tag.{Tag}
 use Rattle.group_plan.specs.Plans.{PlanView, size, is_place, is_member, members}
-use Rattle.group_plan.proofs.MeterNumbers.{in_place}
-use Rattle.blind_core.specs.Blind.{are_places}
+use Rattle.group_plan.specs.Tables.{ReadingsView, reading}
+use Rattle.group_plan.proofs.MeterNumbers.{group-lt, in_place}
+use Rattle.blind_core.specs.Blind.{are_places, word_or_0}
 use Rattle.transcript_log.specs.declared.Event.{Event}
 use Rattle.transcript_log.specs.declared.Event.TheVariants.{Send}
 use Rattle.transcript_log.specs.Schedule.{Shape, is_announced, is_reading_taken, is_announcement_taken, is_answer_sent, may_send, missing, members_of}
-use Rattle.transcript_log.specs.Transcript.{Contents, set_sent, word_sent, frame}
+use Rattle.transcript_log.specs.Tables.{Masks}
+use Rattle.transcript_log.specs.Transcript.{Contents, set_sent, word_sent, frame, contents_of_tables}
 use Rattle.transcript_log.proofs.EventLemmas.{is_send-itself}
-use Rattle.transcript_log.proofs.MemberLemmas.{is_member-below}
 use Rattle.transcript_log.proofs.ScheduleLemmas.{once-now, is_announced-from_sent, is_announcement_sent-from_taken, is_closed-from_taken, is_reading_taken-closed, is_reading_taken-from_answer}
 use Rattle.group_book.specs.Books.{BookView, shape_of, past, has_round}
 use Rattle.group_book.proofs.PlaceLemmas.{in_round}
+use Rattle.plan_meters.specs.declared.hidden.HiddenReadings.{HiddenReadings}
+use Rattle.plan_meters.specs.Hidden.{Hide, AreHidden, HasRow, words_in}
+use Rattle.plan_meters.proofs.HiddenLemmas.{has-row, words-hide}
+use Rattle.plan_meters.proofs.RowLemmas.{hide-long}
 use Rattle.twin_worlds.proofs.PostedFrames.{frame-sent}
 
 -- ---- places
@@ -38,12 +43,7 @@ places-kept plan g r q in_plan =
     all_kept (is_place plan g r) q 0 (size plan.groups g)
     (λ i below. and_from (nat_lt r plan.rounds) (nat_lt i (size plan.groups g)) (lt-ltb r plan.rounds in_plan) (lt-ltb i (size plan.groups g) (omega arith)))
 
--- the members of a round have places
-pub members-places : (p q v : PlanView) (g r i : ℕ) (ms : List ℕ) → p ≡ q → v ≡ q → is_place q g r i ≡ true → ms ≡ members v.groups g r → are_places p g r ms ≡ true
-members-places p q v g r i ms masks same place is =
-    rw masks (rw is (rw same (places-kept q g r (is_member q.groups g r) (in_place q g r i place).0)))
-
--- and so have the missing ones
+-- the missing meters of a round have places
 pub missing-places : (b : BookView) (g r : ℕ) (set : List ℕ) → has_round b g r ≡ true → set ≡ missing (shape_of b) g r (past b) → are_places b.presence.plan g r set ≡ true
 missing-places b g r set known is =
     let plan = b.presence.plan in
@@ -51,11 +51,33 @@ missing-places b g r set known is =
     ap (are_places plan g r) (is ∙ filter-picked (is_member plan.groups g r) absent 0 (size plan.groups g))
     ∙ places-kept plan g r (λ i. is_member plan.groups g r i && absent i) (in_round plan g r known).1
 
--- a meter with a reading is a member
-pub member-is : (v q : PlanView) (g r i : ℕ) (ms : List ℕ) → v ≡ q → is_member q.groups g r i ≡ true → ms ≡ members v.groups g r → is_in i ms ≡ true
-member-is v q g r i ms same member is =
-    let below = is_member-below q.groups g r i member in
-    rw is (rw same (is_member-picked (is_member q.groups g r) 0 (size q.groups g) i (omega arith) (omega arith) ∙ member))
+-- ---- readings
+
+-- each place has words
+pub has-words : (x : ReadingsView) (m : Masks) (h : HiddenReadings) (g r i : ℕ) → AreHidden x m h → is_place x.plan g r i ≡ true → HasRow h g r
+has-words x m h g r i are place = let at = in_place x.plan g r i place in has-row x m h g r are (group-lt x.plan.groups g i at.1) at.0
+
+-- they hide the readings of its round
+pub round-hidden : (x : ReadingsView) (m : Masks) (h : HiddenReadings) (g r i : ℕ) (words : List ℕ) → AreHidden x m h → is_place x.plan g r i ≡ true → words ≡ words_in h g r → Hide x m g r words
+round-hidden x m h g r i words are place is =
+    let at = in_place x.plan g r i place in
+    subst (Hide x m g r) (sym is) (words-hide x m h g r are (group-lt x.plan.groups g i at.1) at.0)
+
+-- one of them is the meter's
+pub meter-below : (x : ReadingsView) (m : Masks) (g r i : ℕ) (words : List ℕ) → Hide x m g r words → is_place x.plan g r i ≡ true → i < length words
+meter-below x m g r i words hide place = subst (λ n. i < n) (sym (hide-long x m g r words hide)) (in_place x.plan g r i place).1
+
+-- and where it has a reading, it is the word of this reading
+pub hidden-word : (x : ReadingsView) (m : Masks) (g r i : ℕ) (words : List ℕ) → Hide x m g r words → is_place x.plan g r i ≡ true → is_some (reading x.table g r i) ≡ true
+    → slice_index words i ≡ (contents_of_tables x.plan.groups (reading x.table) m).reading g r i
+hidden-word x m g r i words hide place present =
+    let inside : i < length hide.row = subst (λ n. i < n) (sym hide.is.long) (in_place x.plan g r i place).1 in
+    step (reading x.table g r i) (hide.are.each i inside ∙ ap (word_or_0 (m.own g r) (m.pair g r) (members x.plan.groups g r) i) (hide.is.each i inside)) refl present
+  where
+    step : (o : Option ℕ) → slice_index words i ≡ word_or_0 (m.own g r) (m.pair g r) (members x.plan.groups g r) i o → reading x.table g r i ≡ o → is_some o ≡ true
+        → slice_index words i ≡ (contents_of_tables x.plan.groups (reading x.table) m).reading g r i
+    step None word at some = absurd (false≢true some)
+    step (Some v) word at some = word ∙ ap (λ (o : Option ℕ). word_or_0 (m.own g r) (m.pair g r) (members x.plan.groups g r) i (Some (unwrap_or o 0))) (sym at)
 
 -- ---- answers
 

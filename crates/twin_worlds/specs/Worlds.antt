@@ -1,25 +1,18 @@
 -- A table of readings under masks: what its lines say.
 use Rattle.std.specs.Prelude.{◌≡◌}
+use Rattle.group_plan.specs.Plans.{PlanView}
 use Rattle.group_plan.specs.Tables.{reading, presence_of}
 use Rattle.transcript_log.specs.Tables.{Masks}
 use Rattle.transcript_log.specs.Transcript.{Contents, contents_of_tables}
 use Rattle.group_book.specs.Books.{BookView}
-use Rattle.ideal_masks.specs.ListTables.{masks_in}
-use Rattle.twin_worlds.specs.declared.world.World.{World}
+use Rattle.plan_meters.specs.declared.known.Known.{Known}
+use Rattle.plan_meters.specs.Hidden.{IsOfOnePlan}
 
--- the masks are of the plan of the readings
-abbrev pub IsWorld : World → Type 0
-IsWorld w = w.masks.now.plan ≡ w.readings.now.plan
-
--- and the book is of their presence
-pub record IsWorldOf (w : World) (b : BookView) : Type 0 where
-  pub masks : IsWorld w
-  pub presence : b.presence ≡ presence_of w.readings.now
-
--- the words of the masks
-abbrev pub words_of : World → Masks
-words_of w = masks_in w.masks.now.words
+-- the masks and the hidden words are of the readings, and the book is of their presence
+pub record IsWorldOf {M : Type 0} (plan_of : M → PlanView) (table_of : M → Masks) (world : Known M) (b : BookView) : Type 0 where
+  pub known : IsOfOnePlan plan_of table_of world
+  pub presence : b.presence ≡ presence_of world.readings.now
 
 -- what lines say of the readings under these masks
-abbrev pub contents_of : World → Contents
-contents_of w = contents_of_tables w.readings.now.plan.groups (reading w.readings.now.table) (words_of w)
+abbrev pub contents_of : {M : Type 0} → (M → Masks) → Known M → Contents
+contents_of table_of world = contents_of_tables world.readings.now.plan.groups (reading world.readings.now.table) (table_of world.masks.now)

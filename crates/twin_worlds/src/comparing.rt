@@ -2,13 +2,14 @@
 
 ghost use Rattle.std.specs.Prelude.{◌≡◌, ◌<◌, ◌^◌, length, IfSome};
 ghost use Rattle.transcript_log.specs.Events.{lines_of};
+ghost use Rattle.plan_meters.specs.Hidden.{IsOfOnePlan};
 ghost use Rattle.twin_worlds.specs.Comparing.{Decides, DifferAt};
 ghost use Rattle.twin_worlds.specs.Ends.{LinesEnd};
-ghost use Rattle.twin_worlds.specs.Worlds.{IsWorld, words_of};
 
 use crate::TwinError;
 use crate::replay::replay;
-use crate::world::World;
+use mask_stream::Masks;
+use plan_meters::Known;
 use std::alloc::Global;
 use transcript_log::{Line, Lines, Transcript};
 use transcript_text::entry_line;
@@ -35,14 +36,14 @@ fn first_other(transcript: &Transcript, lines: &Lines) -> Option<usize>
 }
 
 /// Whether the lines of a transcript are those that the world gives for its events, or else the first that isn't.
-pub(crate) fn confirm(
+pub(crate) fn confirm<M: Masks>(
     alloc: Global,
-    world: &World,
+    world: &Known<M>,
     transcript: &Transcript,
 ) -> Result<(), TwinError>
-    requires world { IsWorld world.now }
+    requires world { IsOfOnePlan M.plan M.table world.now }
     requires plan { transcript.now.plan ≡ world.now.readings.now.plan }
-    ensures { LinesEnd (words_of world.now) world.now.readings.now transcript.now result }
+    ensures { LinesEnd (M.table world.now.masks.now) world.now.readings.now transcript.now result }
 {
     let book = replay(alloc, world, transcript)?;
     let lines = book.journal();

@@ -7,6 +7,7 @@ mod heads;
 mod moving;
 mod replay;
 mod rows;
+mod tables;
 mod twins;
 mod world;
 mod writing;
@@ -14,6 +15,7 @@ mod writing;
 pub use answers::{PoolTwinError, TwinError};
 pub use moving::moved_rows;
 pub use rows::{MovedRow, MovedWords};
+pub use tables::ReadingTables;
 pub use twins::{pooled_twin, same_world, transcript_of_plan, twin};
 pub use writing::moved_text;
 

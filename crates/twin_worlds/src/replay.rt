@@ -4,28 +4,31 @@ ghost use Rattle.std.specs.Prelude.{◌≡◌, ◌<◌, [], IsTrue, IfOk};
 ghost use Rattle.transcript_log.specs.declared.Event.TheVariants.{Send, Take};
 ghost use Rattle.transcript_log.specs.Transcript.{Contents};
 ghost use Rattle.group_book.specs.Books.{knows};
+ghost use Rattle.plan_meters.specs.Hidden.{IsOfOnePlan};
 ghost use Rattle.twin_worlds.specs.Twins.{lines_under};
-ghost use Rattle.twin_worlds.specs.Worlds.{IsWorld, IsWorldOf, words_of, contents_of};
+ghost use Rattle.twin_worlds.specs.Worlds.{IsWorldOf, contents_of};
 ghost use Rattle.twin_worlds.specs.Replaying.{IsOfBook, HasFrames, Makes};
 
-use crate::world::World;
+use crate::world::frame;
 use group_book::Book;
 use group_plan::{Presence, Tag};
+use mask_stream::Masks;
 use meter_frames::Frame;
 use missing_round::MeterSet;
 use mod_word::Word;
+use plan_meters::Known;
 use std::alloc::{AllocError, Global};
 use transcript_log::{Event, Transcript};
 
 // Sends the frame of a tag.
-fn send(book: &mut Book, world: &World, tag: Tag)
+fn send<M: Masks>(book: &mut Book, world: &Known<M>, tag: Tag)
     requires spare { 0 < book.old.spare }
-    requires world { IsWorldOf world.now book.old }
+    requires world { IsWorldOf M.plan M.table world.now book.old }
     requires known { IsTrue (knows book.old tag) }
-    requires frames { HasFrames (contents_of world.now) book.old }
-    ensures { Makes (contents_of world.now) book.old (Send tag) book.new }
+    requires frames { HasFrames (contents_of M.table world.now) book.old }
+    ensures { Makes (contents_of M.table world.now) book.old (Send tag) book.new }
 {
-    let frame = world.frame(book, tag);
+    let frame = frame(world, book, tag);
     let _sent = book.send(frame);
 }
 
@@ -57,12 +60,12 @@ fn take(book: &mut Book, tag: Tag)
 }
 
 // Makes an event of the book.
-fn make_event(book: &mut Book, world: &World, event: &Event)
+fn make_event<M: Masks>(book: &mut Book, world: &Known<M>, event: &Event)
     requires spare { 0 < book.old.spare }
-    requires world { IsWorldOf world.now book.old }
+    requires world { IsWorldOf M.plan M.table world.now book.old }
     requires event { IsOfBook book.old event.now }
-    requires frames { HasFrames (contents_of world.now) book.old }
-    ensures { Makes (contents_of world.now) book.old event.now book.new }
+    requires frames { HasFrames (contents_of M.table world.now) book.old }
+    ensures { Makes (contents_of M.table world.now) book.old event.now book.new }
 {
     match *event {
         Event::Send(tag) => send(book, world, tag),
@@ -77,14 +80,14 @@ fn make_event(book: &mut Book, world: &World, event: &Event)
 }
 
 /// A book whose lines are those that the world gives for the events of a transcript.
-pub(crate) fn replay(
+pub(crate) fn replay<M: Masks>(
     alloc: Global,
-    world: &World,
+    world: &Known<M>,
     transcript: &Transcript,
 ) -> Result<Book, AllocError>
-    requires world { IsWorld world.now }
+    requires world { IsOfOnePlan M.plan M.table world.now }
     requires plan { transcript.now.plan ≡ world.now.readings.now.plan }
-    ensures { IfOk result (λ book. book.journal ≡ lines_under world.now.readings.now (words_of world.now) transcript.now) }
+    ensures { IfOk result (λ book. book.journal ≡ lines_under world.now.readings.now (M.table world.now.masks.now) transcript.now) }
 {
     let readings = world.readings;
     let presence = Presence::of(alloc, readings)?;

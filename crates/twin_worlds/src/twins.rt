@@ -10,13 +10,13 @@ ghost use Rattle.twin_worlds.specs.Twins.{SameWorldEnds, TwinEnds, PooledTwinEnd
 use crate::comparing::confirm;
 use crate::heads::is_same_plan;
 use crate::moving::moved_rows;
-use crate::world::World;
-use crate::{MovedWords, PoolTwinError, TwinError};
+use crate::{MovedWords, PoolTwinError, ReadingTables, TwinError};
 use group_plan::{Plan, Readings};
-use ideal_masks::{Differ, MaskTable, Offsets, PoolDiffer, offsets, pooled_offsets};
+use ideal_masks::{Differ, Offsets, PoolDiffer, offsets, pooled_offsets};
 use mask_stream::{ChaMasks, Masks};
 use missing_round::MeterSet;
 use pair_keys::KeyTable;
+use plan_meters::{HiddenReadings, Known};
 use std::alloc::Global;
 use std::thread::Threads;
 use transcript_log::Transcript;
@@ -103,7 +103,8 @@ fn agreed_pooled_offsets(
 }
 
 // Whether the lines of a transcript are those that the first table gives under these masks, or else the first that isn't.
-fn confirm_under<M: Masks>(
+fn confirm_under<R: Threads + Sync, M: Masks + Sync>(
+    rt: &R,
     alloc: Global,
     masks: &M,
     first: &Readings,
@@ -113,17 +114,17 @@ fn confirm_under<M: Masks>(
     requires transcript { transcript.now.plan ≡ first.now.plan }
     ensures { LinesEnd (M.table masks.now) first.now transcript.now result }
 {
-    let table = MaskTable::taken(alloc, first.plan(), masks)?;
-    let world = World {
+    let world = Known {
         readings: first,
-        masks: &table,
+        masks,
+        hidden: HiddenReadings::new(rt, alloc, first, masks)?,
     };
     confirm(alloc, &world, transcript)
 }
 
 /// The transcript of a text, where it is of this plan and the first table of readings gives it under these masks; else
 /// `Transcript`, `Head`, `NotThis` or `Memory`, the first in this order.
-pub fn same_world<R: Threads + Sync, M: Masks>(
+pub fn same_world<R: Threads + Sync, M: Masks + Sync>(
     rt: &R,
     alloc: Global,
     plan: &Plan,
@@ -136,7 +137,7 @@ pub fn same_world<R: Threads + Sync, M: Masks>(
     ensures { SameWorldEnds (M.table masks.now) first.now text.now result }
 {
     let transcript = transcript_of_plan(rt, alloc, plan, text)?;
-    confirm_under(alloc, masks, first, &transcript)?;
+    confirm_under(rt, alloc, masks, first, &transcript)?;
     Ok(transcript)
 }
 
@@ -145,21 +146,19 @@ pub fn same_world<R: Threads + Sync, M: Masks>(
 pub fn twin<R: Threads + Sync>(
     rt: &R,
     alloc: Global,
-    plan: &Plan,
     keys: &KeyTable,
-    first: &Readings,
-    second: &Readings,
+    tables: &ReadingTables,
     text: &[u8],
 ) -> Result<MovedWords, TwinError>
-    requires keys { (table_of keys.now).plan ≡ plan.now }
-    requires first { first.now.plan ≡ plan.now }
-    requires second { second.now.plan ≡ plan.now }
-    ensures { TwinEnds (streams (table_of keys.now)) first.now second.now text.now result }
+    requires keys { (table_of keys.now).plan ≡ tables.now.first.now.plan }
+    requires second { tables.now.second.now.plan ≡ tables.now.first.now.plan }
+    ensures { TwinEnds (streams (table_of keys.now)) tables.now.first.now tables.now.second.now text.now result }
 {
+    let first = tables.first;
     let _groups = first.plan().groups();
     let masks = ChaMasks::new(keys);
-    let transcript = same_world(rt, alloc, plan, &masks, first, text)?;
-    let offsets = agreed_offsets(alloc, first, second, &transcript)?;
+    let transcript = same_world(rt, alloc, first.plan(), &masks, first, text)?;
+    let offsets = agreed_offsets(alloc, first, tables.second, &transcript)?;
     Ok(moved_rows(alloc, &masks, &offsets)?)
 }
 
@@ -169,21 +168,19 @@ pub fn twin<R: Threads + Sync>(
 pub fn pooled_twin<R: Threads + Sync>(
     rt: &R,
     alloc: Global,
-    plan: &Plan,
     keys: &KeyTable,
     known: &[MeterSet],
-    first: &Readings,
-    second: &Readings,
+    tables: &ReadingTables,
     text: &[u8],
 ) -> Result<MovedWords, PoolTwinError>
-    requires keys { (table_of keys.now).plan ≡ plan.now }
-    requires first { first.now.plan ≡ plan.now }
-    requires second { second.now.plan ≡ plan.now }
-    ensures { PooledTwinEnds (pool_of known.now) (streams (table_of keys.now)) first.now second.now text.now result }
+    requires keys { (table_of keys.now).plan ≡ tables.now.first.now.plan }
+    requires second { tables.now.second.now.plan ≡ tables.now.first.now.plan }
+    ensures { PooledTwinEnds (pool_of known.now) (streams (table_of keys.now)) tables.now.first.now tables.now.second.now text.now result }
 {
+    let first = tables.first;
     let _groups = first.plan().groups();
     let masks = ChaMasks::new(keys);
-    let transcript = same_world(rt, alloc, plan, &masks, first, text)?;
-    let offsets = agreed_pooled_offsets(alloc, known, first, second, &transcript)?;
+    let transcript = same_world(rt, alloc, first.plan(), &masks, first, text)?;
+    let offsets = agreed_pooled_offsets(alloc, known, first, tables.second, &transcript)?;
     Ok(moved_rows(alloc, &masks, &offsets)?)
 }

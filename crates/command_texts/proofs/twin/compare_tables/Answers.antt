@@ -1,4 +1,4 @@
-use Rattle.std.proofs.Common.{ℕ, List, refl, Ok, Err, subst}
+use Rattle.std.proofs.Common.{ℕ, List, refl, sym, ◌∙◌, Ok, Err, subst}
 use Rattle.ideal_masks.specs.Pools.{pool_of}
 use Rattle.mask_stream.specs.KeyStreams.{streams}
 use Rattle.pair_keys.specs.Keys.{table_of}
@@ -14,11 +14,11 @@ pub returns-in-Err-clause-ends : goal.returns-in-Err-clause-ends
 returns-in-Err-clause-ends g c known is =
     tables_refused_for known (twin_names_of c.args.files) (bytes_of c.args.texts.now) (view_of c.args.file.now) c.args.sets.now _ is c.in-Err.ensures.ends
 
-pub pooled_twin-requires-clause-first : goal.pooled_twin-requires-clause-first
-pooled_twin-requires-clause-first g c κs within = plan_of_readings _ _ _ c.in-Ok.ensures.ends.0
+pub pooled_twin-requires-clause-keys : goal.pooled_twin-requires-clause-keys
+pooled_twin-requires-clause-keys g c κs within = c.requires.keys ∙ sym (plan_of_readings _ _ _ c.in-Ok.ensures.ends.0)
 
 pub pooled_twin-requires-clause-second : goal.pooled_twin-requires-clause-second
-pooled_twin-requires-clause-second g c κs within = plan_of_readings _ _ _ c.in-Ok.ensures.ends.1
+pooled_twin-requires-clause-second g c κs within = plan_of_readings _ _ _ c.in-Ok.ensures.ends.1 ∙ sym (plan_of_readings _ _ _ c.in-Ok.ensures.ends.0)
 
 pub returns-in-Ok-pooled_twin-clause-ends : goal.returns-in-Ok-pooled_twin-clause-ends
 returns-in-Ok-pooled_twin-clause-ends g c known is =

@@ -12,8 +12,8 @@ use Rattle.twin_worlds.proofs.twins.twin.Goals as goal
 
 pub returns-in_err-transcript : goal.returns-in_err-transcript
 returns-in_err-transcript g c =
-    let x = c.args.first.now in
-    let y = c.args.second.now in
+    let x = c.args.tables.now.first.now in
+    let y = c.args.tables.now.second.now in
     let m = streams (table_of c.args.keys.now) in
     let text = c.args.text.now in
     let e : TwinError = c.in_err-transcript.field-0.0 in
@@ -22,8 +22,8 @@ returns-in_err-transcript g c =
 
 pub returns-in_err-offsets : goal.returns-in_err-offsets
 returns-in_err-offsets g c =
-    let x = c.args.first.now in
-    let y = c.args.second.now in
+    let x = c.args.tables.now.first.now in
+    let y = c.args.tables.now.second.now in
     let m = streams (table_of c.args.keys.now) in
     let text = c.args.text.now in
     let t = c.in_ok-transcript.transcript in
@@ -34,15 +34,15 @@ returns-in_err-offsets g c =
 
 pub moved_rows-requires-clause-places : goal.moved_rows-requires-clause-places
 moved_rows-requires-clause-places g c =
-    subst (λ p. AreOfPlan p c.in_ok-offsets.offsets) (c.requires.first ∙ sym (c.new-masks.ensures.plan ∙ c.requires.keys)) c.in_ok-offsets.ensures.2
+    subst (λ p. AreOfPlan p c.in_ok-offsets.offsets) (sym (c.new-masks.ensures.plan ∙ c.requires.keys)) c.in_ok-offsets.ensures.2
 
 pub returns : goal.returns
 returns g c =
-    let x = c.args.first.now in
-    let y = c.args.second.now in
+    let x = c.args.tables.now.first.now in
+    let y = c.args.tables.now.second.now in
     let m = streams (table_of c.args.keys.now) in
     let text = c.args.text.now in
     let t = c.in_ok-transcript.transcript in
     let is : IsRecord m x text t = subst (λ k. IsRecord k x text t) c.new-masks.ensures.words c.in_ok-transcript.ensures in
-    twins-are nobody m x y text t c.in_ok-offsets.offsets c.in_ok-moved_rows.field-0 (streams_small (table_of c.args.keys.now)) c.plan.ensures.table (c.requires.second ∙ sym c.requires.first)
+    twins-are nobody m x y text t c.in_ok-offsets.offsets c.in_ok-moved_rows.field-0 (streams_small (table_of c.args.keys.now)) c.plan.ensures.table c.requires.second
     is c.in_ok-offsets.ensures (subst (λ k. c.in_ok-moved_rows.field-0 ≡ rows_of k c.in_ok-offsets.offsets) c.new-masks.ensures.words c.in_ok-moved_rows.ensures.rows)
