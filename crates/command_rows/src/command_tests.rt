@@ -2,7 +2,7 @@
 
 use crate::fixtures::{
     HEAD, NORTH, OLD_TRANSCRIPT, Refusal, TRANSCRIPT, check_calls, check_complained, check_refused,
-    check_said, check_status, check_stored, check_text, held, replaced,
+    check_said, check_status, check_stored, check_text, desk_of as plan_desk, held, replaced,
 };
 use commands::{USAGE, VERSION};
 use desk_outside::MemoryDesk;

@@ -2,7 +2,7 @@
 
 use crate::fixtures::{
     HEAD, NORTH, READINGS, RUN, Refusal, TRANSCRIPT, check_complained, check_refused, check_said,
-    check_status, held, replaced,
+    check_status, desk_of as run_desk, held, replaced,
 };
 use desk_outside::MemoryDesk;
 use std::alloc::Global;

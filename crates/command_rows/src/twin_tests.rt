@@ -2,8 +2,8 @@
 
 use crate::fixtures::{
     HEAD, NORTH, READINGS, RUN, Refusal, TRANSCRIPT, check, check_calls, check_complained,
-    check_number, check_refused, check_said, check_status, check_stored, check_text, held,
-    replaced,
+    check_number, check_refused, check_said, check_status, check_stored, check_text,
+    desk_of as run_desk, held, replaced,
 };
 use desk_outside::MemoryDesk;
 use std::alloc::Global;
