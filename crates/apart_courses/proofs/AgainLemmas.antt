@@ -8,7 +8,7 @@ use Rattle.group_plan.specs.declared.Kind.TheVariants.{Reading}
 use Rattle.group_plan.specs.declared.Tag.{Tag}
 use Rattle.group_plan.specs.Plans.{PlanView, size, is_place, is_member, members, floor_of}
 use Rattle.meter_frames.specs.declared.Frame.{Frame}
-use Rattle.transcript_log.specs.Events.{is_tag}
+use Rattle.event_schedule.specs.Events.{is_tag}
 use Rattle.head_end.specs.declared.answers.Logged.{Logged}
 use Rattle.head_end.specs.declared.answers.Logged.TheVariants.{Took, Passed}
 use Rattle.head_end.specs.declared.answers.TickLine.{TickLine}

@@ -9,15 +9,15 @@ use Rattle.group_plan.specs.declared.Kind.TheVariants.{Reading, Announcement, An
 use Rattle.group_plan.specs.Plans.{PlanView}
 use Rattle.meter_frames.specs.declared.Frame.{Frame}
 use Rattle.round_machine.specs.declared.Verdict.TheVariants.{Fresh as FreshVerdict, Again, Late, Void}
-use Rattle.transcript_log.specs.declared.Event.{Event}
-use Rattle.transcript_log.specs.declared.Event.TheVariants.{Send, Take}
-use Rattle.transcript_log.specs.Events.{is_send, is_take}
-use Rattle.transcript_log.specs.Tables.{Readings}
-use Rattle.transcript_log.specs.Schedule.{Shape, is_closed, is_ended, is_announced, is_reading_sent, is_reading_taken, is_announcement_sent, is_announcement_taken, is_answer_sent, is_answer_taken, may_announce, reaches_floor, verdict_by_table}
-use Rattle.transcript_log.specs.Transcript.{shape_of_readings, contents_of_tables}
-use Rattle.transcript_log.proofs.EventLemmas.{is_send-itself}
-use Rattle.transcript_log.proofs.ScheduleLemmas.{once-now, missing-closed, is_closed-more}
-use Rattle.transcript_log.proofs.VerdictLemmas.{verdict-table}
+use Rattle.event_schedule.specs.declared.Event.{Event}
+use Rattle.event_schedule.specs.declared.Event.TheVariants.{Send, Take}
+use Rattle.event_schedule.specs.Events.{is_send, is_take}
+use Rattle.event_schedule.specs.Tables.{Readings}
+use Rattle.event_schedule.specs.Schedule.{Shape, is_closed, is_ended, is_announced, is_reading_sent, is_reading_taken, is_announcement_sent, is_announcement_taken, is_answer_sent, is_answer_taken, may_announce, reaches_floor, verdict_by_table}
+use Rattle.event_schedule.specs.Transcript.{shape_of_readings, contents_of_tables}
+use Rattle.event_schedule.proofs.EventLemmas.{is_send-itself}
+use Rattle.event_schedule.proofs.ScheduleLemmas.{once-now, missing-closed, is_closed-more}
+use Rattle.event_schedule.proofs.VerdictLemmas.{verdict-table}
 use Rattle.head_end.specs.declared.answers.Logged.{Logged}
 use Rattle.head_end.specs.declared.answers.Logged.TheVariants.{Took, Passed}
 use Rattle.head_end.specs.Journal.{passed}

@@ -10,10 +10,10 @@ use Rattle.group_plan.specs.declared.Kind.{Kind}
 use Rattle.group_plan.specs.declared.Kind.TheVariants.{Reading, Announcement, Answer}
 use Rattle.group_plan.specs.Plans.{Group, PlanView, size_or, is_member_of, members, floor_of}
 use Rattle.meter_frames.specs.declared.Frame.{Frame}
-use Rattle.transcript_log.specs.declared.Event.{Event}
-use Rattle.transcript_log.specs.Tables.{Readings, reading_at}
-use Rattle.transcript_log.specs.Schedule.{Shape, is_closed, is_reading_taken, is_announced, may_announce, missing, may_send, reaches_floor}
-use Rattle.transcript_log.specs.Transcript.{Contents, frame, set_sent, word_sent, shape_of_readings, contents_of_tables}
+use Rattle.event_schedule.specs.declared.Event.{Event}
+use Rattle.event_schedule.specs.Tables.{Readings, reading_at}
+use Rattle.event_schedule.specs.Schedule.{Shape, is_closed, is_reading_taken, is_announced, may_announce, missing, may_send, reaches_floor}
+use Rattle.event_schedule.specs.Transcript.{Contents, frame, set_sent, word_sent, shape_of_readings, contents_of_tables}
 use Rattle.head_end.specs.declared.answers.Logged.{Logged}
 use Rattle.head_end.specs.Journal.{passed, is_taken, is_announced as is_announced_there, missing as missing_there}
 use Rattle.meter_apart.specs.declared.part.Part.{Part}
@@ -24,7 +24,7 @@ use Rattle.apart_courses.specs.Courses.{Happening, meter_journal, and_then}
 use Rattle.apart_courses.specs.Steps.{Disk, IsPartOf, IsReadingOf, IsAnswerOf}
 use Rattle.apart_courses.proofs.SaidLemmas.{IsAnnounced}
 use Rattle.apart_courses.specs.Statements.{HasMarks}
-use Rattle.transcript_log.proofs.ScheduleLemmas.{is_announced-more, is_reading_taken-closed, missing-closed}
+use Rattle.event_schedule.proofs.ScheduleLemmas.{is_announced-more, is_reading_taken-closed, missing-closed}
 use Rattle.apart_courses.proofs.PastLemmas.{keeps}
 use Rattle.apart_courses.proofs.ReplyLemmas.{place_known}
 use Rattle.apart_courses.proofs.SentLemmas.{IsTold}

@@ -5,11 +5,11 @@ use Rattle.std.specs.Prelude.{Option, Some, None, ◌==◌}
 use Rattle.std.specs.List.{range_with_len}
 use Rattle.std.proofs.lemmas.Bool.{cases_eq, ne_eqb, eq-eqb, and_from}
 use Rattle.group_plan.specs.Plans.{PlanView}
-use Rattle.transcript_log.specs.declared.Event.{Event}
-use Rattle.transcript_log.specs.declared.Event.TheVariants.{Close, End}
-use Rattle.transcript_log.specs.Events.{once, is_close, is_end}
-use Rattle.transcript_log.specs.Schedule.{is_closed, is_ended}
-use Rattle.transcript_log.proofs.ScheduleLemmas.{once-cons, once-more, once-now, is_closed-more}
+use Rattle.event_schedule.specs.declared.Event.{Event}
+use Rattle.event_schedule.specs.declared.Event.TheVariants.{Close, End}
+use Rattle.event_schedule.specs.Events.{once, is_close, is_end}
+use Rattle.event_schedule.specs.Schedule.{is_closed, is_ended}
+use Rattle.event_schedule.proofs.ScheduleLemmas.{once-cons, once-more, once-now, is_closed-more}
 use Rattle.apart_courses.specs.Courses.{and_then, of_groups}
 
 -- what stays at each event stays

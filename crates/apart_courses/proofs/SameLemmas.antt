@@ -8,12 +8,12 @@ use Rattle.group_plan.specs.declared.Kind.TheVariants.{Reading, Announcement, An
 use Rattle.group_plan.specs.declared.Tag.{Tag}
 use Rattle.group_plan.specs.Plans.{PlanView}
 use Rattle.meter_frames.specs.declared.Frame.{Frame}
-use Rattle.transcript_log.specs.declared.Event.{Event}
-use Rattle.transcript_log.specs.declared.Event.TheVariants.{Send, Take, Close, End}
-use Rattle.transcript_log.specs.Events.{once, same_kind, is_tag, is_take, is_close, is_end}
-use Rattle.transcript_log.specs.Schedule.{Shape, is_closed, is_ended, is_reading_sent, is_reading_taken, is_answer_sent, is_answer_taken}
-use Rattle.transcript_log.proofs.EventLemmas.{is_send-true}
-use Rattle.transcript_log.proofs.ScheduleLemmas.{once-cons, once-now}
+use Rattle.event_schedule.specs.declared.Event.{Event}
+use Rattle.event_schedule.specs.declared.Event.TheVariants.{Send, Take, Close, End}
+use Rattle.event_schedule.specs.Events.{once, same_kind, is_tag, is_take, is_close, is_end}
+use Rattle.event_schedule.specs.Schedule.{Shape, is_closed, is_ended, is_reading_sent, is_reading_taken, is_answer_sent, is_answer_taken}
+use Rattle.event_schedule.proofs.EventLemmas.{is_send-true}
+use Rattle.event_schedule.proofs.ScheduleLemmas.{once-cons, once-now}
 use Rattle.head_end.specs.declared.answers.Logged.{Logged}
 use Rattle.head_end.specs.declared.answers.Logged.TheVariants.{Took, Passed}
 use Rattle.head_end.specs.declared.answers.Reply.TheVariants.{Fresh}

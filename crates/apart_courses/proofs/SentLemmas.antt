@@ -3,10 +3,10 @@ use Rattle.std.proofs.Common.{◌≡◌, ℕ, true, ◌&&◌, List, ◌∷◌, �
 use Rattle.group_plan.specs.declared.Kind.{Kind}
 use Rattle.group_plan.specs.declared.Kind.TheVariants.{Reading, Announcement, Answer}
 use Rattle.meter_frames.specs.declared.Frame.{Frame}
-use Rattle.transcript_log.specs.declared.Event.{Event}
-use Rattle.transcript_log.specs.Events.{is_send, is_take}
-use Rattle.transcript_log.specs.Schedule.{Shape, is_closed, missing, may_announce, is_reading_sent, is_announcement_sent, is_announcement_taken, is_answer_sent}
-use Rattle.transcript_log.proofs.ScheduleLemmas.{once-more, is_closed-more, missing-closed, is_closed-from_taken}
+use Rattle.event_schedule.specs.declared.Event.{Event}
+use Rattle.event_schedule.specs.Events.{is_send, is_take}
+use Rattle.event_schedule.specs.Schedule.{Shape, is_closed, missing, may_announce, is_reading_sent, is_announcement_sent, is_announcement_taken, is_answer_sent}
+use Rattle.event_schedule.proofs.ScheduleLemmas.{once-more, is_closed-more, missing-closed, is_closed-from_taken}
 use Rattle.apart_courses.specs.Courses.{and_then}
 use Rattle.apart_courses.proofs.PastLemmas.{keeps}
 

@@ -3,9 +3,9 @@ use Rattle.std.proofs.Common.{◌≡◌, ℕ, ◌+◌, ◌-◌, ◌<◌, ◌≤�
 use Rattle.std.specs.Prelude.{nat_lt, nat_le, if◌then◌else◌, Some, None}
 use Rattle.std.proofs.lemmas.Bool.{cases_eq, and_from, and_parts, lt-ltb, le-leb, leb-true, le-ltb, cases_lt}
 use Rattle.group_plan.specs.Plans.{PlanView}
-use Rattle.transcript_log.specs.declared.Event.{Event}
-use Rattle.transcript_log.specs.declared.Event.TheVariants.{Close, End}
-use Rattle.transcript_log.specs.Schedule.{is_closed, is_ended}
+use Rattle.event_schedule.specs.declared.Event.{Event}
+use Rattle.event_schedule.specs.declared.Event.TheVariants.{Close, End}
+use Rattle.event_schedule.specs.Schedule.{is_closed, is_ended}
 use Rattle.head_end.specs.Lines.{round_before}
 use Rattle.apart_courses.specs.Courses.{and_then, of_groups, ends, closes}
 use Rattle.apart_courses.proofs.PastLemmas.{then_both, untouched, close_left, end_left, closes_come, closes_of_others, ends_come, ends_of_others}

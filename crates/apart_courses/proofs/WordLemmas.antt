@@ -8,10 +8,10 @@ use Rattle.group_plan.specs.declared.Kind.TheVariants.{Reading, Announcement, An
 use Rattle.group_plan.specs.declared.Tag.{Tag}
 use Rattle.group_plan.specs.Plans.{PlanView}
 use Rattle.meter_frames.specs.declared.Frame.{Frame}
-use Rattle.transcript_log.specs.declared.Event.{Event}
-use Rattle.transcript_log.specs.Events.{is_tag}
-use Rattle.transcript_log.specs.Tables.{Readings}
-use Rattle.transcript_log.specs.Transcript.{shape_of_readings, contents_of_tables}
+use Rattle.event_schedule.specs.declared.Event.{Event}
+use Rattle.event_schedule.specs.Events.{is_tag}
+use Rattle.event_schedule.specs.Tables.{Readings}
+use Rattle.event_schedule.specs.Transcript.{shape_of_readings, contents_of_tables}
 use Rattle.head_end.specs.declared.answers.Logged.{Logged}
 use Rattle.head_end.specs.declared.answers.Logged.TheVariants.{Took, Passed}
 use Rattle.head_end.specs.Journal.{is_taken, word_taken}

@@ -6,9 +6,9 @@ use Rattle.group_plan.specs.declared.Kind.TheVariants.{Announcement}
 use Rattle.group_plan.specs.declared.Tag.{Tag}
 use Rattle.group_plan.specs.Plans.{PlanView}
 use Rattle.meter_frames.specs.declared.Frame.{Frame}
-use Rattle.transcript_log.specs.declared.Event.{Event}
-use Rattle.transcript_log.specs.declared.Event.TheVariants.{Send, Take, Close, End}
-use Rattle.transcript_log.specs.Tables.{Readings}
+use Rattle.event_schedule.specs.declared.Event.{Event}
+use Rattle.event_schedule.specs.declared.Event.TheVariants.{Send, Take, Close, End}
+use Rattle.event_schedule.specs.Tables.{Readings}
 use Rattle.head_end.specs.declared.answers.Logged.{Logged}
 use Rattle.head_end.specs.declared.answers.Logged.TheVariants.{Took, Passed}
 use Rattle.head_end.specs.Journal.{passed}

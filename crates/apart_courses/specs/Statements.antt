@@ -3,10 +3,10 @@ use Rattle.std.specs.Prelude.{◌≡◌, ◌≤◌, ◌++◌, ℕ, true, List, [
 use Rattle.missing_round.specs.Masks.{Masks}
 use Rattle.group_plan.specs.Plans.{PlanView}
 use Rattle.round_machine.specs.declared.Verdict.TheVariants.{Fresh}
-use Rattle.transcript_log.specs.Tables.{Readings, IsBounded, plain_sum}
-use Rattle.transcript_log.specs.Schedule.{is_effective, verdict}
-use Rattle.transcript_log.specs.Transcript.{frame, shape_of_readings, contents_of_tables}
-use Rattle.transcript_log.specs.declared.Event.TheVariants.{Take}
+use Rattle.event_schedule.specs.Tables.{Readings, IsBounded, plain_sum}
+use Rattle.event_schedule.specs.Schedule.{is_effective, verdict}
+use Rattle.event_schedule.specs.Transcript.{frame, shape_of_readings, contents_of_tables}
+use Rattle.event_schedule.specs.declared.Event.TheVariants.{Take}
 use Rattle.meter_frames.specs.declared.Frame.{Frame}
 use Rattle.head_end.specs.declared.answers.Logged.{Logged}
 use Rattle.head_end.specs.Journal.{passed, survivors, lacking, total}

@@ -2,20 +2,20 @@
 use Rattle.std.proofs.Common.{◌≡◌, ◌≤◌, List, [], ◌∷◌, reverse, sym, ap, ◌∙◌}
 use Rattle.std.proofs.lemmas.List.{reverse-reverse}
 use Rattle.group_plan.specs.Plans.{PlanView, Group}
-use Rattle.transcript_log.specs.declared.Event.{Event}
-use Rattle.transcript_log.specs.declared.Event.TheVariants.{Take}
-use Rattle.transcript_log.specs.Events.{frame_of}
-use Rattle.transcript_log.specs.Tables.{Readings, Masks, IsOfPlan}
-use Rattle.transcript_log.specs.Schedule.{Shape, verdict, is_effective}
-use Rattle.transcript_log.specs.Transcript.{Contents, frame, line, lines_after, transcript, shape_of_readings, contents_of_tables}
+use Rattle.event_schedule.specs.declared.Event.{Event}
+use Rattle.event_schedule.specs.declared.Event.TheVariants.{Take}
+use Rattle.event_schedule.specs.Events.{frame_of}
+use Rattle.event_schedule.specs.Tables.{Readings, Masks, IsOfPlan}
+use Rattle.event_schedule.specs.Schedule.{Shape, verdict, is_effective}
+use Rattle.event_schedule.specs.Transcript.{Contents, frame, line, lines_after, transcript, shape_of_readings, contents_of_tables}
 use Rattle.head_end.specs.declared.answers.Logged.TheVariants.{Took, Passed}
 use Rattle.meter_apart.specs.declared.answers.Noted.TheVariants.{Read, Kept}
 use Rattle.ideal_masks.specs.Offsets.{Agree, offsets, shift}
 use Rattle.apart_courses.specs.Courses.{Happening, Headed, Noticed, Said, told_tag, events, past, and_then}
 use Rattle.apart_courses.specs.Losses.{Step, log_of, disk_of, IsCourseWithLosses}
 use Rattle.apart_courses.specs.Statements.{HasMarks, IsLine, AreLines}
-use Rattle.transcript_log.proofs.ScheduleLemmas.{after, after-reverse}
-use Rattle.transcript_log.proofs.TranscriptLemmas.{shape-same}
+use Rattle.event_schedule.proofs.ScheduleLemmas.{after, after-reverse}
+use Rattle.event_schedule.proofs.TranscriptLemmas.{shape-same}
 use Rattle.ideal_masks.proofs.TwoWorlds.{two_worlds}
 use Rattle.apart_courses.proofs.AgreeLemmas.{lines_all}
 use Rattle.apart_courses.proofs.CutLemmas.{course_of}

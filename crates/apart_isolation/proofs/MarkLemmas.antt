@@ -4,7 +4,7 @@ use Rattle.std.specs.Prelude.{◌⊎◌, ◌==◌, nat_lt, if◌then◌else◌, 
 use Rattle.std.proofs.lemmas.Bool.{false≢true, eqb-true, ltb-true}
 use Rattle.missing_round.specs.Masks.{Masks}
 use Rattle.group_plan.specs.Plans.{PlanView, is_member, is_member_of}
-use Rattle.transcript_log.specs.Tables.{IsOfPlan, reading_at}
+use Rattle.event_schedule.specs.Tables.{IsOfPlan, reading_at}
 use Rattle.meter_apart.specs.declared.answers.Noted.{Noted}
 use Rattle.meter_apart.specs.declared.answers.Noted.TheVariants.{Read, Kept}
 use Rattle.meter_apart.specs.declared.part.Part.{Part}
@@ -12,7 +12,7 @@ use Rattle.meter_apart.specs.declared.answers.ReadingRefusal.TheVariants as unre
 use Rattle.meter_apart.specs.Journal.{marked}
 use Rattle.meter_apart.specs.Parts.{takes_part}
 use Rattle.meter_apart.specs.Replies.{is_first, is_first_reading}
-use Rattle.transcript_log.proofs.ListLemmas.{and_first, and_last}
+use Rattle.event_schedule.proofs.ListLemmas.{and_first, and_last}
 use Rattle.apart_courses.specs.Courses.{Happening, Headed, Noticed, Said, meter_journal, marks}
 use Rattle.apart_courses.specs.Steps.{Disk, IsPartOf, MayHappen, IsCourse}
 use Rattle.apart_courses.specs.Losses.{Step, log_of, disk_of, IsCourseWithLosses}

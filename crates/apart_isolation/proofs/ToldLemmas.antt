@@ -7,22 +7,22 @@ use Rattle.group_plan.specs.declared.Kind.{Kind}
 use Rattle.group_plan.specs.declared.Kind.TheVariants.{Reading, Announcement, Answer}
 use Rattle.group_plan.specs.declared.Tag.{Tag}
 use Rattle.group_plan.specs.Plans.{PlanView}
-use Rattle.transcript_log.specs.declared.Event.{Event}
-use Rattle.transcript_log.specs.declared.Event.TheVariants.{Send, Take, Close, End}
-use Rattle.transcript_log.specs.declared.Line.TheVariants.{Send as SendLine}
-use Rattle.transcript_log.specs.Events.{once}
-use Rattle.transcript_log.specs.Tables.{Readings, Masks, IsBounded}
-use Rattle.transcript_log.specs.Schedule.{Shape, is_reading_taken, may_send}
-use Rattle.transcript_log.specs.Transcript.{Contents, set_sent, word_sent, frame, line, lines_after, shape_of_readings, contents_of_tables}
+use Rattle.event_schedule.specs.declared.Event.{Event}
+use Rattle.event_schedule.specs.declared.Event.TheVariants.{Send, Take, Close, End}
+use Rattle.event_schedule.specs.declared.Line.TheVariants.{Send as SendLine}
+use Rattle.event_schedule.specs.Events.{once}
+use Rattle.event_schedule.specs.Tables.{Readings, Masks, IsBounded}
+use Rattle.event_schedule.specs.Schedule.{Shape, is_reading_taken, may_send}
+use Rattle.event_schedule.specs.Transcript.{Contents, set_sent, word_sent, frame, line, lines_after, shape_of_readings, contents_of_tables}
 use Rattle.head_end.specs.declared.answers.Logged.TheVariants.{Took, Passed}
 use Rattle.head_end.specs.Journal.{passed}
 use Rattle.meter_apart.specs.declared.answers.Noted.TheVariants.{Read, Kept}
 use Rattle.ideal_masks.specs.Pools.{nobody}
 use Rattle.apart_courses.specs.Courses.{Happening, Headed, Noticed, Said, told_tag, past, head_journal, and_then, of_groups, ends, closes}
 use Rattle.apart_courses.specs.Statements.{AreLines}
-use Rattle.transcript_log.proofs.ScheduleLemmas.{after}
-use Rattle.transcript_log.proofs.MemberLemmas.{plain_sum_fits}
-use Rattle.transcript_log.proofs.TranscriptLemmas.{shape-same}
+use Rattle.event_schedule.proofs.ScheduleLemmas.{after}
+use Rattle.event_schedule.proofs.MemberLemmas.{plain_sum_fits}
+use Rattle.event_schedule.proofs.TranscriptLemmas.{shape-same}
 use Rattle.ideal_masks.proofs.Converse.{Told, told_after, word-plain_sum}
 use Rattle.ideal_masks.proofs.PoolLemmas.{nobody-shares}
 use Rattle.apart_courses.proofs.PastLemmas.{then_both}

@@ -1,7 +1,7 @@
 -- What the laws of this crate say. They speak of frames: who gives a meter its reading, and hears the answer to that, knows the reading.
 use Rattle.std.specs.Prelude.{◌≡◌, ◌<◌, ◌≤◌, ◌^◌, ℕ, List, is_some}
 use Rattle.group_plan.specs.Plans.{PlanView}
-use Rattle.transcript_log.specs.Tables.{Readings, Masks, reading_at, IsOfPlan, IsBounded}
+use Rattle.event_schedule.specs.Tables.{Readings, Masks, reading_at, IsOfPlan, IsBounded}
 use Rattle.ideal_masks.specs.Offsets.{Agree, offsets, shift}
 use Rattle.apart_courses.specs.Courses.{Happening, marks, past}
 use Rattle.apart_courses.specs.Losses.{Step, log_of, IsCourseWithLosses}

@@ -4,7 +4,7 @@ use Rattle.std.specs.Prelude.{codes}
 use Rattle.std.proofs.Math.Seq.{take-append_seam}
 use Rattle.group_plan.specs.Plans.{PlanView}
 use Rattle.field_texts.proofs.SmallNumbers.{one_digit}
-use Rattle.transcript_log.specs.Transcripts.{no_entries}
+use Rattle.event_schedule.specs.Transcripts.{no_entries}
 use Rattle.transcript_text.specs.Spelling.{ended, head_text, entries_text, text_of, transcript_text}
 use Rattle.transcript_text.specs.declared.version.Version.TheVariants.{Two}
 use Rattle.apart_lines.specs.Heads.{plan_lines, journal_head}

@@ -9,16 +9,16 @@ use Rattle.group_plan.specs.declared.Kind.{Kind}
 use Rattle.group_plan.specs.declared.Kind.TheVariants.{Reading, Announcement, Answer}
 use Rattle.group_plan.specs.declared.Tag.{Tag}
 use Rattle.meter_frames.specs.declared.Frame.{Frame}
-use Rattle.transcript_log.specs.declared.Event.{Event}
-use Rattle.transcript_log.specs.declared.Event.TheVariants.{Send}
-use Rattle.transcript_log.specs.declared.Line.{Line}
-use Rattle.transcript_log.specs.declared.Line.TheVariants as lines
-use Rattle.transcript_log.specs.declared.Entry.{Entry}
-use Rattle.transcript_log.specs.Events.{is_send, events_of, lines_of, event_of}
-use Rattle.transcript_log.specs.Schedule.{Shape, is_announced, survivors, members_of}
-use Rattle.transcript_log.specs.Transcript.{Contents, lines_after}
-use Rattle.transcript_log.proofs.EventLemmas.{is_send-itself}
-use Rattle.transcript_log.proofs.ListLemmas.{flat_map_same}
+use Rattle.event_schedule.specs.declared.Event.{Event}
+use Rattle.event_schedule.specs.declared.Event.TheVariants.{Send}
+use Rattle.event_schedule.specs.declared.Line.{Line}
+use Rattle.event_schedule.specs.declared.Line.TheVariants as lines
+use Rattle.event_schedule.specs.declared.Entry.{Entry}
+use Rattle.event_schedule.specs.Events.{is_send, events_of, lines_of, event_of}
+use Rattle.event_schedule.specs.Schedule.{Shape, is_announced, survivors, members_of}
+use Rattle.event_schedule.specs.Transcript.{Contents, lines_after}
+use Rattle.event_schedule.proofs.EventLemmas.{is_send-itself}
+use Rattle.event_schedule.proofs.ListLemmas.{flat_map_same}
 use Rattle.run_rows.specs.Ticks.{Clock, IsRunPlan, tag_of, tags, tags_of, sent_at, takes_at, due_of}
 use Rattle.run_rows.proofs.TickLemmas.{Member}
 use Rattle.run_rows.proofs.TickRun.{IsRunBy, run_facts, events-reverse}

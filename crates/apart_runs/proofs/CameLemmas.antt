@@ -9,9 +9,9 @@ use Rattle.std.proofs.lemmas.Bool.Decides.{nat_tests}
 use Rattle.group_plan.specs.declared.Kind.{Kind}
 use Rattle.group_plan.specs.declared.Kind.TheVariants.{Reading, Announcement, Answer}
 use Rattle.group_plan.specs.declared.Tag.{Tag}
-use Rattle.transcript_log.specs.declared.Entry.{Entry}
-use Rattle.transcript_log.specs.Events.{is_take, events_of, event_of}
-use Rattle.transcript_log.specs.Schedule.{Shape, is_announced, is_reading_taken}
+use Rattle.event_schedule.specs.declared.Entry.{Entry}
+use Rattle.event_schedule.specs.Events.{is_take, events_of, event_of}
+use Rattle.event_schedule.specs.Schedule.{Shape, is_announced, is_reading_taken}
 use Rattle.run_rows.specs.Ticks.{Clock, tag_of}
 use Rattle.run_rows.specs.Report.{comes_in_time, is_answered_in_time}
 use Rattle.run_rows.proofs.TickLemmas.{Member, Stands, TickFacts, same_from_both, is_reading_taken-ticks}

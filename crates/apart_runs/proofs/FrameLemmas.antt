@@ -9,16 +9,16 @@ use Rattle.group_plan.specs.declared.Kind.{Kind}
 use Rattle.group_plan.specs.declared.Kind.TheVariants.{Reading, Announcement, Answer}
 use Rattle.group_plan.specs.declared.Tag.{Tag}
 use Rattle.meter_frames.specs.declared.Frame.{Frame}
-use Rattle.transcript_log.specs.declared.Event.{Event}
-use Rattle.transcript_log.specs.declared.Line.{Line}
-use Rattle.transcript_log.specs.declared.Line.TheVariants.{Send as SendLine}
-use Rattle.transcript_log.specs.declared.Entry.{Entry}
-use Rattle.transcript_log.specs.Events.{is_send, is_take, events_of, lines_of, event_of, frame_of}
-use Rattle.transcript_log.specs.Schedule.{Shape, is_closed, missing, may_send, is_announced, is_reading_taken, reaches_floor, members_of}
-use Rattle.transcript_log.specs.Transcript.{Contents, set_sent, word_sent, frame, line, lines_after}
-use Rattle.transcript_log.proofs.EventLemmas.{is_send-true}
-use Rattle.transcript_log.proofs.ListLemmas.{and_first}
-use Rattle.transcript_log.proofs.ScheduleLemmas.{is_closed-from_taken}
+use Rattle.event_schedule.specs.declared.Event.{Event}
+use Rattle.event_schedule.specs.declared.Line.{Line}
+use Rattle.event_schedule.specs.declared.Line.TheVariants.{Send as SendLine}
+use Rattle.event_schedule.specs.declared.Entry.{Entry}
+use Rattle.event_schedule.specs.Events.{is_send, is_take, events_of, lines_of, event_of, frame_of}
+use Rattle.event_schedule.specs.Schedule.{Shape, is_closed, missing, may_send, is_announced, is_reading_taken, reaches_floor, members_of}
+use Rattle.event_schedule.specs.Transcript.{Contents, set_sent, word_sent, frame, line, lines_after}
+use Rattle.event_schedule.proofs.EventLemmas.{is_send-true}
+use Rattle.event_schedule.proofs.ListLemmas.{and_first}
+use Rattle.event_schedule.proofs.ScheduleLemmas.{is_closed-from_taken}
 use Rattle.group_book.specs.Books.{posted}
 use Rattle.run_rows.specs.Ticks.{Clock, tag_of}
 use Rattle.run_rows.proofs.TickLemmas.{In, Member, Stands, TickFacts, taken_same}

@@ -14,16 +14,16 @@ use Rattle.group_plan.specs.declared.Kind.TheVariants.{Reading, Announcement, An
 use Rattle.group_plan.specs.declared.Tag.{Tag}
 use Rattle.group_plan.specs.Plans.{PlanView, size, is_member, members, floor_of}
 use Rattle.meter_frames.specs.declared.Frame.{Frame}
-use Rattle.transcript_log.specs.declared.Event.{Event}
-use Rattle.transcript_log.specs.declared.Event.TheVariants.{Send, Take, Close, End}
-use Rattle.transcript_log.specs.declared.Entry.{Entry}
-use Rattle.transcript_log.specs.Events.{is_tag, is_take, is_close, events_of, lines_of, event_of}
-use Rattle.transcript_log.specs.Tables.{Readings, Masks}
-use Rattle.transcript_log.specs.Schedule.{Shape, is_reading_taken}
-use Rattle.transcript_log.specs.Schedule.{is_closed as is_closed_there, is_announced as is_announced_there, missing as missing_there}
-use Rattle.transcript_log.specs.Transcript.{Contents, shape_of_readings, contents_of_tables, lines_after}
-use Rattle.transcript_log.proofs.EventLemmas.{is_send-true, is_send-itself}
-use Rattle.transcript_log.proofs.MemberLemmas.{is_member-below}
+use Rattle.event_schedule.specs.declared.Event.{Event}
+use Rattle.event_schedule.specs.declared.Event.TheVariants.{Send, Take, Close, End}
+use Rattle.event_schedule.specs.declared.Entry.{Entry}
+use Rattle.event_schedule.specs.Events.{is_tag, is_take, is_close, events_of, lines_of, event_of}
+use Rattle.event_schedule.specs.Tables.{Readings, Masks}
+use Rattle.event_schedule.specs.Schedule.{Shape, is_reading_taken}
+use Rattle.event_schedule.specs.Schedule.{is_closed as is_closed_there, is_announced as is_announced_there, missing as missing_there}
+use Rattle.event_schedule.specs.Transcript.{Contents, shape_of_readings, contents_of_tables, lines_after}
+use Rattle.event_schedule.proofs.EventLemmas.{is_send-true, is_send-itself}
+use Rattle.event_schedule.proofs.MemberLemmas.{is_member-below}
 use Rattle.run_rows.specs.Ticks.{clock_of, IsRunPlan, in_plan, tag_of}
 use Rattle.run_rows.specs.Report.{comes_in_time}
 use Rattle.run_rows.proofs.TickLemmas.{Member, Stands, TickFacts, once-from, is_reading_taken-ticks}

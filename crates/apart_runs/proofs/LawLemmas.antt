@@ -4,10 +4,10 @@ use Rattle.std.specs.Prelude.{nat_lt, nat_le, slice_get, slice_index_or, Option,
 use Rattle.std.proofs.lemmas.Bool.{false≢true, ltb-true}
 use Rattle.group_plan.specs.Plans.{PlanView, Group, IsWithinLimits, size, span_or, is_member_of, is_member}
 use Rattle.group_plan.proofs.MeterNumbers.{group-lt}
-use Rattle.transcript_log.specs.Tables.{Readings, IsOfPlan}
-use Rattle.transcript_log.specs.Transcript.{shape_of_readings}
-use Rattle.transcript_log.proofs.ListLemmas.{and_last}
-use Rattle.transcript_log.proofs.MemberLemmas.{is_member-below}
+use Rattle.event_schedule.specs.Tables.{Readings, IsOfPlan}
+use Rattle.event_schedule.specs.Transcript.{shape_of_readings}
+use Rattle.event_schedule.proofs.ListLemmas.{and_last}
+use Rattle.event_schedule.proofs.MemberLemmas.{is_member-below}
 use Rattle.run_rows.specs.Ticks.{clock_of, posts_of, IsRunPlan}
 use Rattle.run_rows.specs.Report.{fate_at}
 use Rattle.run_rows.proofs.FateLemmas.{run_by}

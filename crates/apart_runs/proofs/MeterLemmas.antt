@@ -11,16 +11,16 @@ use Rattle.group_plan.specs.declared.Kind.TheVariants.{Reading, Announcement, An
 use Rattle.group_plan.specs.declared.Tag.{Tag}
 use Rattle.group_plan.specs.Plans.{PlanView, members}
 use Rattle.meter_frames.specs.declared.Frame.{Frame}
-use Rattle.transcript_log.specs.declared.Event.{Event}
-use Rattle.transcript_log.specs.declared.Event.TheVariants.{Send, Take, Close, End}
-use Rattle.transcript_log.specs.declared.Line.{Line}
-use Rattle.transcript_log.specs.declared.Line.TheVariants as lines
-use Rattle.transcript_log.specs.declared.Entry.{Entry}
-use Rattle.transcript_log.specs.Events.{same_kind, is_tag, is_send, is_take, events_of, lines_of, event_of}
-use Rattle.transcript_log.specs.Tables.{Readings, reading_at}
-use Rattle.transcript_log.specs.Schedule.{Shape}
-use Rattle.transcript_log.specs.Transcript.{Contents, shape_of_readings, contents_of_tables, lines_after}
-use Rattle.transcript_log.proofs.EventLemmas.{is_send-itself}
+use Rattle.event_schedule.specs.declared.Event.{Event}
+use Rattle.event_schedule.specs.declared.Event.TheVariants.{Send, Take, Close, End}
+use Rattle.event_schedule.specs.declared.Line.{Line}
+use Rattle.event_schedule.specs.declared.Line.TheVariants as lines
+use Rattle.event_schedule.specs.declared.Entry.{Entry}
+use Rattle.event_schedule.specs.Events.{same_kind, is_tag, is_send, is_take, events_of, lines_of, event_of}
+use Rattle.event_schedule.specs.Tables.{Readings, reading_at}
+use Rattle.event_schedule.specs.Schedule.{Shape}
+use Rattle.event_schedule.specs.Transcript.{Contents, shape_of_readings, contents_of_tables, lines_after}
+use Rattle.event_schedule.proofs.EventLemmas.{is_send-itself}
 use Rattle.run_rows.specs.Ticks.{clock_of, IsRunPlan, tag_of}
 use Rattle.run_rows.proofs.TickLemmas.{Member, Stands, TickFacts}
 use Rattle.run_rows.proofs.TickRun.{member_from_append, member_flat_map, member_from_flat_map, member_map, member_from_map}

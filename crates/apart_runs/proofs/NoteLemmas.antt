@@ -15,13 +15,13 @@ use Rattle.group_plan.specs.Plans.{PlanView, Group, size_or, size, is_member_of,
 use Rattle.meter_core.specs.declared.Why.TheVariants.{OutOfPlan, SelfMissing, Thin, OtherSet}
 use Rattle.meter_core.specs.declared.Heard.TheVariants as hears
 use Rattle.meter_core.specs.Meters.{is_within, survivors}
-use Rattle.transcript_log.specs.declared.Event.{Event}
-use Rattle.transcript_log.specs.declared.Entry.{Entry}
-use Rattle.transcript_log.specs.Events.{is_take, events_of}
-use Rattle.transcript_log.specs.Tables.{Readings, reading_at}
-use Rattle.transcript_log.specs.Schedule.{Shape, is_closed, is_reading_taken, is_announced, reaches_floor, missing}
-use Rattle.transcript_log.specs.Transcript.{shape_of_readings, contents_of_tables}
-use Rattle.transcript_log.proofs.ListLemmas.{and_last}
+use Rattle.event_schedule.specs.declared.Event.{Event}
+use Rattle.event_schedule.specs.declared.Entry.{Entry}
+use Rattle.event_schedule.specs.Events.{is_take, events_of}
+use Rattle.event_schedule.specs.Tables.{Readings, reading_at}
+use Rattle.event_schedule.specs.Schedule.{Shape, is_closed, is_reading_taken, is_announced, reaches_floor, missing}
+use Rattle.event_schedule.specs.Transcript.{shape_of_readings, contents_of_tables}
+use Rattle.event_schedule.proofs.ListLemmas.{and_last}
 use Rattle.run_rows.specs.Ticks.{clock_of, IsRunPlan, tag_of}
 use Rattle.run_rows.specs.Report.{comes_in_time}
 use Rattle.run_rows.proofs.TickLemmas.{Stands, TickFacts, is_reading_taken-ticks}

@@ -11,16 +11,16 @@ use Rattle.group_plan.specs.Plans.{PlanView}
 use Rattle.meter_frames.specs.declared.Frame.{Frame}
 use Rattle.round_machine.specs.declared.Verdict.{Verdict}
 use Rattle.round_machine.specs.declared.Verdict.TheVariants as verdicts
-use Rattle.transcript_log.specs.declared.Line.{Line}
-use Rattle.transcript_log.specs.declared.Line.TheVariants as lines
-use Rattle.transcript_log.specs.declared.Entry.{Entry}
-use Rattle.transcript_log.specs.Events.{is_take, events_of, lines_of, event_of}
-use Rattle.transcript_log.specs.Tables.{Readings, Masks}
-use Rattle.transcript_log.specs.Schedule.{is_late, verdict}
-use Rattle.transcript_log.specs.Schedule.{is_taken as is_taken_there}
-use Rattle.transcript_log.specs.Transcript.{shape_of_readings, contents_of_tables, line, lines_after}
-use Rattle.transcript_log.proofs.EventLemmas.{is_send-itself}
-use Rattle.transcript_log.proofs.VerdictLemmas.{verdict-table}
+use Rattle.event_schedule.specs.declared.Line.{Line}
+use Rattle.event_schedule.specs.declared.Line.TheVariants as lines
+use Rattle.event_schedule.specs.declared.Entry.{Entry}
+use Rattle.event_schedule.specs.Events.{is_take, events_of, lines_of, event_of}
+use Rattle.event_schedule.specs.Tables.{Readings, Masks}
+use Rattle.event_schedule.specs.Schedule.{is_late, verdict}
+use Rattle.event_schedule.specs.Schedule.{is_taken as is_taken_there}
+use Rattle.event_schedule.specs.Transcript.{shape_of_readings, contents_of_tables, line, lines_after}
+use Rattle.event_schedule.proofs.EventLemmas.{is_send-itself}
+use Rattle.event_schedule.proofs.VerdictLemmas.{verdict-table}
 use Rattle.run_rows.specs.Ticks.{clock_of, IsRunPlan, tag_of}
 use Rattle.run_rows.proofs.TickLemmas.{In, Member, Stands}
 use Rattle.run_rows.proofs.TickRun.{IsRunBy}

@@ -13,12 +13,12 @@ use Rattle.group_plan.specs.declared.Tag.{Tag}
 use Rattle.group_plan.specs.Plans.{PlanView, members, floor_of}
 use Rattle.meter_frames.specs.declared.Frame.{Frame}
 use Rattle.round_machine.specs.declared.Ending.TheVariants as endings
-use Rattle.transcript_log.specs.declared.Entry.{Entry}
-use Rattle.transcript_log.specs.Events.{is_tag, events_of, lines_of}
-use Rattle.transcript_log.specs.Tables.{Readings, Masks, IsBounded, plain_sum}
-use Rattle.transcript_log.specs.Schedule.{is_announced as is_announced_there}
-use Rattle.transcript_log.specs.Transcript.{shape_of_readings, contents_of_tables, lines_after}
-use Rattle.transcript_log.proofs.ListLemmas.{flat_map_same, tabulate_same}
+use Rattle.event_schedule.specs.declared.Entry.{Entry}
+use Rattle.event_schedule.specs.Events.{is_tag, events_of, lines_of}
+use Rattle.event_schedule.specs.Tables.{Readings, Masks, IsBounded, plain_sum}
+use Rattle.event_schedule.specs.Schedule.{is_announced as is_announced_there}
+use Rattle.event_schedule.specs.Transcript.{shape_of_readings, contents_of_tables, lines_after}
+use Rattle.event_schedule.proofs.ListLemmas.{flat_map_same, tabulate_same}
 use Rattle.run_rows.specs.Ticks.{clock_of, IsRunPlan, tag_of}
 use Rattle.run_rows.specs.Report.{Row, ThinRow, TotalRow, NoneRow, OpenRow, report_survivors, is_answered_in_time, row}
 use Rattle.run_rows.proofs.TickLemmas.{is_reading_taken-ticks}

@@ -8,12 +8,12 @@ use Rattle.group_plan.specs.declared.Kind.TheVariants.{Announcement}
 use Rattle.group_plan.specs.declared.Tag.{Tag}
 use Rattle.group_plan.specs.Plans.{PlanView, members}
 use Rattle.meter_frames.specs.declared.Frame.{Frame}
-use Rattle.transcript_log.specs.declared.Entry.{Entry}
-use Rattle.transcript_log.specs.Events.{events_of, lines_of}
-use Rattle.transcript_log.specs.Tables.{Readings, Masks}
-use Rattle.transcript_log.specs.Schedule.{is_announced as is_announced_there, survivors as survivors_there}
-use Rattle.transcript_log.specs.Transcript.{shape_of_readings, contents_of_tables, lines_after}
-use Rattle.transcript_log.proofs.ListLemmas.{flat_map_same}
+use Rattle.event_schedule.specs.declared.Entry.{Entry}
+use Rattle.event_schedule.specs.Events.{events_of, lines_of}
+use Rattle.event_schedule.specs.Tables.{Readings, Masks}
+use Rattle.event_schedule.specs.Schedule.{is_announced as is_announced_there, survivors as survivors_there}
+use Rattle.event_schedule.specs.Transcript.{shape_of_readings, contents_of_tables, lines_after}
+use Rattle.event_schedule.proofs.ListLemmas.{flat_map_same}
 use Rattle.run_rows.specs.Ticks.{clock_of, IsRunPlan, tag_of}
 use Rattle.run_rows.proofs.TickRun.{IsRunBy}
 use Rattle.head_end.specs.declared.answers.Logged.{Logged}

@@ -7,10 +7,10 @@ use Rattle.std.proofs.lemmas.Bool.{false≢true, and_from, and_parts, or_cases, 
 use Rattle.group_plan.specs.declared.Kind.{Kind}
 use Rattle.group_plan.specs.declared.Kind.TheVariants.{Reading, Announcement, Answer}
 use Rattle.group_plan.specs.declared.Tag.{Tag}
-use Rattle.transcript_log.specs.declared.Entry.{Entry}
-use Rattle.transcript_log.specs.Events.{once, is_send, is_take, is_close, is_end, events_of, event_of}
-use Rattle.transcript_log.specs.Schedule.{Shape, is_closed, is_ended, is_announcement_taken, is_sent, is_taken, is_late}
-use Rattle.transcript_log.proofs.ListLemmas.{and_first}
+use Rattle.event_schedule.specs.declared.Entry.{Entry}
+use Rattle.event_schedule.specs.Events.{once, is_send, is_take, is_close, is_end, events_of, event_of}
+use Rattle.event_schedule.specs.Schedule.{Shape, is_closed, is_ended, is_announcement_taken, is_sent, is_taken, is_late}
+use Rattle.event_schedule.proofs.ListLemmas.{and_first}
 use Rattle.run_rows.specs.Ticks.{Clock, phase, moment, tag_of}
 use Rattle.run_rows.specs.Report.{comes_in_time}
 use Rattle.run_rows.proofs.TickLemmas.{In, Stands, TickFacts, once-at, once-from, older_below, earlier_is_older, in_older, same_from_both, phase_take, phase_send, phase_close, phase_end, is_reading_taken-ticks}

@@ -5,11 +5,11 @@ use Rattle.group_plan.specs.Plans.{PlanView}
 use Rattle.meter_frames.specs.declared.Frame.{Frame}
 use Rattle.round_machine.specs.declared.Verdict.{Verdict}
 use Rattle.round_machine.specs.declared.Verdict.TheVariants as verdicts
-use Rattle.transcript_log.specs.declared.Entry.{Entry}
-use Rattle.transcript_log.specs.declared.Line.{Line}
-use Rattle.transcript_log.specs.declared.Line.TheVariants.{Take as TakeLine}
-use Rattle.transcript_log.specs.Tables.{Readings, plain_sum}
-use Rattle.transcript_log.specs.Transcript.{shape_of_readings}
+use Rattle.event_schedule.specs.declared.Entry.{Entry}
+use Rattle.event_schedule.specs.declared.Line.{Line}
+use Rattle.event_schedule.specs.declared.Line.TheVariants.{Take as TakeLine}
+use Rattle.event_schedule.specs.Tables.{Readings, plain_sum}
+use Rattle.event_schedule.specs.Transcript.{shape_of_readings}
 use Rattle.run_rows.specs.Ticks.{clock_of, posts_of}
 use Rattle.run_rows.specs.Report.{fate_at, row}
 use Rattle.totals_report.specs.Reports.{report_rows}

@@ -2,8 +2,8 @@
 use Rattle.std.specs.Prelude.{◌≡◌, Contains, ℕ, zero, suc, List, [], ◌∷◌, ◌++◌, map, Option, Some, None, Result, Ok, Err}
 use Rattle.missing_round.specs.Masks.{Masks}
 use Rattle.meter_frames.specs.declared.Frame.{Frame}
-use Rattle.transcript_log.specs.declared.Entry.{Entry}
-use Rattle.transcript_log.specs.Tables.{Readings}
+use Rattle.event_schedule.specs.declared.Entry.{Entry}
+use Rattle.event_schedule.specs.Tables.{Readings}
 use Rattle.meter_apart.specs.declared.answers.Noted.{Noted}
 use Rattle.meter_apart.specs.declared.part.Part.{Part}
 use Rattle.meter_apart.specs.Replies.{reading_frame, to_reading, after_reading, answer_frame, to_frame, after_frame}

@@ -3,9 +3,9 @@ use Rattle.std.specs.Prelude.{List}
 use Rattle.missing_round.specs.Masks.{Masks}
 use Rattle.group_plan.specs.Plans.{PlanView, IsWithinLimits}
 use Rattle.link_lanes.specs.Lanes.{Slot}
-use Rattle.transcript_log.specs.declared.Entry.{Entry}
-use Rattle.transcript_log.specs.Tables.{Readings, IsOfPlan, IsBounded}
-use Rattle.transcript_log.specs.Transcript.{shape_of_readings, contents_of_tables}
+use Rattle.event_schedule.specs.declared.Entry.{Entry}
+use Rattle.event_schedule.specs.Tables.{Readings, IsOfPlan, IsBounded}
+use Rattle.event_schedule.specs.Transcript.{shape_of_readings, contents_of_tables}
 use Rattle.run_rows.specs.Ticks.{clock_of}
 use Rattle.run_rows.specs.Runs.{IsRun}
 use Rattle.meter_apart.specs.declared.part.Part.{Part}

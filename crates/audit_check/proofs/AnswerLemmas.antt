@@ -18,15 +18,15 @@ use Rattle.group_plan.specs.Plans.{is_member as is_member_of_group}
 use Rattle.group_plan.specs.Tables.{IsPresenceTable}
 use Rattle.group_plan.proofs.MeterNumbers.{in_place}
 use Rattle.meter_frames.specs.declared.Frame.{Frame}
-use Rattle.transcript_log.specs.declared.Event.{Event}
-use Rattle.transcript_log.specs.declared.Line.{Line}
-use Rattle.transcript_log.specs.declared.Line.TheVariants.{Send as SendLine, Take as TakeLine, Close as CloseLine, End as EndLine}
-use Rattle.transcript_log.specs.Events.{event_of, same_kind, is_tag, is_close}
-use Rattle.transcript_log.specs.Schedule.{Shape, shape_of_presence, is_closed, is_reading_taken, is_announced, reaches_floor, is_answer_sent, all_answered, is_opened, survivors, members_of}
-use Rattle.transcript_log.specs.Frames.{contents_of_lines}
-use Rattle.transcript_log.specs.Journal.{past_of}
-use Rattle.transcript_log.proofs.ListLemmas.{and_first, and_last}
-use Rattle.transcript_log.proofs.ScheduleLemmas.{once-cons, is_opened-more, survivors-closed, is_announced-from_answer, is_closed-from_answer, is_reading_taken-from_answer, present-from_taken}
+use Rattle.event_schedule.specs.declared.Event.{Event}
+use Rattle.event_schedule.specs.declared.Line.{Line}
+use Rattle.event_schedule.specs.declared.Line.TheVariants.{Send as SendLine, Take as TakeLine, Close as CloseLine, End as EndLine}
+use Rattle.event_schedule.specs.Events.{event_of, same_kind, is_tag, is_close}
+use Rattle.event_schedule.specs.Schedule.{Shape, shape_of_presence, is_closed, is_reading_taken, is_announced, reaches_floor, is_answer_sent, all_answered, is_opened, survivors, members_of}
+use Rattle.event_schedule.specs.Frames.{contents_of_lines}
+use Rattle.event_schedule.specs.Journal.{past_of}
+use Rattle.event_schedule.proofs.ListLemmas.{and_first, and_last}
+use Rattle.event_schedule.proofs.ScheduleLemmas.{once-cons, is_opened-more, survivors-closed, is_announced-from_answer, is_closed-from_answer, is_reading_taken-from_answer, present-from_taken}
 use Rattle.group_book.specs.Books.{BookView, shape_of, past, posted}
 use Rattle.group_book.specs.Places.{all_rounds, page_at}
 use Rattle.group_book.specs.Replay.{IsJournal}

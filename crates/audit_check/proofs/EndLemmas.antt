@@ -9,13 +9,13 @@ use Rattle.std.proofs.lemmas.List.{length-map}
 use Rattle.std.proofs.lemmas.List.FromFn.{length-map-range_with_len, length-range_with_len}
 use Rattle.group_plan.specs.Plans.{Group, PlanView, IsWithinLimits}
 use Rattle.group_plan.specs.Tables.{PresenceView}
-use Rattle.transcript_log.specs.declared.Entry.{Entry}
-use Rattle.transcript_log.specs.declared.Line.{Line}
-use Rattle.transcript_log.specs.Events.{once, lines_of}
-use Rattle.transcript_log.specs.Transcript.{lines_after}
-use Rattle.transcript_log.specs.Frames.{shape_of_lines, contents_of_lines, IsPossible}
-use Rattle.transcript_log.specs.Journal.{past_of}
-use Rattle.transcript_log.specs.Transcripts.{TranscriptView, IsTranscript}
+use Rattle.event_schedule.specs.declared.Entry.{Entry}
+use Rattle.event_schedule.specs.declared.Line.{Line}
+use Rattle.event_schedule.specs.Events.{once, lines_of}
+use Rattle.event_schedule.specs.Transcript.{lines_after}
+use Rattle.event_schedule.specs.Frames.{shape_of_lines, contents_of_lines, IsPossible}
+use Rattle.event_schedule.specs.Journal.{past_of}
+use Rattle.event_schedule.specs.Transcripts.{TranscriptView, IsTranscript}
 use Rattle.group_book.specs.Books.{BookView, past}
 use Rattle.run_rows.specs.Report.{Row, outcome_row}
 use Rattle.totals_report.specs.declared.row.ReportRow.{ReportRow}

@@ -2,9 +2,9 @@
 use Rattle.std.proofs.Common.{◌≡◌, Bool, true, false, ℕ, List, [], ◌∷◌, ◌++◌, sym, ap, ◌∙◌, subst}
 use Rattle.group_plan.specs.Plans.{PlanView}
 use Rattle.group_plan.specs.Tables.{PresenceView}
-use Rattle.transcript_log.specs.declared.Line.{Line}
-use Rattle.transcript_log.specs.Schedule.{shape_of_presence}
-use Rattle.transcript_log.specs.Frames.{shape_of_lines}
+use Rattle.event_schedule.specs.declared.Line.{Line}
+use Rattle.event_schedule.specs.Schedule.{shape_of_presence}
+use Rattle.event_schedule.specs.Frames.{shape_of_lines}
 use Rattle.group_book.specs.Books.{BookView, shape_of}
 use Rattle.frame_presence.specs.Presence.{IsPresenceOf}
 use Rattle.audit_check.specs.Steps.{MayFollow}

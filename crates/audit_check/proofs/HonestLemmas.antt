@@ -6,20 +6,20 @@ use mathlib.Core.Path.{fun_ext}
 use Rattle.std.proofs.lemmas.List.Elements.{All-head, All-tail}
 use Rattle.group_plan.specs.declared.Kind.TheVariants.{Answer}
 use Rattle.group_plan.specs.Plans.{Group, PlanView, IsWithinLimits, size}
-use Rattle.transcript_log.specs.declared.Event.{Event}
-use Rattle.transcript_log.specs.declared.Entry.{Entry}
-use Rattle.transcript_log.specs.declared.Line.{Line}
-use Rattle.transcript_log.specs.declared.Line.TheVariants.{Send as SendLine, Take as TakeLine, Close as CloseLine, End as EndLine}
-use Rattle.transcript_log.specs.Events.{once, is_send, is_take, event_of, frame_of, events_of, lines_of}
-use Rattle.transcript_log.specs.Tables.{Readings, Masks, plain_sum, IsBounded}
-use Rattle.transcript_log.specs.Schedule.{Shape, is_ended, is_announced, is_opened, is_published, is_answer_sent, is_answer_taken, all_taken, lacking, survivors, Running, EndedThin, Published, Unpublished}
-use Rattle.transcript_log.specs.Transcript.{shape_of_readings, transcript}
-use Rattle.transcript_log.specs.Frames.{word_or_zero, first_word, shape_of_lines, contents_of_lines, IsPossible, HasWordsOf64Bits}
-use Rattle.transcript_log.proofs.FrameLemmas.{possible, shapes_agree, totals_told}
-use Rattle.transcript_log.proofs.ListLemmas.{and_first, flat_map_same, tabulate_same}
-use Rattle.transcript_log.proofs.ScheduleLemmas.{after, after-reverse, once-more}
-use Rattle.transcript_log.proofs.ShapeLemmas.{AgreeOn, announced_agree, reply_agree, survivors_agree}
-use Rattle.transcript_log.specs.Transcripts.{TranscriptView, IsTranscript, IsEntry, IsLine}
+use Rattle.event_schedule.specs.declared.Event.{Event}
+use Rattle.event_schedule.specs.declared.Entry.{Entry}
+use Rattle.event_schedule.specs.declared.Line.{Line}
+use Rattle.event_schedule.specs.declared.Line.TheVariants.{Send as SendLine, Take as TakeLine, Close as CloseLine, End as EndLine}
+use Rattle.event_schedule.specs.Events.{once, is_send, is_take, event_of, frame_of, events_of, lines_of}
+use Rattle.event_schedule.specs.Tables.{Readings, Masks, plain_sum, IsBounded}
+use Rattle.event_schedule.specs.Schedule.{Shape, is_ended, is_announced, is_opened, is_published, is_answer_sent, is_answer_taken, all_taken, lacking, survivors, Running, EndedThin, Published, Unpublished}
+use Rattle.event_schedule.specs.Transcript.{shape_of_readings, transcript}
+use Rattle.event_schedule.specs.Frames.{word_or_zero, first_word, shape_of_lines, contents_of_lines, IsPossible, HasWordsOf64Bits}
+use Rattle.event_schedule.proofs.FrameLemmas.{possible, shapes_agree, totals_told}
+use Rattle.event_schedule.proofs.ListLemmas.{and_first, flat_map_same, tabulate_same}
+use Rattle.event_schedule.proofs.ScheduleLemmas.{after, after-reverse, once-more}
+use Rattle.event_schedule.proofs.ShapeLemmas.{AgreeOn, announced_agree, reply_agree, survivors_agree}
+use Rattle.event_schedule.specs.Transcripts.{TranscriptView, IsTranscript, IsEntry, IsLine}
 use Rattle.ideal_masks.specs.Statements.{IsExplained}
 use Rattle.ideal_masks.proofs.Explained.{explained}
 use Rattle.run_rows.specs.Report.{Row, row_of, outcome_row}

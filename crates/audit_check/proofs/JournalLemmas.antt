@@ -6,13 +6,13 @@ use mathlib.Core.Path.{fun_ext}
 use Rattle.missing_round.specs.Words.{word, minus}
 use Rattle.group_plan.specs.declared.Kind.{Kind}
 use Rattle.group_plan.specs.declared.Kind.TheVariants.{Reading, Answer}
-use Rattle.transcript_log.specs.declared.Event.TheVariants.{End}
-use Rattle.transcript_log.specs.declared.Line.{Line}
-use Rattle.transcript_log.specs.declared.Line.TheVariants.{Send as SendLine, Take as TakeLine, Close as CloseLine, End as EndLine}
-use Rattle.transcript_log.specs.Schedule.{Shape}
-use Rattle.transcript_log.specs.Transcript.{Contents, line, lines_after}
-use Rattle.transcript_log.specs.Frames.{word_or_zero, contents_of_lines}
-use Rattle.transcript_log.specs.Journal.{past_of, IsJournalAfter}
+use Rattle.event_schedule.specs.declared.Event.TheVariants.{End}
+use Rattle.event_schedule.specs.declared.Line.{Line}
+use Rattle.event_schedule.specs.declared.Line.TheVariants.{Send as SendLine, Take as TakeLine, Close as CloseLine, End as EndLine}
+use Rattle.event_schedule.specs.Schedule.{Shape}
+use Rattle.event_schedule.specs.Transcript.{Contents, line, lines_after}
+use Rattle.event_schedule.specs.Frames.{word_or_zero, contents_of_lines}
+use Rattle.event_schedule.specs.Journal.{past_of, IsJournalAfter}
 use Rattle.group_book.specs.Replay.{HasOwnFrames, IsJournal}
 use Rattle.group_book.proofs.LineLemmas.{IsCore, HasOwnFrame, posts, posted-stays, first_word-posted}
 use Rattle.audit_check.specs.Steps.{IsTold}

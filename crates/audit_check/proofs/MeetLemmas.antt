@@ -10,15 +10,15 @@ use Rattle.group_plan.specs.declared.Tag.{Tag}
 use Rattle.group_plan.specs.Plans.{Group, PlanView, is_member}
 use Rattle.group_plan.specs.Tables.{PresenceView, is_present, is_same_place, NotesReading}
 use Rattle.meter_frames.specs.declared.Frame.{Frame}
-use Rattle.transcript_log.specs.declared.Event.{Event}
-use Rattle.transcript_log.specs.declared.Event.TheVariants.{Send}
-use Rattle.transcript_log.specs.declared.Line.{Line}
-use Rattle.transcript_log.specs.Events.{once, event_of, frame_of, is_send}
-use Rattle.transcript_log.specs.Schedule.{shape_of_presence}
-use Rattle.transcript_log.specs.Frames.{first_frame, shape_of_lines}
-use Rattle.transcript_log.specs.Journal.{past_of}
-use Rattle.transcript_log.proofs.EventLemmas.{is_send-true, is_send-itself}
-use Rattle.transcript_log.proofs.ScheduleLemmas.{once-cons}
+use Rattle.event_schedule.specs.declared.Event.{Event}
+use Rattle.event_schedule.specs.declared.Event.TheVariants.{Send}
+use Rattle.event_schedule.specs.declared.Line.{Line}
+use Rattle.event_schedule.specs.Events.{once, event_of, frame_of, is_send}
+use Rattle.event_schedule.specs.Schedule.{shape_of_presence}
+use Rattle.event_schedule.specs.Frames.{first_frame, shape_of_lines}
+use Rattle.event_schedule.specs.Journal.{past_of}
+use Rattle.event_schedule.proofs.EventLemmas.{is_send-true, is_send-itself}
+use Rattle.event_schedule.proofs.ScheduleLemmas.{once-cons}
 use Rattle.group_book.specs.Books.{BookView}
 use Rattle.group_book.proofs.LineLemmas.{past_of-push}
 use Rattle.frame_presence.specs.Presence.{IsPresenceOf}

@@ -7,12 +7,12 @@ use Rattle.std.proofs.lemmas.Bool.Decides.{nat_tests}
 use Rattle.std.proofs.lemmas.List.FromFn.{length-range_with_len}
 use Rattle.std.proofs.lemmas.List.Sums.{sum_by-cons, count_by-le-length}
 use Rattle.group_plan.specs.Plans.{PlanView}
-use Rattle.transcript_log.specs.declared.Event.{Event}
-use Rattle.transcript_log.specs.Events.{events_of}
-use Rattle.transcript_log.specs.Schedule.{Shape, is_opened, is_published, survivors}
-use Rattle.transcript_log.specs.Frames.{shape_of_lines}
-use Rattle.transcript_log.specs.Journal.{past_of}
-use Rattle.transcript_log.specs.Transcripts.{TranscriptView}
+use Rattle.event_schedule.specs.declared.Event.{Event}
+use Rattle.event_schedule.specs.Events.{events_of}
+use Rattle.event_schedule.specs.Schedule.{Shape, is_opened, is_published, survivors}
+use Rattle.event_schedule.specs.Frames.{shape_of_lines}
+use Rattle.event_schedule.specs.Journal.{past_of}
+use Rattle.event_schedule.specs.Transcripts.{TranscriptView}
 use Rattle.group_book.specs.Books.{BookView, shape_of, past}
 use Rattle.group_book.specs.Places.{is_round}
 use Rattle.audit_check.specs.declared.opened.OpenedRounds.{OpenedRounds}

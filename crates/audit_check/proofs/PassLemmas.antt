@@ -5,12 +5,12 @@ use Rattle.std.proofs.lemmas.Bool.{and_from, lt-ltb}
 use Rattle.std.proofs.lemmas.List.{take-append-le, take_all}
 use Rattle.group_plan.specs.Plans.{PlanView}
 use Rattle.group_plan.specs.Tables.{PresenceView}
-use Rattle.transcript_log.specs.declared.Entry.{Entry}
-use Rattle.transcript_log.specs.declared.Line.{Line}
-use Rattle.transcript_log.specs.declared.Line.TheVariants.{Send as SendLine, Take as TakeLine, Close as CloseLine, End as EndLine}
-use Rattle.transcript_log.specs.Events.{lines_of}
-use Rattle.transcript_log.specs.Frames.{IsPossible, shape_of_lines}
-use Rattle.transcript_log.specs.Transcripts.{TranscriptView, IsTranscript, FitsLine}
+use Rattle.event_schedule.specs.declared.Entry.{Entry}
+use Rattle.event_schedule.specs.declared.Line.{Line}
+use Rattle.event_schedule.specs.declared.Line.TheVariants.{Send as SendLine, Take as TakeLine, Close as CloseLine, End as EndLine}
+use Rattle.event_schedule.specs.Events.{lines_of}
+use Rattle.event_schedule.specs.Frames.{IsPossible, shape_of_lines}
+use Rattle.event_schedule.specs.Transcripts.{TranscriptView, IsTranscript, FitsLine}
 use Rattle.transcript_text.specs.declared.fault.ReadError.{ReadError}
 use Rattle.transcript_text.specs.declared.version.Version.TheVariants.{Two}
 use Rattle.transcript_text.specs.Heads.{read_of}

@@ -4,16 +4,16 @@ use Rattle.std.specs.Prelude.{◌⊎◌}
 use Rattle.std.proofs.lemmas.Bool.{cases_Bool}
 use Rattle.std.proofs.lemmas.List.{take_all}
 use Rattle.group_plan.specs.Plans.{Group}
-use Rattle.transcript_log.specs.declared.Event.{Event}
-use Rattle.transcript_log.specs.declared.Line.{Line}
-use Rattle.transcript_log.specs.Events.{event_of}
-use Rattle.transcript_log.specs.Schedule.{Shape, is_closed, is_announced, reaches_floor, all_answered, is_opened, survivors}
-use Rattle.transcript_log.specs.Transcript.{Contents}
-use Rattle.transcript_log.specs.Frames.{shape_of_lines, contents_of_lines, IsPossible, IsPossibleUpTo}
-use Rattle.transcript_log.specs.Journal.{past_of}
-use Rattle.transcript_log.proofs.ListLemmas.{and_first}
-use Rattle.transcript_log.proofs.ScheduleLemmas.{after, is_opened-more, is_opened-after, survivors-closed, survivors-after}
-use Rattle.transcript_log.proofs.ShapeLemmas.{AgreeOn, survivors_agree}
+use Rattle.event_schedule.specs.declared.Event.{Event}
+use Rattle.event_schedule.specs.declared.Line.{Line}
+use Rattle.event_schedule.specs.Events.{event_of}
+use Rattle.event_schedule.specs.Schedule.{Shape, is_closed, is_announced, reaches_floor, all_answered, is_opened, survivors}
+use Rattle.event_schedule.specs.Transcript.{Contents}
+use Rattle.event_schedule.specs.Frames.{shape_of_lines, contents_of_lines, IsPossible, IsPossibleUpTo}
+use Rattle.event_schedule.specs.Journal.{past_of}
+use Rattle.event_schedule.proofs.ListLemmas.{and_first}
+use Rattle.event_schedule.proofs.ScheduleLemmas.{after, is_opened-more, is_opened-after, survivors-closed, survivors-after}
+use Rattle.event_schedule.proofs.ShapeLemmas.{AgreeOn, survivors_agree}
 use Rattle.group_book.proofs.LineLemmas.{past_of-push}
 use Rattle.audit_check.specs.Statements.{PossibleBefore, OpenedRoundsStay}
 use Rattle.audit_check.specs.Steps.{IsWithinReadings, MayFollow}

@@ -17,9 +17,9 @@ use Rattle.group_plan.specs.declared.Tag.{Tag}
 use Rattle.group_plan.specs.Plans.{size, is_member}
 use Rattle.link_lanes.specs.declared.Post.{Post}
 use Rattle.link_lanes.specs.Lanes.{Slot, fate_after}
-use Rattle.transcript_log.specs.Events.{same_kind, is_tag}
-use Rattle.transcript_log.specs.Schedule.{Shape, members_of, floor_of}
-use Rattle.transcript_log.proofs.ListLemmas.{sum_by-flat_map, sum_by-map, sum_none}
+use Rattle.event_schedule.specs.Events.{same_kind, is_tag}
+use Rattle.event_schedule.specs.Schedule.{Shape, members_of, floor_of}
+use Rattle.event_schedule.proofs.ListLemmas.{sum_by-flat_map, sum_by-map, sum_none}
 use Rattle.run_rows.specs.Posts.{coming, due_by, post_all, posts_before, posts_by_lanes}
 use Rattle.run_rows.specs.Report.{fate_at, report_survivors, comes_in_time}
 use Rattle.run_rows.specs.Ticks.{Clock, tag_of, tags, last_tick}

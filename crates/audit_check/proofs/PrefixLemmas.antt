@@ -5,13 +5,13 @@ use Rattle.std.specs.List.{list_any}
 use Rattle.std.proofs.lemmas.Bool.{false≢true}
 use Rattle.group_plan.specs.declared.Kind.TheVariants.{Reading}
 use Rattle.group_plan.specs.Plans.{Group, is_member}
-use Rattle.transcript_log.specs.declared.Event.{Event}
-use Rattle.transcript_log.specs.declared.Line.{Line}
-use Rattle.transcript_log.specs.Events.{once, event_of, frame_of, is_send}
-use Rattle.transcript_log.specs.Frames.{first_frame, shape_of_lines}
-use Rattle.transcript_log.specs.Journal.{past_of}
-use Rattle.transcript_log.proofs.ScheduleLemmas.{once-cons}
-use Rattle.transcript_log.proofs.ShapeLemmas.{AgreeOn}
+use Rattle.event_schedule.specs.declared.Event.{Event}
+use Rattle.event_schedule.specs.declared.Line.{Line}
+use Rattle.event_schedule.specs.Events.{once, event_of, frame_of, is_send}
+use Rattle.event_schedule.specs.Frames.{first_frame, shape_of_lines}
+use Rattle.event_schedule.specs.Journal.{past_of}
+use Rattle.event_schedule.proofs.ScheduleLemmas.{once-cons}
+use Rattle.event_schedule.proofs.ShapeLemmas.{AgreeOn}
 use Rattle.group_book.proofs.LineLemmas.{past_of-push}
 use Rattle.audit_check.proofs.TellLemmas.{line_by_line}
 

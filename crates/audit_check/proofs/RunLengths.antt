@@ -19,17 +19,17 @@ use Rattle.group_plan.specs.declared.plan.GroupPlan.{GroupPlan}
 use Rattle.group_plan.specs.declared.plan.members.Span.{Span}
 use Rattle.link_lanes.specs.declared.Post.{Post}
 use Rattle.link_lanes.specs.Lanes.{Slot}
-use Rattle.transcript_log.specs.declared.Entry.{Entry}
-use Rattle.transcript_log.specs.declared.Event.{Event}
-use Rattle.transcript_log.specs.declared.Event.TheVariants as event
-use Rattle.transcript_log.specs.declared.Line.{Line}
-use Rattle.transcript_log.specs.declared.Line.TheVariants.{Send, Take, Close, End}
-use Rattle.transcript_log.specs.Events.{event_of, lines_of, is_close, is_end}
+use Rattle.event_schedule.specs.declared.Entry.{Entry}
+use Rattle.event_schedule.specs.declared.Event.{Event}
+use Rattle.event_schedule.specs.declared.Event.TheVariants as event
+use Rattle.event_schedule.specs.declared.Line.{Line}
+use Rattle.event_schedule.specs.declared.Line.TheVariants.{Send, Take, Close, End}
+use Rattle.event_schedule.specs.Events.{event_of, lines_of, is_close, is_end}
 use Rattle.transcript_log.specs.Kinds.{is_taking}
-use Rattle.transcript_log.specs.Schedule.{Shape}
-use Rattle.transcript_log.specs.Transcript.{Contents}
-use Rattle.transcript_log.specs.Transcripts.{Fits, IsEntry}
-use Rattle.transcript_log.proofs.ListLemmas.{sum_by-flat_map, sum_by-map}
+use Rattle.event_schedule.specs.Schedule.{Shape}
+use Rattle.event_schedule.specs.Transcript.{Contents}
+use Rattle.event_schedule.specs.Transcripts.{Fits, IsEntry}
+use Rattle.event_schedule.proofs.ListLemmas.{sum_by-flat_map, sum_by-map}
 use Rattle.transcript_text.specs.declared.version.Version.TheVariants.{Two}
 use Rattle.transcript_text.specs.Spelling.{joined, ended, entry_text, entries_text, rounds_fields, windows_fields, group_fields, member_fields, groups_text, members_text, is_partial, span_at, spans_below, stated_spans, head_text, text_of}
 use Rattle.run_rows.specs.Report.{Row}

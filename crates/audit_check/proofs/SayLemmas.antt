@@ -7,18 +7,18 @@ use Rattle.group_plan.specs.declared.Tag.{Tag}
 use Rattle.meter_frames.specs.declared.Frame.{Frame}
 use Rattle.meter_frames.specs.Frames.{FitsKind}
 use Rattle.round_machine.specs.declared.Ending.{Ending}
-use Rattle.transcript_log.specs.declared.Event.{Event}
-use Rattle.transcript_log.specs.declared.Event.TheVariants.{Send}
-use Rattle.transcript_log.specs.declared.Line.{Line}
-use Rattle.transcript_log.specs.declared.Line.TheVariants.{Send as SendLine, End as EndLine}
-use Rattle.transcript_log.specs.Events.{event_of, frame_of, is_send}
-use Rattle.transcript_log.specs.Schedule.{Shape, may_send, is_closed, missing, is_announced, reaches_floor, is_reading_taken}
-use Rattle.transcript_log.specs.Transcript.{Contents, set_sent, word_sent, frame, ending, line}
-use Rattle.transcript_log.specs.Frames.{word_or_zero, first_word, contents_of_lines}
-use Rattle.transcript_log.specs.Journal.{past_of}
-use Rattle.transcript_log.proofs.EventLemmas.{is_send-true, is_send-itself}
-use Rattle.transcript_log.proofs.ListLemmas.{and_first}
-use Rattle.transcript_log.proofs.ScheduleLemmas.{missing-closed, is_closed-more, is_closed-from_taken}
+use Rattle.event_schedule.specs.declared.Event.{Event}
+use Rattle.event_schedule.specs.declared.Event.TheVariants.{Send}
+use Rattle.event_schedule.specs.declared.Line.{Line}
+use Rattle.event_schedule.specs.declared.Line.TheVariants.{Send as SendLine, End as EndLine}
+use Rattle.event_schedule.specs.Events.{event_of, frame_of, is_send}
+use Rattle.event_schedule.specs.Schedule.{Shape, may_send, is_closed, missing, is_announced, reaches_floor, is_reading_taken}
+use Rattle.event_schedule.specs.Transcript.{Contents, set_sent, word_sent, frame, ending, line}
+use Rattle.event_schedule.specs.Frames.{word_or_zero, first_word, contents_of_lines}
+use Rattle.event_schedule.specs.Journal.{past_of}
+use Rattle.event_schedule.proofs.EventLemmas.{is_send-true, is_send-itself}
+use Rattle.event_schedule.proofs.ListLemmas.{and_first}
+use Rattle.event_schedule.proofs.ScheduleLemmas.{missing-closed, is_closed-more, is_closed-from_taken}
 use Rattle.group_book.specs.Books.{BookView, shape_of, past, posted, posted_in, posted_of, allows, missing_of, Adds, IsFree, HasSet, IsPosted, EndEnds}
 use Rattle.group_book.specs.Replay.{IsJournal}
 use Rattle.group_book.proofs.LineLemmas.{first_of, posts, posted-push, first_word-posted, past_of-push}

@@ -9,19 +9,19 @@ use Rattle.missing_round.specs.Words.{word, minus}
 use Rattle.group_plan.specs.declared.Kind.{Kind}
 use Rattle.group_plan.specs.declared.Kind.TheVariants.{Reading, Announcement, Answer}
 use Rattle.group_plan.specs.Plans.{Group}
-use Rattle.transcript_log.specs.declared.Event.{Event}
-use Rattle.transcript_log.specs.declared.Event.TheVariants.{Send}
-use Rattle.transcript_log.specs.declared.Line.{Line}
-use Rattle.transcript_log.specs.Events.{once, event_of, frame_of, is_send}
-use Rattle.transcript_log.specs.Schedule.{Shape, may_send, is_sent, is_reading_sent, is_reading_taken, is_answer_sent, survivors, is_announced, is_opened, all_answered, members_of}
-use Rattle.transcript_log.specs.Transcript.{Contents, line, lines_after}
-use Rattle.transcript_log.specs.Frames.{word_or_zero, first_word, contents_of_lines}
-use Rattle.transcript_log.specs.Journal.{past_of}
-use Rattle.transcript_log.proofs.EventLemmas.{is_send-true}
-use Rattle.transcript_log.proofs.ListLemmas.{and_last, sum_by-filter_same}
-use Rattle.transcript_log.proofs.ScheduleLemmas.{after, after-reverse, is_reading_sent-from_taken}
-use Rattle.transcript_log.proofs.ShapeLemmas.{AgreeOn, announced_agree, reply_agree, survivors_agree, lines_agree}
-use Rattle.transcript_log.proofs.TranscriptLemmas.{Alike, lines_after-same, lines_after-push}
+use Rattle.event_schedule.specs.declared.Event.{Event}
+use Rattle.event_schedule.specs.declared.Event.TheVariants.{Send}
+use Rattle.event_schedule.specs.declared.Line.{Line}
+use Rattle.event_schedule.specs.Events.{once, event_of, frame_of, is_send}
+use Rattle.event_schedule.specs.Schedule.{Shape, may_send, is_sent, is_reading_sent, is_reading_taken, is_answer_sent, survivors, is_announced, is_opened, all_answered, members_of}
+use Rattle.event_schedule.specs.Transcript.{Contents, line, lines_after}
+use Rattle.event_schedule.specs.Frames.{word_or_zero, first_word, contents_of_lines}
+use Rattle.event_schedule.specs.Journal.{past_of}
+use Rattle.event_schedule.proofs.EventLemmas.{is_send-true}
+use Rattle.event_schedule.proofs.ListLemmas.{and_last, sum_by-filter_same}
+use Rattle.event_schedule.proofs.ScheduleLemmas.{after, after-reverse, is_reading_sent-from_taken}
+use Rattle.event_schedule.proofs.ShapeLemmas.{AgreeOn, announced_agree, reply_agree, survivors_agree, lines_agree}
+use Rattle.event_schedule.proofs.TranscriptLemmas.{Alike, lines_after-same, lines_after-push}
 use Rattle.group_book.specs.Books.{posted}
 use Rattle.group_book.proofs.LineLemmas.{IsFramed, framed-push}
 use Rattle.audit_check.specs.Steps.{IsTold}

@@ -6,8 +6,8 @@ use Rattle.std.proofs.lemmas.List.Sums.{sum_by-cons}
 use Rattle.missing_round.specs.Words.{word}
 use Rattle.group_plan.specs.declared.Tag.{Tag}
 use Rattle.meter_frames.specs.declared.Frame.{Frame}
-use Rattle.transcript_log.specs.Schedule.{survivors}
-use Rattle.transcript_log.specs.Frames.{word_or_zero, first_word, contents_of_lines}
+use Rattle.event_schedule.specs.Schedule.{survivors}
+use Rattle.event_schedule.specs.Frames.{word_or_zero, first_word, contents_of_lines}
 use Rattle.group_book.specs.Books.{BookView, shape_of, past, IsPosted}
 use Rattle.group_book.proofs.LineLemmas.{first_word-posted}
 use Rattle.group_book.proofs.CallLemmas.{posted_is}

@@ -4,10 +4,10 @@ use Rattle.missing_round.specs.Sets.{is_member, joined}
 use Rattle.group_plan.specs.declared.Tag.{Tag}
 use Rattle.group_plan.specs.declared.Kind.TheVariants.{Answer}
 use Rattle.meter_frames.specs.declared.Frame.{Frame}
-use Rattle.transcript_log.specs.declared.Line.{Line}
-use Rattle.transcript_log.specs.declared.Line.TheVariants.{Send as SendLine}
-use Rattle.transcript_log.specs.Events.{event_of, frame_of, is_send}
-use Rattle.transcript_log.specs.Schedule.{survivors}
+use Rattle.event_schedule.specs.declared.Line.{Line}
+use Rattle.event_schedule.specs.declared.Line.TheVariants.{Send as SendLine}
+use Rattle.event_schedule.specs.Events.{event_of, frame_of, is_send}
+use Rattle.event_schedule.specs.Schedule.{survivors}
 use Rattle.group_book.specs.Books.{BookView, shape_of, past}
 use Rattle.group_book.specs.Places.{page_at}
 use Rattle.audit_check.specs.Steps.{IsWithinReadings}

@@ -1,11 +1,11 @@
 -- Audits: what a transcript says by its frames alone, and how the audit of a transcript and a report ends.
 use Rattle.std.specs.Prelude.{◌≡◌, ◌≢◌, ℕ, ◌+◌, ◌-◌, ◌^◌, ◌<◌, ◌≤◌, List, length, take, reverse, count_by, slice_get, Option, Result, Ok, Err, ⊤}
-use Rattle.transcript_log.specs.declared.Line.{Line}
-use Rattle.transcript_log.specs.Events.{lines_of, events_of}
-use Rattle.transcript_log.specs.Tables.{Readings, Masks, reading_at, plain_sum, IsOfPlan}
-use Rattle.transcript_log.specs.Transcript.{shape_of_readings, transcript}
-use Rattle.transcript_log.specs.Frames.{shape_of_lines, contents_of_lines, IsPossible, IsPossibleUpTo}
-use Rattle.transcript_log.specs.Transcripts.{TranscriptView}
+use Rattle.event_schedule.specs.declared.Line.{Line}
+use Rattle.event_schedule.specs.Events.{lines_of, events_of}
+use Rattle.event_schedule.specs.Tables.{Readings, Masks, reading_at, plain_sum, IsOfPlan}
+use Rattle.event_schedule.specs.Transcript.{shape_of_readings, transcript}
+use Rattle.event_schedule.specs.Frames.{shape_of_lines, contents_of_lines, IsPossible, IsPossibleUpTo}
+use Rattle.event_schedule.specs.Transcripts.{TranscriptView}
 use Rattle.transcript_text.specs.EntryLines.{entry_line}
 use Rattle.ideal_masks.specs.Statements.{IsExplained}
 use Rattle.run_rows.specs.Report.{Row, outcome_row}

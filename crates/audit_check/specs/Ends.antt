@@ -2,9 +2,9 @@
 use Rattle.std.specs.Prelude.{◌≡◌, ℕ, ◌+◌, ◌<◌, List, length, count_by, Option, Some, None, Result, Ok, Err, ⊤}
 use Rattle.group_plan.specs.Plans.{PlanView, IsWithinLimits}
 use Rattle.ideal_masks.specs.Statements.{IsExplained}
-use Rattle.transcript_log.specs.declared.Line.{Line}
-use Rattle.transcript_log.specs.Frames.{shape_of_lines, IsPossible, IsPossibleUpTo}
-use Rattle.transcript_log.specs.Transcripts.{TranscriptView}
+use Rattle.event_schedule.specs.declared.Line.{Line}
+use Rattle.event_schedule.specs.Frames.{shape_of_lines, IsPossible, IsPossibleUpTo}
+use Rattle.event_schedule.specs.Transcripts.{TranscriptView}
 use Rattle.transcript_text.specs.EntryLines.{entry_line}
 use Rattle.group_book.specs.Books.{BookView, shape_of}
 use Rattle.totals_report.specs.declared.row.ReportRow.{ReportRow}

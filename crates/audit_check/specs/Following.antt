@@ -4,12 +4,12 @@ use Rattle.group_plan.specs.declared.Kind.TheVariants.{Reading}
 use Rattle.group_plan.specs.declared.Tag.{Tag}
 use Rattle.group_plan.specs.Plans.{PlanView, is_member}
 use Rattle.group_plan.specs.Tables.{PresenceView, is_present}
-use Rattle.transcript_log.specs.declared.Event.TheVariants.{Send}
-use Rattle.transcript_log.specs.declared.Line.{Line}
-use Rattle.transcript_log.specs.Events.{once, event_of, is_send}
-use Rattle.transcript_log.specs.Schedule.{shape_of_presence}
-use Rattle.transcript_log.specs.Frames.{shape_of_lines}
-use Rattle.transcript_log.specs.Journal.{past_of}
+use Rattle.event_schedule.specs.declared.Event.TheVariants.{Send}
+use Rattle.event_schedule.specs.declared.Line.{Line}
+use Rattle.event_schedule.specs.Events.{once, event_of, is_send}
+use Rattle.event_schedule.specs.Schedule.{shape_of_presence}
+use Rattle.event_schedule.specs.Frames.{shape_of_lines}
+use Rattle.event_schedule.specs.Journal.{past_of}
 use Rattle.group_book.specs.Books.{BookView, shape_of}
 use Rattle.audit_check.specs.Steps.{MayFollow}
 use Rattle.audit_check.specs.Replays.{AreAnswered}

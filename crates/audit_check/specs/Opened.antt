@@ -2,10 +2,10 @@
 use Rattle.std.specs.Prelude.{◌≡◌, ℕ, ◌≤◌, Bool, true, false, ◌&&◌, not, List, length, reverse, Option, Some, None, Result, Ok, Err}
 use Rattle.std.specs.List.{count_by, sum_by, range_with_len}
 use Rattle.group_plan.specs.Plans.{PlanView}
-use Rattle.transcript_log.specs.Events.{events_of}
-use Rattle.transcript_log.specs.Schedule.{is_opened, is_published, survivors}
-use Rattle.transcript_log.specs.Frames.{shape_of_lines}
-use Rattle.transcript_log.specs.Transcripts.{TranscriptView}
+use Rattle.event_schedule.specs.Events.{events_of}
+use Rattle.event_schedule.specs.Schedule.{is_opened, is_published, survivors}
+use Rattle.event_schedule.specs.Frames.{shape_of_lines}
+use Rattle.event_schedule.specs.Transcripts.{TranscriptView}
 use Rattle.group_book.specs.Places.{is_round}
 use Rattle.totals_report.specs.declared.row.ReportRow.{ReportRow}
 use Rattle.audit_check.specs.declared.answers.AuditError.{AuditError}

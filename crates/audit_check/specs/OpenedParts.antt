@@ -2,7 +2,7 @@
 use Rattle.std.specs.Prelude.{◌≡◌, ℕ, ◌+◌, ◌≤◌, ◌⊎◌, Bool, true, false, ◌&&◌, not, List, length, if◌then◌else◌, Option, Some, None}
 use Rattle.std.specs.List.{count_by, range_with_len}
 use Rattle.group_plan.specs.Plans.{PlanView}
-use Rattle.transcript_log.specs.Schedule.{is_opened, is_published, survivors}
+use Rattle.event_schedule.specs.Schedule.{is_opened, is_published, survivors}
 use Rattle.group_book.specs.Books.{BookView, shape_of, past}
 use Rattle.group_book.specs.Places.{is_round}
 use Rattle.ideal_masks.specs.OffsetEnds.{is_earlier_round}

@@ -2,8 +2,8 @@
 use Rattle.std.specs.Prelude.{◌≡◌, ℕ, ◌+◌, ◌<◌, ◌≤◌, Bool, true, false, List, [], ◌∷◌, ◌++◌, length, filter, slice_index_or, is_some, None, Some}
 use Rattle.group_plan.specs.declared.Kind.TheVariants.{Answer}
 use Rattle.group_plan.specs.Plans.{PlanView, members, is_place}
-use Rattle.transcript_log.specs.declared.Line.{Line}
-use Rattle.transcript_log.specs.declared.Line.TheVariants.{Send as SendLine, Take as TakeLine, Close as CloseLine, End as EndLine}
+use Rattle.event_schedule.specs.declared.Line.{Line}
+use Rattle.event_schedule.specs.declared.Line.TheVariants.{Send as SendLine, Take as TakeLine, Close as CloseLine, End as EndLine}
 use Rattle.meter_frames.specs.declared.Frame.{Frame}
 use Rattle.meter_frames.specs.Frames.{FitsKind}
 use Rattle.group_plan.specs.declared.Tag.{Tag}

@@ -1,14 +1,14 @@
 -- What the laws of this crate say. Each is proved for every plan and all lines.
 use Rattle.std.specs.Prelude.{◌≡◌, ℕ, ◌+◌, ◌<◌, true, List, [], ◌++◌, length, map, Result, Ok, Err, ⊤}
 use Rattle.group_plan.specs.Plans.{Group}
-use Rattle.transcript_log.specs.declared.Line.{Line}
-use Rattle.transcript_log.specs.Events.{event_of}
-use Rattle.transcript_log.specs.Tables.{Readings, Masks}
-use Rattle.transcript_log.specs.Schedule.{Shape, is_opened, survivors}
-use Rattle.transcript_log.specs.Transcript.{lines_after}
-use Rattle.transcript_log.specs.Frames.{shape_of_lines, contents_of_lines, IsPossible, IsPossibleUpTo}
-use Rattle.transcript_log.specs.Journal.{past_of}
-use Rattle.transcript_log.specs.Transcripts.{TranscriptView, IsTranscript}
+use Rattle.event_schedule.specs.declared.Line.{Line}
+use Rattle.event_schedule.specs.Events.{event_of}
+use Rattle.event_schedule.specs.Tables.{Readings, Masks}
+use Rattle.event_schedule.specs.Schedule.{Shape, is_opened, survivors}
+use Rattle.event_schedule.specs.Transcript.{lines_after}
+use Rattle.event_schedule.specs.Frames.{shape_of_lines, contents_of_lines, IsPossible, IsPossibleUpTo}
+use Rattle.event_schedule.specs.Journal.{past_of}
+use Rattle.event_schedule.specs.Transcripts.{TranscriptView, IsTranscript}
 use Rattle.group_book.specs.Replay.{IsJournal}
 use Rattle.run_rows.specs.Report.{Row}
 use Rattle.totals_report.specs.Reports.{report_rows}

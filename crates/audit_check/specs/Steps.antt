@@ -1,11 +1,11 @@
 -- One line more: whether it is what its frames make of its event after the lines before it.
 use Rattle.std.specs.Prelude.{◌≡◌, ℕ, ◌-◌, ◌*◌, ◌^◌, ◌≤◌, true, false, List, [], ◌∷◌, ◌++◌, length}
-use Rattle.transcript_log.specs.declared.Line.{Line}
-use Rattle.transcript_log.specs.Events.{event_of}
-use Rattle.transcript_log.specs.Schedule.{Shape, is_opened, survivors}
-use Rattle.transcript_log.specs.Transcript.{line}
-use Rattle.transcript_log.specs.Frames.{contents_of_lines}
-use Rattle.transcript_log.specs.Journal.{past_of}
+use Rattle.event_schedule.specs.declared.Line.{Line}
+use Rattle.event_schedule.specs.Events.{event_of}
+use Rattle.event_schedule.specs.Schedule.{Shape, is_opened, survivors}
+use Rattle.event_schedule.specs.Transcript.{line}
+use Rattle.event_schedule.specs.Frames.{contents_of_lines}
+use Rattle.event_schedule.specs.Journal.{past_of}
 
 -- the line is the one that its frames give to its event
 abbrev pub IsTold : Shape → List Line → Line → Type 0

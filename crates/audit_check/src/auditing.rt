@@ -1,8 +1,8 @@
 //! The audit: the lines of a transcript replayed, and the rows that they give compared with those of a report.
 
 ghost use Rattle.std.specs.Prelude.{◌≡◌, ◌<◌, ◌^◌, ◌++◌, [], IfOk, OnOk, length};
-ghost use Rattle.transcript_log.specs.Events.{lines_of};
-ghost use Rattle.transcript_log.specs.Transcripts.{TranscriptView};
+ghost use Rattle.event_schedule.specs.Events.{lines_of};
+ghost use Rattle.event_schedule.specs.Transcripts.{TranscriptView};
 ghost use Rattle.totals_report.specs.Books.{row_in};
 ghost use Rattle.totals_report.specs.Reports.{group_rows, report_rows};
 ghost use Rattle.audit_check.specs.Audits.{AuditEnds};

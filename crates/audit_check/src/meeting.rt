@@ -1,11 +1,11 @@
 //! Who has a reading, noted by the first Send of it.
 
 ghost use Rattle.std.specs.Prelude.{◌≡◌, is_some};
-ghost use Rattle.transcript_log.specs.Events.{frame_of};
+ghost use Rattle.event_schedule.specs.Events.{frame_of};
 ghost use Rattle.audit_check.specs.Following.{IsReadingOf};
 
+use event_schedule::Line;
 use group_plan::{Kind, Tag};
-use transcript_log::Line;
 
 /// The tag of a line that is a Send of a reading.
 pub(crate) fn reading_of(line: &Line) -> Option<Tag>

@@ -2,7 +2,7 @@
 
 ghost use Rattle.std.specs.Prelude.{◌≡◌, ◌*◌, ◌^◌, ◌<◌, ◌≤◌, if◌then◌else◌, IsTrue, None, length};
 ghost use Rattle.std.specs.List.{list_all};
-ghost use Rattle.transcript_log.specs.Schedule.{is_answer_sent};
+ghost use Rattle.event_schedule.specs.Schedule.{is_answer_sent};
 ghost use Rattle.group_book.specs.Books.{has_round, shape_of, past};
 ghost use Rattle.audit_check.specs.OpenedParts.{IsOpenedBy, published_by, IsFewer, CountsRound, HasFewest, CountsGroup, AreCountedBy};
 

@@ -14,11 +14,12 @@ use crate::meeting::{has_frame, reading_of};
 use crate::telling::say;
 use crate::totals::may_open;
 use audit_rounds::Rounds;
+use event_schedule::Line;
 use frame_presence::presence_of_frames;
 use group_plan::{Kind, Plan, Presence, Tag};
 use missing_round::MeterSet;
 use std::alloc::{AllocError, Global};
-use transcript_log::{Line, Transcript};
+use transcript_log::Transcript;
 
 /// What is kept of each round while lines are replayed, and none of the lines.
 #[derive(Drop)]

@@ -3,18 +3,18 @@
 ghost use Rattle.std.specs.Prelude.{◌≡◌, ◌<◌, [], Some, None, IsTrue};
 ghost use Rattle.meter_frames.specs.Frames.{FitsKind};
 ghost use Rattle.group_book.specs.Books.{has_round, knows};
-ghost use Rattle.transcript_log.specs.declared.Line.TheVariants.{Send as SendLine, Take as TakeLine, Close as CloseLine, End as EndLine};
+ghost use Rattle.event_schedule.specs.declared.Line.TheVariants.{Send as SendLine, Take as TakeLine, Close as CloseLine, End as EndLine};
 ghost use Rattle.audit_check.specs.Replays.{Says, FitsBook, IsPostedOrEmpty};
 ghost use Rattle.audit_check.specs.Deciding.{Decides};
 
 use audit_rounds::Rounds;
+use event_schedule::Line;
 use group_book::SendAnswer;
 use group_plan::Tag;
 use meter_frames::Frame;
 use missing_round::MeterSet;
 use mod_word::Word;
 use round_machine::{Closing, Ending, Verdict};
-use transcript_log::Line;
 
 // A frame of the tag, where none is known.
 fn empty_frame(tag: Tag) -> Frame

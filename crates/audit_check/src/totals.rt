@@ -2,7 +2,7 @@
 
 ghost use Rattle.std.specs.Prelude.{◌≡◌, ◌-◌, ◌*◌, ◌^◌, ◌≤◌, length, sum_by, IsTrue};
 ghost use Rattle.missing_round.specs.Words.{word};
-ghost use Rattle.transcript_log.specs.Frames.{word_or_zero, first_word, contents_of_lines};
+ghost use Rattle.event_schedule.specs.Frames.{word_or_zero, first_word, contents_of_lines};
 ghost use Rattle.group_book.specs.Books.{has_round};
 ghost use Rattle.audit_check.specs.Answers.{MayOpen};
 ghost use Rattle.audit_check.specs.Deciding.{Decides};

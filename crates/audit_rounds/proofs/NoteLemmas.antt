@@ -6,11 +6,11 @@ use Rattle.group_plan.specs.declared.Kind.{Kind}
 use Rattle.group_plan.specs.declared.Kind.TheVariants.{Reading}
 use Rattle.group_plan.specs.Plans.{PlanView}
 use Rattle.group_plan.specs.Tables.{Table, is_present, is_same_place, IsPresenceTable, PresenceView, NotesReading}
-use Rattle.transcript_log.specs.declared.Line.{Line}
-use Rattle.transcript_log.specs.Events.{once, is_send}
-use Rattle.transcript_log.specs.Schedule.{shape_of_presence}
-use Rattle.transcript_log.specs.Journal.{past_of}
-use Rattle.transcript_log.proofs.ShapeLemmas.{AgreeOn}
+use Rattle.event_schedule.specs.declared.Line.{Line}
+use Rattle.event_schedule.specs.Events.{once, is_send}
+use Rattle.event_schedule.specs.Schedule.{shape_of_presence}
+use Rattle.event_schedule.specs.Journal.{past_of}
+use Rattle.event_schedule.proofs.ShapeLemmas.{AgreeOn}
 use Rattle.group_book.specs.Groups.{GroupView}
 use Rattle.group_book.specs.Pages.{PageView}
 use Rattle.group_book.specs.Replay.{IsPage, IsWord, frame_with, IsLedger, Replays, AreReplayed}

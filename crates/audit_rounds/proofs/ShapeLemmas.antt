@@ -8,17 +8,17 @@ use Rattle.group_plan.specs.declared.Kind.TheVariants.{Reading, Announcement, An
 use Rattle.group_plan.specs.declared.Tag.{Tag}
 use Rattle.group_plan.specs.Plans.{Group, members}
 use Rattle.meter_frames.specs.declared.Frame.{Frame}
-use Rattle.transcript_log.specs.declared.Event.{Event}
-use Rattle.transcript_log.specs.declared.Event.TheVariants.{Send, Take, Close, End}
-use Rattle.transcript_log.specs.declared.Line.{Line}
-use Rattle.transcript_log.specs.declared.Line.TheVariants.{Send as SendLine, Take as TakeLine, Close as CloseLine, End as EndLine}
-use Rattle.transcript_log.specs.Events.{once, event_of, frame_of, is_send, is_take}
-use Rattle.transcript_log.specs.Schedule.{Shape, is_ended, is_answer_sent, may_announce, may_send, is_sent, is_taken}
-use Rattle.transcript_log.specs.Transcript.{Contents, set_sent, frame, line, lines_after}
-use Rattle.transcript_log.specs.Frames.{contents_of_lines}
-use Rattle.transcript_log.specs.Journal.{past_of, core_line, IsJournalAfter}
-use Rattle.transcript_log.proofs.ScheduleLemmas.{after, once-cons, once-more, once-now}
-use Rattle.transcript_log.proofs.ShapeLemmas.{AgreeOn, reply_agree, survivors_agree, missing_agree, lines_agree}
+use Rattle.event_schedule.specs.declared.Event.{Event}
+use Rattle.event_schedule.specs.declared.Event.TheVariants.{Send, Take, Close, End}
+use Rattle.event_schedule.specs.declared.Line.{Line}
+use Rattle.event_schedule.specs.declared.Line.TheVariants.{Send as SendLine, Take as TakeLine, Close as CloseLine, End as EndLine}
+use Rattle.event_schedule.specs.Events.{once, event_of, frame_of, is_send, is_take}
+use Rattle.event_schedule.specs.Schedule.{Shape, is_ended, is_answer_sent, may_announce, may_send, is_sent, is_taken}
+use Rattle.event_schedule.specs.Transcript.{Contents, set_sent, frame, line, lines_after}
+use Rattle.event_schedule.specs.Frames.{contents_of_lines}
+use Rattle.event_schedule.specs.Journal.{past_of, core_line, IsJournalAfter}
+use Rattle.event_schedule.proofs.ScheduleLemmas.{after, once-cons, once-more, once-now}
+use Rattle.event_schedule.proofs.ShapeLemmas.{AgreeOn, reply_agree, survivors_agree, missing_agree, lines_agree}
 use Rattle.group_book.specs.Replay.{HasOwnFrames, IsJournal}
 use Rattle.group_book.proofs.LineLemmas.{past_of-push}
 

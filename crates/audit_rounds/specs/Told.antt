@@ -2,9 +2,9 @@
 use Rattle.std.specs.Prelude.{◌≡◌, ℕ, false, List}
 use Rattle.std.specs.List.{flat_map}
 use Rattle.group_plan.specs.declared.Kind.TheVariants.{Reading}
-use Rattle.transcript_log.specs.declared.Line.{Line}
-use Rattle.transcript_log.specs.Events.{once, is_send}
-use Rattle.transcript_log.specs.Journal.{past_of}
+use Rattle.event_schedule.specs.declared.Line.{Line}
+use Rattle.event_schedule.specs.Events.{once, is_send}
+use Rattle.event_schedule.specs.Journal.{past_of}
 use Rattle.transcript_log.specs.Lines.{LinesView}
 
 -- the lines of these lists, one list after another

@@ -9,10 +9,10 @@ use Rattle.std.proofs.lemmas.List.Elements.{All-append, All-map, All-nil}
 use Rattle.std.proofs.lemmas.List.Sums.{sum_by_push}
 use Rattle.std.proofs.lemmas.List.FromFn.{map-range_with_len_more}
 use Rattle.group_plan.specs.Plans.{PlanView, size, name_of}
-use Rattle.transcript_log.specs.declared.Line.{Line}
-use Rattle.transcript_log.specs.Tables.{Readings, reading_at}
-use Rattle.transcript_log.specs.Transcript.{transcript}
-use Rattle.transcript_log.proofs.ScheduleLemmas.{after-reverse}
+use Rattle.event_schedule.specs.declared.Line.{Line}
+use Rattle.event_schedule.specs.Tables.{Readings, reading_at}
+use Rattle.event_schedule.specs.Transcript.{transcript}
+use Rattle.event_schedule.proofs.ScheduleLemmas.{after-reverse}
 use Rattle.ideal_masks.specs.Offsets.{offsets, shift, Agree}
 use Rattle.ideal_masks.proofs.RowLists.{range-push}
 use Rattle.ideal_masks.proofs.TwoWorlds.{two_worlds}

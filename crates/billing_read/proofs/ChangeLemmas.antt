@@ -3,7 +3,7 @@ use Rattle.std.proofs.Common.{◌≡◌, ◌≢◌, ℕ, Bool, true, false, not,
 use Rattle.std.specs.Prelude.{◌==◌, Option, Some, None, is_some, unwrap_or, if◌then◌else◌}
 use Rattle.std.specs.Option.{option_map}
 use Rattle.std.proofs.lemmas.Bool.{false≢true, eq-eqb, ne_eqb}
-use Rattle.transcript_log.specs.Tables.{Readings, reading_at}
+use Rattle.event_schedule.specs.Tables.{Readings, reading_at}
 use Rattle.billing_read.specs.declared.partners.Partner.{Partner}
 use Rattle.billing_read.specs.Partners.{CanMove, CanExchange, move_of, moved, changed}
 use Rattle.billing_read.proofs.CountLemmas.{Steps, Exchanges}

@@ -6,7 +6,7 @@ use Rattle.std.proofs.lemmas.Bool.Decides.{nat_tests}
 use Rattle.group_plan.specs.Plans.{PlanView, is_place, size}
 use Rattle.group_plan.specs.Tables.{ReadingsView, reading, IsReadingTable, PutsReading, is_same_place}
 use Rattle.group_plan.proofs.TableLemmas.{entry_outside}
-use Rattle.transcript_log.specs.Tables.{Readings}
+use Rattle.event_schedule.specs.Tables.{Readings}
 use Rattle.ideal_masks.specs.OffsetEnds.{is_earlier}
 use Rattle.billing_read.specs.declared.partners.Partner.{Partner}
 use Rattle.billing_read.specs.Partners.{changed, move_of, moved}

@@ -8,10 +8,10 @@ use Rattle.missing_round.specs.Sets.{is_member}
 use Rattle.group_plan.specs.Plans.{PlanView, size, is_place, members, is_member as is_of}
 use Rattle.group_plan.specs.Tables.{Table, ReadingsView, reading, IsReadingTable}
 use Rattle.group_plan.proofs.TableLemmas.{entry_outside}
-use Rattle.transcript_log.specs.declared.Event.{Event}
-use Rattle.transcript_log.specs.Tables.{Readings, reading_at, plain_sum}
-use Rattle.transcript_log.specs.Schedule.{Shape, is_opened, survivors, is_reading_taken}
-use Rattle.transcript_log.specs.Transcript.{shape_of_readings}
+use Rattle.event_schedule.specs.declared.Event.{Event}
+use Rattle.event_schedule.specs.Tables.{Readings, reading_at, plain_sum}
+use Rattle.event_schedule.specs.Schedule.{Shape, is_opened, survivors, is_reading_taken}
+use Rattle.event_schedule.specs.Transcript.{shape_of_readings}
 use Rattle.billing_read.specs.declared.bills.Bill.{Bill}
 use Rattle.billing_read.specs.declared.partners.Partner.{Partner}
 use Rattle.billing_read.specs.Bills.{rounds_in, bill, bills}

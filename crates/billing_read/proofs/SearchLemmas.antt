@@ -5,9 +5,9 @@ use Rattle.std.proofs.lemmas.Bool.{false≢true, and_parts, and_from, ltb-true, 
 use Rattle.std.proofs.lemmas.Bool.Decides.{nat_tests}
 use Rattle.group_plan.specs.Plans.{PlanView, size, is_place}
 use Rattle.group_plan.specs.Tables.{Table, ReadingsView, reading, IsReadingTable}
-use Rattle.transcript_log.specs.declared.Event.{Event}
-use Rattle.transcript_log.specs.Schedule.{Shape}
-use Rattle.transcript_log.specs.Transcript.{shape_of_readings}
+use Rattle.event_schedule.specs.declared.Event.{Event}
+use Rattle.event_schedule.specs.Schedule.{Shape}
+use Rattle.event_schedule.specs.Transcript.{shape_of_readings}
 use Rattle.group_book.specs.Books.{BookView, shape_of, past}
 use Rattle.ideal_masks.specs.Replaying.{HasEvents}
 use Rattle.ideal_masks.proofs.WorldLemmas.{shape-of_events}

@@ -2,7 +2,7 @@
 use Rattle.std.specs.Prelude.{ℕ, ◌+◌, ◌-◌, min, List, length, map, count_by, sum_by, Option, Some, None, is_some}
 use Rattle.std.specs.List.{flat_map, range_with_len}
 use Rattle.group_plan.specs.Plans.{PlanView, size}
-use Rattle.transcript_log.specs.Tables.{Readings, reading_at}
+use Rattle.event_schedule.specs.Tables.{Readings, reading_at}
 use Rattle.billing_read.specs.declared.bills.Bill.{Bill}
 
 -- the rounds of a plan that lie in the period, ascending

@@ -1,7 +1,7 @@
 -- The changed table while it is made, place by place.
 use Rattle.std.specs.Prelude.{◌≡◌, ℕ, ◌<◌, ◌^◌, Bool, true, Option, Some, None}
 use Rattle.group_plan.specs.Tables.{ReadingsView, reading}
-use Rattle.transcript_log.specs.Tables.{Readings}
+use Rattle.event_schedule.specs.Tables.{Readings}
 use Rattle.ideal_masks.specs.OffsetEnds.{is_earlier}
 use Rattle.billing_read.specs.declared.changes.Change.{Change}
 use Rattle.billing_read.specs.Partners.{CanMove, CanExchange, changed}

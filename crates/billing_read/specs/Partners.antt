@@ -2,9 +2,9 @@
 use Rattle.std.specs.Prelude.{◌≡◌, ◌≢◌, ℕ, ◌+◌, ◌-◌, ◌^◌, ◌<◌, ◌≤◌, ◌==◌, ◌&&◌, ◌||◌, not, Bool, true, false, List, Option, Some, None, if◌then◌else◌}
 use Rattle.std.specs.Option.{option_map}
 use Rattle.missing_round.specs.Sets.{is_member}
-use Rattle.transcript_log.specs.declared.Event.{Event}
-use Rattle.transcript_log.specs.Tables.{Readings}
-use Rattle.transcript_log.specs.Schedule.{Shape, is_opened, survivors}
+use Rattle.event_schedule.specs.declared.Event.{Event}
+use Rattle.event_schedule.specs.Tables.{Readings}
+use Rattle.event_schedule.specs.Schedule.{Shape, is_opened, survivors}
 use Rattle.billing_read.specs.declared.partners.Partner.{Partner}
 
 -- ---- the four places

@@ -1,8 +1,8 @@
 -- Worked rows: three meters over two rounds, where meter 2 has no reading in round 0.
 use Rattle.std.specs.Prelude.{ℕ, List, [], ◌∷◌, true, Option}
 use Rattle.group_plan.specs.Plans.{PlanView}
-use Rattle.transcript_log.specs.Rows.{joining, joining_readings}
-use Rattle.transcript_log.specs.Tables.{Readings}
+use Rattle.event_schedule.specs.Rows.{joining, joining_readings}
+use Rattle.event_schedule.specs.Tables.{Readings}
 use Rattle.billing_read.specs.declared.bills.Bill.{Bill}
 use Rattle.billing_read.specs.declared.partners.Partner.{Partner}
 use Rattle.billing_read.specs.Partners.{changed}

@@ -1,10 +1,10 @@
 -- What the laws of this crate say. Each is proved for every plan, period, table and schedule.
 use Rattle.std.specs.Prelude.{◌≡◌, ℕ, List, reverse, is_some}
 use Rattle.group_plan.specs.Plans.{PlanView}
-use Rattle.transcript_log.specs.declared.Event.{Event}
-use Rattle.transcript_log.specs.declared.Line.{Line}
-use Rattle.transcript_log.specs.Tables.{Readings, Masks, IsOfPlan, IsBounded}
-use Rattle.transcript_log.specs.Transcript.{transcript}
+use Rattle.event_schedule.specs.declared.Event.{Event}
+use Rattle.event_schedule.specs.declared.Line.{Line}
+use Rattle.event_schedule.specs.Tables.{Readings, Masks, IsOfPlan, IsBounded}
+use Rattle.event_schedule.specs.Transcript.{transcript}
 use Rattle.ideal_masks.specs.Offsets.{offsets, shift, Agree}
 use Rattle.billing_read.specs.declared.bills.Bill.{Bill}
 use Rattle.billing_read.specs.Bills.{bills}

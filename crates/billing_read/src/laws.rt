@@ -1,7 +1,7 @@
 //! Billing isolation, and worked rows. Each law is a contract with an empty body.
 
 ghost use Rattle.std.specs.Prelude.{◌≡◌, [], ◌∷◌, Some};
-ghost use Rattle.transcript_log.specs.Rows.{joining_readings};
+ghost use Rattle.event_schedule.specs.Rows.{joining_readings};
 ghost use Rattle.billing_read.specs.Bills.{bills};
 ghost use Rattle.billing_read.specs.Rows.{two_rounds, bill_of, four_changed};
 ghost use Rattle.billing_read.specs.Statements.{BillsIsolated, BillsConverse};

@@ -2,7 +2,7 @@
 ghost use Rattle.std.specs.Prelude.{◌≡◌, ◌<◌, ◌≤◌, ◌+◌, ◌↔◌, ◌&&◌, nat_le, nat_lt, IsTrue, IfOk, IfSome};
 ghost use Rattle.group_plan.specs.Plans.{is_place};
 ghost use Rattle.group_plan.specs.Tables.{reading, IsReadingTable};
-ghost use Rattle.transcript_log.specs.Events.{events_of};
+ghost use Rattle.event_schedule.specs.Events.{events_of};
 ghost use Rattle.group_book.specs.Books.{shape_of, past};
 ghost use Rattle.ideal_masks.specs.Chains.{IsOpened};
 ghost use Rattle.billing_read.specs.Partners.{CanMove, CanExchange, KeepsTotal};

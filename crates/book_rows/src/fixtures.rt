@@ -6,6 +6,7 @@ ghost use Rattle.group_plan.specs.declared.Kind.TheVariants.{Reading};
 ghost use Rattle.shared_book.specs.Passes.{new_pass};
 ghost use Rattle.shared_book.specs.Ends.{view, IsPassOf};
 
+use event_schedule::Line;
 use group_book::{Book, SendAnswer};
 use group_plan::{Plan, Presence, Readings};
 use meter_frames::{Frame, encode};
@@ -17,7 +18,6 @@ use std::alloc::Global;
 use std::fmt::Debug;
 use std::process::Abort;
 use std::test::Fail;
-use transcript_log::Line;
 
 /// Looks for this value.
 pub(crate) fn check_same<T: PartialEq + Debug>(rt: &impl Abort, came: &T, value: &T, row: &str) {

@@ -3,11 +3,12 @@
 ghost use Rattle.std.specs.Prelude.{◌≡◌, ◌≤◌, [], IfOk};
 ghost use Rattle.group_plan.specs.Plans.{last_tick};
 ghost use Rattle.link_lanes.specs.Racks.{posts_of, HasRoom};
-ghost use Rattle.transcript_log.specs.Events.{lines_of};
+ghost use Rattle.event_schedule.specs.Events.{lines_of};
 
 use crate::fixtures::{check, check_same, is_same, reading_frame};
 use crate::twin_worlds_table_rows::ideal_table;
 use collector_workers::{Crew, Free, Workers};
+use event_schedule::Line;
 use group_plan::Readings;
 use link_lanes::Rack;
 use mask_stream::Masks;
@@ -18,7 +19,7 @@ use std::sync::Wait;
 use std::test::Fail;
 use std::thread::Threads;
 use tick_run::{Finished, Run, run_masked, run_plan};
-use transcript_log::{Line, Lines};
+use transcript_log::Lines;
 
 // Whether this is the last line.
 fn ends_with(lines: &Lines, last: &Line) -> bool {

@@ -3,10 +3,10 @@
 ghost use Rattle.std.specs.Prelude.{◌≡◌, true};
 ghost use Rattle.transcript_text.specs.Writing.{IsWritable};
 
+use event_schedule::Line;
 use group_plan::Kind;
 use missing_round::MeterSet;
 use mod_word::Word;
-use transcript_log::Line;
 
 /// As `PLAIN`, but the reading of meter 2 comes after the Close.
 pub(crate) static LATE: &str = "\

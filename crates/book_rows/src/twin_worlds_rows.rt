@@ -2,6 +2,7 @@
 
 use crate::fixtures::check;
 use crate::transcripts::{LATE, is_writable};
+use event_schedule::{Entry, Line};
 use group_plan::{Plan, Span};
 use ideal_masks::Differ;
 use link_lanes::Fate;
@@ -10,7 +11,7 @@ use std::alloc::Global;
 use std::process::Abort;
 use std::test::Fail;
 use std::thread::Threads;
-use transcript_log::{Entry, Line, Transcript};
+use transcript_log::Transcript;
 use transcript_text::{ReadError, line_text, write};
 use twin_worlds::{MovedWords, ReadingTables, TwinError, moved_text, twin};
 

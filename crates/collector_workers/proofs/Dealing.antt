@@ -7,12 +7,12 @@ use Rattle.std.proofs.lemmas.List.Elements.{filter-append}
 use Rattle.group_plan.specs.Plans.{PlanView}
 use Rattle.meter_frames.specs.declared.FrameError.{FrameError}
 use Rattle.meter_frames.specs.declared.Frame.{Frame}
-use Rattle.transcript_log.specs.declared.Line.{Line}
-use Rattle.transcript_log.specs.declared.Event.{Event}
-use Rattle.transcript_log.specs.declared.Event.TheVariants.{Take as TakeEvent, Close, End}
-use Rattle.transcript_log.specs.Events.{event_of}
+use Rattle.event_schedule.specs.declared.Line.{Line}
+use Rattle.event_schedule.specs.declared.Event.{Event}
+use Rattle.event_schedule.specs.declared.Event.TheVariants.{Take as TakeEvent, Close, End}
+use Rattle.event_schedule.specs.Events.{event_of}
 use Rattle.group_book.specs.Books.{BookView, posted_in}
-use Rattle.transcript_log.specs.ByGroup.{group_of}
+use Rattle.event_schedule.specs.ByGroup.{group_of}
 use Rattle.group_book.specs.Places.{is_round}
 use Rattle.group_plan.specs.Plans.{is_place}
 use Rattle.shared_book.specs.declared.parcel.Parcel.{Parcel}

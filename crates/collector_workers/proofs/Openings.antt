@@ -10,17 +10,17 @@ use Rattle.std.proofs.lemmas.List.Sums.{sum_by-cons}
 use Rattle.meter_frames.specs.declared.Frame.{Frame}
 use Rattle.meter_frames.specs.declared.FrameError.{FrameError}
 use Rattle.group_plan.specs.Plans.{is_place}
-use Rattle.transcript_log.specs.declared.Event.{Event}
-use Rattle.transcript_log.specs.declared.Line.{Line}
-use Rattle.transcript_log.specs.declared.Line.TheVariants.{Send as SendLine, Take as TakeLine, Close as CloseLine, End as EndLine}
-use Rattle.transcript_log.specs.Events.{event_of}
-use Rattle.transcript_log.specs.Schedule.{Shape}
+use Rattle.event_schedule.specs.declared.Event.{Event}
+use Rattle.event_schedule.specs.declared.Line.{Line}
+use Rattle.event_schedule.specs.declared.Line.TheVariants.{Send as SendLine, Take as TakeLine, Close as CloseLine, End as EndLine}
+use Rattle.event_schedule.specs.Events.{event_of}
+use Rattle.event_schedule.specs.Schedule.{Shape}
 use Rattle.transcript_log.specs.Lines.{HasOwnTag}
-use Rattle.transcript_log.specs.Journal.{IsJournalAfter}
+use Rattle.event_schedule.specs.Journal.{IsJournalAfter}
 use Rattle.group_book.specs.declared.book.Parts.{Parts}
 use Rattle.group_book.specs.Books.{BookView, shape_of, posted_in, is_plain}
 use Rattle.group_book.specs.declared.answers.TakeError.TheVariants.{Unknown}
-use Rattle.transcript_log.specs.ByGroup.{group_of, lines_in}
+use Rattle.event_schedule.specs.ByGroup.{group_of, lines_in}
 use Rattle.group_book.specs.Replay.{IsLedger, AreReplayed}
 use Rattle.group_book.proofs.PlainLines.{posted_in-added}
 use Rattle.group_book.proofs.OwnLines.{groups_stay}

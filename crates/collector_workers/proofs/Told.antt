@@ -7,8 +7,8 @@ use Rattle.std.proofs.lemmas.List.Elements.{All-nil, All-cons, All-head, All-tai
 use Rattle.transcript_log.specs.Lines.{HasOwnTag}
 use Rattle.std.proofs.lemmas.List.{map-append, take_more}
 use Rattle.meter_frames.specs.declared.FrameError.{FrameError}
-use Rattle.transcript_log.specs.declared.Line.{Line}
-use Rattle.transcript_log.specs.Events.{event_of}
+use Rattle.event_schedule.specs.declared.Line.{Line}
+use Rattle.event_schedule.specs.Events.{event_of}
 use Rattle.group_book.specs.Books.{BookView, shape_of}
 use Rattle.shared_book.specs.declared.parcel.Parcel.{Parcel}
 use Rattle.shared_book.specs.declared.parcel.Request.{Request}

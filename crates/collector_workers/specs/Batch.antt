@@ -1,10 +1,10 @@
 -- A batch of parcels: what each is marked with, and what the book gains.
 use Rattle.std.specs.Prelude.{◌≡◌, Bool, false, List, ◌++◌, map, count_by, zip, Option, Some, None, Result, Ok, Err}
 use Rattle.std.specs.List.{AllZip}
-use Rattle.transcript_log.specs.declared.Event.{Event}
-use Rattle.transcript_log.specs.declared.Line.{Line}
-use Rattle.transcript_log.specs.Events.{event_of}
-use Rattle.transcript_log.specs.Journal.{IsJournalAfter}
+use Rattle.event_schedule.specs.declared.Event.{Event}
+use Rattle.event_schedule.specs.declared.Line.{Line}
+use Rattle.event_schedule.specs.Events.{event_of}
+use Rattle.event_schedule.specs.Journal.{IsJournalAfter}
 use Rattle.group_book.specs.Books.{BookView, shape_of}
 use Rattle.shared_book.specs.declared.parcel.Parcel.{Parcel}
 use Rattle.shared_book.specs.declared.parcel.Reply.{Reply}

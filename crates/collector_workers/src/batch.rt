@@ -14,12 +14,13 @@ use crate::mark::{CollectRefused, Collected, Mark};
 use crate::outcome::Outcome;
 use crate::worker::{join_all, merge, split_all, work_all};
 use crate::workload::all_workloads;
+use event_schedule::Line;
 use group_book::{Book, Parts};
 use shared_book::{BeginRefused, Parcel, Pass, SharedBook};
 use std::alloc::AllocError;
 use std::sync::Wait;
 use std::thread::Threads;
-use transcript_log::{Line, Lines};
+use transcript_log::Lines;
 
 /// Commits a batch on a shared book by the crew's workers, each with a pass of its own and the parcels of its groups, and answers
 /// what became of each parcel, in the order of the batch. No other pass is out meanwhile, so `first` has no pages either. At `Err`

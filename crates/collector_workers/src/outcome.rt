@@ -1,12 +1,13 @@
 //! What becomes of a parcel by its commit.
 
 ghost use Rattle.std.specs.Prelude.{◌≡◌, ◌++◌, ◌∷◌, ◌<◌, [], List, Some, None, length, slice_index_or};
-ghost use Rattle.transcript_log.specs.declared.Line.{Line as LineView};
+ghost use Rattle.event_schedule.specs.declared.Line.{Line as LineView};
 ghost use Rattle.collector_workers.specs.Outcomes.{IsTold};
 
 use crate::mark::Mark;
+use event_schedule::Line;
 use shared_book::{CommitError, Reply};
-use transcript_log::{Line, Lines};
+use transcript_log::Lines;
 
 /// What became of a parcel: its mark, and the line that it added where it is accepted.
 #[derive(Clone, Copy)]

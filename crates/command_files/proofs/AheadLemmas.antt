@@ -1,12 +1,12 @@
 -- A transcript's file that is written ahead.
 use Rattle.std.proofs.Common.{◌≡◌, ◌<◌, ◌-◌, List, [], ◌∷◌, ◌++◌, length, refl, arith, ◌+◌, ℕ, take, sym, subst, ◌≤◌, ◌∙◌, zero, suc, drop, ap, length-append, ◌^◌, min, append_assoc}
 use Rattle.group_plan.specs.Plans.{PlanView}
-use Rattle.transcript_log.specs.declared.Entry.{Entry}
+use Rattle.event_schedule.specs.declared.Entry.{Entry}
 use Rattle.transcript_text.specs.Writing.{begun_text, lines_text}
 use Rattle.command_files.specs.Ahead.{text_ahead, IsAhead, IsNext, MakesSome}
 use Rattle.transcript_text.proofs.BegunText.{begun_more}
 use Rattle.std.proofs.lemmas.List.{length-take-le, take-append-drop, take_all, take-append-le}
-use Rattle.transcript_log.specs.Transcripts.{TranscriptView}
+use Rattle.event_schedule.specs.Transcripts.{TranscriptView}
 use Rattle.tick_run.specs.Runs.{RunView, MakesTicks, told_by}
 use Rattle.transcript_text.specs.Spelling.{transcript_text}
 

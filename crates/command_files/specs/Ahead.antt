@@ -1,9 +1,9 @@
 -- A transcript's file that is written ahead, while the run goes on.
 use Rattle.std.specs.Prelude.{ℕ, List, [], ◌∷◌, ◌≤◌, length, take, ◌≡◌, ◌<◌, ◌^◌, drop, Result, IfOk}
 use Rattle.group_plan.specs.Plans.{PlanView}
-use Rattle.transcript_log.specs.declared.Entry.{Entry}
+use Rattle.event_schedule.specs.declared.Entry.{Entry}
 use Rattle.transcript_text.specs.Writing.{begun_text}
-use Rattle.transcript_log.specs.Transcripts.{TranscriptView}
+use Rattle.event_schedule.specs.Transcripts.{TranscriptView}
 use Rattle.tick_run.specs.Runs.{RunView, MakesTicks, HaveMet}
 use Rattle.std.specs.declared.alloc.AllocError.{AllocError}
 use Rattle.link_lanes.specs.declared.Post.{Post}

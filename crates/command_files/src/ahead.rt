@@ -1,7 +1,7 @@
 //! The file of a transcript, of which much is written ahead, while the run goes on.
 
 ghost use Rattle.std.specs.Prelude.{◌<◌, ◌≡◌, ◌≤◌, [], length, take, IfOk, IfSome, ◌++◌};
-ghost use Rattle.transcript_log.specs.Transcripts.{TranscriptView};
+ghost use Rattle.event_schedule.specs.Transcripts.{TranscriptView};
 ghost use Rattle.transcript_text.specs.Spelling.{transcript_text};
 ghost use Rattle.transcript_text.specs.Writing.{begun_text, lines_text};
 ghost use Rattle.tick_run.specs.Runs.{told_by};

@@ -4,7 +4,7 @@ ghost use Rattle.std.specs.Prelude.{◌≡◌, ◌≤◌, List, IfOk, []};
 ghost use Rattle.group_plan.specs.Plans.{last_tick};
 ghost use Rattle.link_lanes.specs.Racks.{slots, posts_of, HasRoom};
 ghost use Rattle.command_files.specs.Ahead.{Ticks, IsAhead, IsNext};
-ghost use Rattle.transcript_log.specs.Transcripts.{TranscriptView};
+ghost use Rattle.event_schedule.specs.Transcripts.{TranscriptView};
 ghost use Rattle.link_lanes.specs.Lanes.{Slot};
 ghost use Rattle.tick_run.specs.Runs.{told_by, HaveMet, IsOver};
 ghost use Rattle.tick_run.specs.Finished.{IsFinishedUnder};

@@ -7,12 +7,12 @@ use crate::fixtures::{
 use crate::run_tests::{Greatest, Meeting};
 use collector_workers::{Free, Gate};
 use desk_outside::MemoryDesk;
+use event_schedule::Line;
 use std::alloc::Global;
 use std::process::Abort;
 use std::sync::Wait;
 use std::test::Fail;
 use std::thread::Threads;
-use transcript_log::Line;
 use transcript_text::read;
 
 const SUMMARY: &str = "rounds=768 totals=632 none=136 thin=0 sends=45025 takes=45251\n";

@@ -2,7 +2,7 @@
 use Rattle.std.proofs.Common.{◌≡◌, List, ℕ, Ok}
 use Rattle.transcript_text.specs.declared.version.Version.TheVariants.{Two}
 use Rattle.transcript_text.specs.Heads.{read_of}
-use Rattle.transcript_log.specs.Transcripts.{TranscriptView}
+use Rattle.event_schedule.specs.Transcripts.{TranscriptView}
 use Rattle.command_words.specs.declared.outcome.Outcome.{Outcome}
 use Rattle.command_words.specs.declared.outcome.Outcome.TheVariants.{NoMemory, BadReport}
 use Rattle.command_texts.specs.Audits.{ReportRefuses, AuditRefuses}

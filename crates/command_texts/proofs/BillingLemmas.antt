@@ -3,7 +3,7 @@ use Rattle.std.proofs.Common.{ℕ, List, inr, Result, Ok, Err, inl}
 use Rattle.std.specs.Prelude.{IfOk, IfErr}
 use Rattle.group_plan.specs.Plans.{PlanView}
 use Rattle.group_plan.specs.Tables.{ReadingsView}
-use Rattle.transcript_log.specs.Transcripts.{TranscriptView}
+use Rattle.event_schedule.specs.Transcripts.{TranscriptView}
 use Rattle.command_words.specs.declared.outcome.Outcome.{Outcome}
 use Rattle.command_words.specs.declared.words.Period.{Period}
 use Rattle.command_words.specs.declared.words.PlaceWords.{PlaceWords}

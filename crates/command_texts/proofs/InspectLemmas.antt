@@ -1,7 +1,7 @@
 -- What the parts of `inspect` come to.
 use Rattle.std.proofs.Common.{◌≡◌, ℕ, List, Ok, ◌≢◌, subst, Err, ◌∙◌, sym, ap, inr, Result}
 use Rattle.group_plan.specs.Plans.{PlanView}
-use Rattle.transcript_log.specs.Transcripts.{TranscriptView}
+use Rattle.event_schedule.specs.Transcripts.{TranscriptView}
 use Rattle.transcript_text.specs.declared.version.Version.TheVariants.{Two}
 use Rattle.transcript_text.specs.Heads.{read_of}
 use Rattle.command_words.specs.declared.outcome.Outcome.{Outcome}
@@ -13,7 +13,7 @@ use Rattle.twin_worlds.specs.Twins.{IsTextOf}
 use Rattle.twin_worlds.specs.declared.answers.TwinError.{TwinError}
 use Rattle.twin_worlds.specs.declared.answers.TwinError.TheVariants as twin
 use Rattle.twin_worlds.specs.Ends.{HeadEnds}
-use Rattle.transcript_log.specs.Frames.{IsPossible}
+use Rattle.event_schedule.specs.Frames.{IsPossible}
 use Rattle.totals_report.specs.declared.row.ReportRow.{ReportRow}
 use Rattle.audit_check.specs.Audits.{lines_in}
 use Rattle.std.specs.Prelude.{IfOk, IfErr}

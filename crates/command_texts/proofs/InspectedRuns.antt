@@ -3,21 +3,21 @@ use Rattle.std.proofs.Common.{◌≡◌, ◌+◌, List, ◌∷◌, length, map, 
 use Rattle.std.proofs.lemmas.List.{length-map, take-append-drop}
 use Rattle.group_plan.specs.declared.Tag.{Tag}
 use Rattle.link_lanes.specs.declared.Post.{Post}
-use Rattle.transcript_log.specs.declared.Entry.{Entry}
-use Rattle.transcript_log.specs.Events.{event_of, lines_of}
+use Rattle.event_schedule.specs.declared.Entry.{Entry}
+use Rattle.event_schedule.specs.Events.{event_of, lines_of}
 use Rattle.run_rows.specs.Ticks.{tags_of, posts_of}
 use Rattle.std.specs.Prelude.{cond, Some, None, ◌+◌}
-use Rattle.transcript_log.specs.declared.Line.{Line}
-use Rattle.transcript_log.specs.declared.Line.TheVariants.{Send as SendLine, Take as TakeLine, Close as CloseLine, End as EndLine}
+use Rattle.event_schedule.specs.declared.Line.{Line}
+use Rattle.event_schedule.specs.declared.Line.TheVariants.{Send as SendLine, Take as TakeLine, Close as CloseLine, End as EndLine}
 use Rattle.run_rows.specs.Summary.{is_sending, Summary}
 use Rattle.run_course.specs.Beginnings.{is_void_send, IsSomeRun}
 use Rattle.std.specs.List.{count_by}
 use Rattle.std.proofs.lemmas.List.Sums.{sum_by-cons}
 use Rattle.std.proofs.lemmas.List.Elements.{All-nil, All-cons, All-head, All-tail}
-use Rattle.transcript_log.specs.Transcripts.{IsEntry, IsFate, TranscriptView}
+use Rattle.event_schedule.specs.Transcripts.{IsEntry, IsFate, TranscriptView}
 use Rattle.command_texts.specs.Inspecting.{IsNotInTime, JudgeRefuses, RunsAreInspected}
 use Rattle.link_lanes.specs.Lanes.{Meaning}
-use Rattle.transcript_log.specs.Transcript.{Contents, contents_of_tables}
+use Rattle.event_schedule.specs.Transcript.{Contents, contents_of_tables}
 use Rattle.run_rows.proofs.SummaryLemmas.{summaries}
 use Rattle.command_texts.specs.declared.sharing.Sharing.{Sharing}
 use Rattle.command_texts.specs.Runs.{words_by, plan_in, readings_in, shape_in, clock_in, Texts, MakesBy, row_in, transcript_in}

@@ -12,7 +12,7 @@ use Rattle.transcript_text.specs.Spelling.{stated_spans, text_of, head_text, ent
 use Rattle.plan_files.specs.declared.form.PlanForm.TheVariants.{Public}
 use Rattle.std.proofs.lemmas.Grind.{flat_map-append}
 use Rattle.std.proofs.lemmas.Fmt.{decimal_digit}
-use Rattle.transcript_log.specs.Transcripts.{no_entries}
+use Rattle.event_schedule.specs.Transcripts.{no_entries}
 use Rattle.std.proofs.Math.Seq.{take-append_seam}
 
 -- a row is its fields joined by commas, and a newline

@@ -16,16 +16,16 @@ use Rattle.pair_keys.specs.Keys.{Keys}
 use Rattle.totals_report.specs.Books.{row_in as book_row}
 use Rattle.totals_report.specs.declared.row.ReportRow.{ReportRow}
 use Rattle.totals_report.specs.Reading.{rows_of_text}
-use Rattle.transcript_log.specs.Transcripts.{TranscriptView}
+use Rattle.event_schedule.specs.Transcripts.{TranscriptView}
 use Rattle.command_texts.specs.RunTexts.{AreTextsOf}
 use Rattle.command_texts.specs.declared.sharing.Sharing.TheVariants.{WithEach}
 use Rattle.command_texts.specs.Runs.{Texts, IsRunOf, AreSound, readings_in, shape_in, AreTexts, row_in}
 use Rattle.mask_stream.specs.KeyStreams.{streams}
 use Rattle.plan_files.specs.Registers.{table, AreRegisters, RegistersView, RegistersEnd, tables_of}
 use Rattle.register_words.specs.Statements.{first_lines}
-use Rattle.transcript_log.specs.declared.Entry.{Entry}
-use Rattle.transcript_log.specs.Events.{events_of, lines_of}
-use Rattle.transcript_log.specs.Transcript.{transcript, shape_of_readings}
+use Rattle.event_schedule.specs.declared.Entry.{Entry}
+use Rattle.event_schedule.specs.Events.{events_of, lines_of}
+use Rattle.event_schedule.specs.Transcript.{transcript, shape_of_readings}
 use Rattle.command_texts.specs.RegisterRuns.{RegisterValues, first_values, IsWorld, HasPlainSums, HasRowTotals, side_rows_in, AreRegisterValues, RegistersMake}
 use Rattle.register_words.specs.Sides.{side_rows, and_rows, side_frame, side_row, rows_of}
 use Rattle.register_words.specs.Words.{register_streams}
@@ -34,15 +34,15 @@ use Rattle.register_words.proofs.WorldLemmas.{side_words_are_world, each_isolate
 use Rattle.transcript_text.specs.EntryLines.{entry_line}
 use Rattle.register_words.specs.SideReports.{side_total, words_in, register_report}
 use Rattle.register_words.proofs.TotalLemmas.{side_totals_are_plain}
-use Rattle.transcript_log.specs.Schedule.{is_opened, survivors, EndedThin, Published, Running, Unpublished, Shape, all_taken, is_announced, is_ended, is_published, lacking, is_reading_taken}
-use Rattle.transcript_log.specs.Tables.{Readings, plain_sum}
+use Rattle.event_schedule.specs.Schedule.{is_opened, survivors, EndedThin, Published, Running, Unpublished, Shape, all_taken, is_announced, is_ended, is_published, lacking, is_reading_taken}
+use Rattle.event_schedule.specs.Tables.{Readings, plain_sum}
 use Rattle.transcript_text.specs.Spelling.{transcript_text}
-use Rattle.transcript_log.specs.declared.Event.{Event}
-use Rattle.transcript_log.proofs.ListLemmas.{and_first}
+use Rattle.event_schedule.specs.declared.Event.{Event}
+use Rattle.event_schedule.proofs.ListLemmas.{and_first}
 use Rattle.missing_round.specs.Sets.{is_member, less}
 use Rattle.missing_round.proofs.SetLemmas.{is_member-filter, same_filter}
 use Rattle.meter_frames.specs.declared.Frame.{Frame}
-use Rattle.transcript_log.specs.declared.Line.{Line}
+use Rattle.event_schedule.specs.declared.Line.{Line}
 use Rattle.std.proofs.lemmas.List.Elements.{All-cons, All-nil}
 use Rattle.chacha_lanes.proofs.BlockLemmas.{map_range}
 use Rattle.ideal_masks.specs.Isolation.{Isolated}

@@ -1,6 +1,6 @@
 -- From what the crates below say of a run that goes on from a cut to what the program says of it.
 use Rattle.std.proofs.Common.{Ok, ◌≡◌, ◌∙◌, List, ap, sym, ◌≤◌, ℕ, length, length-append, take, arith}
-use Rattle.transcript_log.specs.Transcripts.{TranscriptView}
+use Rattle.event_schedule.specs.Transcripts.{TranscriptView}
 use Rattle.tick_run.specs.declared.finished.Finished.{Finished}
 use Rattle.cut_resume.specs.Resumed.{IsResumed}
 use Rattle.command_texts.specs.declared.sharing.Sharing.TheVariants.{WithEach}

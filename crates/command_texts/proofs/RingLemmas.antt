@@ -5,10 +5,10 @@ use Rattle.group_plan.specs.Tables.{reading, IsReadingTable}
 use Rattle.ideal_masks.specs.ListTables.{ReadingTable}
 use Rattle.ideal_masks.specs.Offsets.{shift}
 use Rattle.ideal_masks.proofs.TwoWorlds.{unshift-shift, shift-unshift}
-use Rattle.transcript_log.specs.declared.Event.{Event}
-use Rattle.transcript_log.specs.Tables.{IsOfPlan, IsBounded}
-use Rattle.transcript_log.specs.Transcript.{transcript}
-use Rattle.transcript_log.proofs.ScheduleLemmas.{after-reverse}
+use Rattle.event_schedule.specs.declared.Event.{Event}
+use Rattle.event_schedule.specs.Tables.{IsOfPlan, IsBounded}
+use Rattle.event_schedule.specs.Transcript.{transcript}
+use Rattle.event_schedule.proofs.ScheduleLemmas.{after-reverse}
 use Rattle.sparse_masks.specs.Neighbours.{ring}
 use Rattle.sparse_masks.specs.Offsets.{RingAgree, ring_offsets}
 use Rattle.sparse_masks.proofs.WorldLemmas.{ring_worlds}

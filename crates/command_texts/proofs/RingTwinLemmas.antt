@@ -1,10 +1,10 @@
 -- What two tables come to on a ring, for the values of files.
 use Rattle.std.proofs.Common.{◌≡◌, ℕ, List, sym, subst, Err, Ok, ap, ◌∙◌, inl, inr}
-use Rattle.transcript_log.specs.Tables.{Masks}
-use Rattle.transcript_log.specs.Transcript.{transcript}
+use Rattle.event_schedule.specs.Tables.{Masks}
+use Rattle.event_schedule.specs.Transcript.{transcript}
 use Rattle.command_texts.specs.RingTwins.{ring_words, RingUnrecorded, RingCompared, ring_moved, RingTwinRefuses}
 use Rattle.command_texts.specs.Twins.{TwinBytes, TwinValues, AreTwinValues}
-use Rattle.transcript_log.specs.Transcripts.{TranscriptView}
+use Rattle.event_schedule.specs.Transcripts.{TranscriptView}
 use Rattle.twin_worlds.specs.Twins.{IsRecord, SameWorldEnds}
 use Rattle.twin_worlds.specs.declared.answers.TwinError.{TwinError}
 use Rattle.std.specs.Prelude.{reverse}
@@ -12,8 +12,8 @@ use Rattle.group_plan.specs.Plans.{PlanView}
 use Rattle.group_plan.specs.Tables.{ReadingsView, reading}
 use Rattle.ideal_masks.specs.declared.Offset.{Offset}
 use Rattle.mask_stream.specs.KeyStreams.{streams}
-use Rattle.transcript_log.specs.declared.Event.{Event}
-use Rattle.transcript_log.specs.Events.{events_of}
+use Rattle.event_schedule.specs.declared.Event.{Event}
+use Rattle.event_schedule.specs.Events.{events_of}
 use Rattle.sparse_masks.specs.OffsetEnds.{RingOffsetsEnd, HasRingWorlds, HasNoRingWorlds}
 use Rattle.sparse_masks.proofs.WorldLemmas.{ring-shifts}
 use Rattle.twin_worlds.specs.declared.rows.MovedRow.{MovedRow}

@@ -4,25 +4,25 @@ use Rattle.std.proofs.Common.{◌≡◌, ℕ, zero, suc, List, [], ◌∷◌, ma
 use Rattle.std.specs.Prelude.{None, is_some, Option, Some, unwrap_or, if◌then◌else◌, count_by, reverse}
 use Rattle.run_rows.specs.Report.{row, row_of, outcome_row, Row, fate_at}
 use mathlib.Core.Path.{fun_ext}
-use Rattle.transcript_log.specs.Schedule.{Shape, shape_of_presence, Running, EndedThin, Published, Unpublished, survivors, is_ended, is_announced, is_published, is_opened, all_taken, lacking}
-use Rattle.transcript_log.specs.Transcript.{shape_of_readings, transcript, contents_of_tables, Contents}
+use Rattle.event_schedule.specs.Schedule.{Shape, shape_of_presence, Running, EndedThin, Published, Unpublished, survivors, is_ended, is_announced, is_published, is_opened, all_taken, lacking}
+use Rattle.event_schedule.specs.Transcript.{shape_of_readings, transcript, contents_of_tables, Contents}
 use Rattle.std.proofs.lemmas.Bool.{cases_Bool, false≢true}
 use Rattle.group_plan.specs.Plans.{PlanView, is_place, IsWithinLimits, Group}
 use Rattle.group_plan.proofs.TableLemmas.{entry_outside}
 use Rattle.group_plan.proofs.MeterNumbers.{group-lt, in_place}
 use Rattle.run_rows.specs.Ticks.{clock_of, IsRunPlan, Clock, IsTickRun, posts_of}
-use Rattle.transcript_log.specs.Tables.{IsBounded, Readings, Masks, IsOfPlan, plain_sum}
-use Rattle.transcript_log.specs.declared.Line.{Line}
-use Rattle.transcript_log.specs.Events.{event_of, events_of, lines_of}
-use Rattle.transcript_log.specs.Frames.{contents_of_lines}
-use Rattle.transcript_log.specs.Journal.{past_of}
-use Rattle.transcript_log.proofs.ListLemmas.{and_first, flat_map_same}
-use Rattle.transcript_log.proofs.JournalLemmas.{total_of_journal}
+use Rattle.event_schedule.specs.Tables.{IsBounded, Readings, Masks, IsOfPlan, plain_sum}
+use Rattle.event_schedule.specs.declared.Line.{Line}
+use Rattle.event_schedule.specs.Events.{event_of, events_of, lines_of}
+use Rattle.event_schedule.specs.Frames.{contents_of_lines}
+use Rattle.event_schedule.specs.Journal.{past_of}
+use Rattle.event_schedule.proofs.ListLemmas.{and_first, flat_map_same}
+use Rattle.event_schedule.proofs.JournalLemmas.{total_of_journal}
 use Rattle.run_rows.specs.Summary.{Summary, all_rows, summary, summary_of_lines, is_sending, is_taking, summary_of_posts}
-use Rattle.transcript_log.specs.declared.Entry.{Entry}
+use Rattle.event_schedule.specs.declared.Entry.{Entry}
 use Rattle.std.specs.List.{range_with_len}
 use Rattle.totals_report.specs.Reports.{report_row, group_rows, report_rows, summary_text, report_text}
-use Rattle.transcript_log.specs.Transcripts.{TranscriptView, IsTranscript}
+use Rattle.event_schedule.specs.Transcripts.{TranscriptView, IsTranscript}
 use Rattle.transcript_text.specs.declared.version.Version.TheVariants.{Two}
 use Rattle.transcript_text.specs.Heads.{read_of}
 use Rattle.transcript_text.specs.Spelling.{transcript_text}
@@ -40,7 +40,7 @@ use Rattle.plan_files.specs.Readings.{readings_by, Says, readings_of, rows_fault
 use Rattle.plan_files.specs.Rows.{file_rows}
 use Rattle.plan_files.specs.PlanFiles.{PlanFileView, plan_of}
 use Rattle.command_texts.specs.Runs.{Values, IsIsolatedBy, words_by, IsRunBy, row_in, IsSaidBy, AreSound, Texts, AreTextsBy, AreValues, MakesBy, plan_in, readings_in, shape_in, clock_in, summary_in, least_line, IsOneSummary, IsOnlyBy}
-use Rattle.transcript_log.specs.declared.Event.{Event}
+use Rattle.event_schedule.specs.declared.Event.{Event}
 use Rattle.command_texts.specs.declared.sharing.Sharing.{Sharing}
 use Rattle.command_texts.specs.declared.sharing.Sharing.TheVariants.{WithEach, WithNeighbours}
 use Rattle.ideal_masks.proofs.Isolation.{isolated}

@@ -15,8 +15,8 @@ use Rattle.transcript_text.specs.Heads.{read_of}
 use Rattle.totals_report.specs.declared.row.ReportRow.{ReportRow}
 use Rattle.totals_report.specs.Reading.{rows_of_text}
 use Rattle.command_texts.specs.Audits.{Audited, RunsAreConfirmed, RunsAreShort}
-use Rattle.transcript_log.specs.Transcript.{transcript, Contents, contents_of_tables}
-use Rattle.transcript_log.specs.Events.{events_of}
+use Rattle.event_schedule.specs.Transcript.{transcript, Contents, contents_of_tables}
+use Rattle.event_schedule.specs.Events.{events_of}
 use Rattle.command_texts.specs.Twins.{RunsAreRecorded}
 use Rattle.totals_report.proofs.ReportLaws.{report_back}
 use Rattle.run_rows.specs.Runs.{IsRun}

@@ -4,7 +4,7 @@ use Rattle.std.specs.Prelude.{Option, Some, None, if◌then◌else◌}
 use Rattle.chacha_lanes.proofs.WordBounds.{mask_word_small}
 use Rattle.mask_stream.specs.KeyStreams.{word_of, streams}
 use Rattle.pair_keys.specs.Keys.{Keys}
-use Rattle.transcript_log.specs.Tables.{IsMasks}
+use Rattle.event_schedule.specs.Tables.{IsMasks}
 use Rattle.group_plan.specs.Plans.{PlanView, size}
 use Rattle.sparse_masks.specs.Neighbours.{are_neighbours}
 use Rattle.command_texts.specs.declared.sharing.Sharing.{Sharing}

@@ -18,11 +18,11 @@ use Rattle.mask_stream.specs.KeyStreams.{streams}
 use Rattle.twin_worlds.specs.declared.rows.MovedRow.{MovedRow}
 use Rattle.twin_worlds.specs.declared.answers.PoolTwinError.{PoolTwinError}
 use Rattle.twin_worlds.specs.Twins.{PooledTwinEnds, Disagree, DisagreeFor, TwinEnds}
-use Rattle.transcript_log.specs.Transcripts.{TranscriptView}
+use Rattle.event_schedule.specs.Transcripts.{TranscriptView}
 use Rattle.ideal_masks.specs.declared.Differ.{Differ}
 use Rattle.ideal_masks.specs.declared.Differ.TheVariants as differ
 use Rattle.ideal_masks.proofs.PoolLemmas.{nobody-shares}
-use Rattle.transcript_log.specs.Tables.{Masks}
+use Rattle.event_schedule.specs.Tables.{Masks}
 use Rattle.twin_worlds.specs.declared.answers.TwinError.{TwinError}
 use Rattle.twin_worlds.specs.declared.answers.TwinError.TheVariants as twin
 use Rattle.twin_worlds.specs.declared.answers.PoolTwinError.TheVariants as pool_twin

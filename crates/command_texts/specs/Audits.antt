@@ -1,7 +1,7 @@
 -- What the bytes of a transcript and of a report come to in an audit.
 use Rattle.std.specs.Prelude.{◌≡◌, ℕ, List, Ok, Result, Err, ⊤, ◌≤◌, length}
 use Rattle.transcript_text.specs.declared.version.Version.TheVariants.{Two}
-use Rattle.transcript_log.specs.Transcripts.{TranscriptView, IsTranscript}
+use Rattle.event_schedule.specs.Transcripts.{TranscriptView, IsTranscript}
 use Rattle.transcript_text.specs.Spelling.{transcript_text}
 use Rattle.transcript_text.specs.Heads.{read_of}
 use Rattle.totals_report.specs.declared.row.ReportRow.{ReportRow}

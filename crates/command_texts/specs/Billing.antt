@@ -11,11 +11,11 @@ use Rattle.billing_read.specs.Bills.{bills}
 use Rattle.command_words.specs.declared.words.Period.{Period}
 use Rattle.billing_read.specs.BillsText.{bills_text}
 use Rattle.group_plan.specs.Plans.{PlanView}
-use Rattle.transcript_log.specs.Transcripts.{TranscriptView}
+use Rattle.event_schedule.specs.Transcripts.{TranscriptView}
 use Rattle.twin_worlds.specs.Twins.{IsTextOf}
 use Rattle.transcript_text.specs.declared.version.Version.TheVariants.{Two}
 use Rattle.transcript_text.specs.Heads.{read_of}
-use Rattle.transcript_log.specs.Events.{events_of}
+use Rattle.event_schedule.specs.Events.{events_of}
 use Rattle.billing_read.specs.declared.partners.Partner.{Partner}
 use Rattle.billing_read.specs.PartnerEnds.{IsFirstPartner, IsOtherWorld, IsHiddenBy}
 use Rattle.command_words.specs.declared.words.PlaceWords.{PlaceWords}

@@ -13,7 +13,7 @@ use Rattle.billing_read.specs.declared.partners.Partner.{Partner}
 use Rattle.billing_read.specs.declared.partners.ReadingPlace.{ReadingPlace}
 use Rattle.billing_read.specs.PartnerEnds.{IsOtherWorld}
 use Rattle.command_words.specs.declared.words.PlaceWords.{PlaceWords}
-use Rattle.transcript_log.specs.Transcripts.{TranscriptView}
+use Rattle.event_schedule.specs.Transcripts.{TranscriptView}
 use Rattle.command_texts.specs.declared.hide.Hidden.{Hidden}
 use Rattle.command_words.specs.declared.outcome.Outcome.{Outcome}
 use Rattle.command_words.specs.Words.{HideNames}

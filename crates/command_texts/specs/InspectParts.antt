@@ -3,7 +3,7 @@ use Rattle.command_texts.specs.declared.inspect.InspectTexts.{InspectTexts}
 use Rattle.command_texts.specs.Inspecting.{InspectBytes, TextsRefuse, JudgeRefuses, IsInspected}
 use Rattle.std.specs.Prelude.{◌≡◌, ℕ, List, Result, Ok, Err}
 use Rattle.group_plan.specs.Plans.{PlanView}
-use Rattle.transcript_log.specs.Transcripts.{TranscriptView}
+use Rattle.event_schedule.specs.Transcripts.{TranscriptView}
 use Rattle.totals_report.specs.declared.row.ReportRow.{ReportRow}
 use Rattle.command_words.specs.declared.outcome.Outcome.{Outcome}
 use Rattle.command_words.specs.Words.{InspectNames}

@@ -2,7 +2,7 @@
 use Rattle.std.specs.Prelude.{ℕ, List, ◌≡◌, Ok, Err, ⊤, ◌≢◌, ◌⊎◌, length}
 use Rattle.group_plan.specs.Plans.{PlanView}
 use Rattle.plan_files.specs.PlanFiles.{public_of, PlanFileView, plan_of}
-use Rattle.transcript_log.specs.Transcripts.{TranscriptView}
+use Rattle.event_schedule.specs.Transcripts.{TranscriptView}
 use Rattle.totals_report.specs.declared.row.ReportRow.{ReportRow}
 use Rattle.command_texts.specs.Audits.{AreAuditTexts}
 use Rattle.command_words.specs.declared.outcome.Outcome.{Outcome}
@@ -13,7 +13,7 @@ use Rattle.totals_report.specs.Reading.{rows_of_text}
 use Rattle.command_words.specs.Words.{InspectNames}
 use Rattle.transcript_text.specs.EntryLines.{entry_line}
 use Rattle.run_course.specs.Ends.{IsFirstOffCourse, IsUnfinished}
-use Rattle.transcript_log.specs.Frames.{IsPossible}
+use Rattle.event_schedule.specs.Frames.{IsPossible}
 use Rattle.run_course.specs.Beginnings.{IsSomeRun}
 use Rattle.audit_check.specs.Audits.{lines_in, IsFirstImpossible, IsContradicted, IsConfirmed}
 use Rattle.audit_check.specs.declared.answers.Inspected.{Inspected}

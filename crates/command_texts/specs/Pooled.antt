@@ -13,7 +13,7 @@ use Rattle.plan_files.specs.declared.fault.FileCause.TheVariants as cause
 use Rattle.plan_files.specs.PlanFiles.{PlanFileView, plan_of}
 use Rattle.plan_files.specs.Readings.{readings_of}
 use Rattle.group_plan.specs.Tables.{ReadingsView}
-use Rattle.transcript_log.specs.declared.Line.{Line}
+use Rattle.event_schedule.specs.declared.Line.{Line}
 use Rattle.ideal_masks.specs.declared.Differ.TheVariants.{Presence, Total}
 use Rattle.twin_worlds.specs.declared.answers.TwinError.TheVariants as twin
 use Rattle.twin_worlds.specs.declared.answers.PoolTwinError.TheVariants as pool_twin

@@ -10,8 +10,8 @@ use Rattle.register_words.specs.SideReports.{register_report}
 use Rattle.register_words.specs.Sides.{rows_of}
 use Rattle.totals_report.specs.declared.row.ReportRow.{ReportRow}
 use Rattle.totals_report.specs.Reading.{rows_of_text}
-use Rattle.transcript_log.specs.Events.{lines_of}
-use Rattle.transcript_log.specs.Transcripts.{TranscriptView}
+use Rattle.event_schedule.specs.Events.{lines_of}
+use Rattle.event_schedule.specs.Transcripts.{TranscriptView}
 use Rattle.command_texts.specs.Runs.{Texts}
 
 -- the texts that are kept, those of the transcript and of the side words as their values

@@ -5,17 +5,17 @@ use Rattle.plan_files.specs.PlanFiles.{PlanFileView, plan_of}
 use Rattle.plan_files.specs.Registers.{RegistersView, table, tables_of, AreRegisters}
 use Rattle.command_texts.specs.Runs.{Values, transcript_in, shape_in, row_in, AreTexts, Texts, AreSound, IsRunOf}
 use Rattle.link_lanes.specs.Fits.{hung_by}
-use Rattle.transcript_log.specs.Transcript.{transcript}
+use Rattle.event_schedule.specs.Transcript.{transcript}
 use Rattle.group_plan.specs.Tables.{reading}
 use Rattle.register_words.specs.declared.row.SideRow.{SideRow}
 use Rattle.register_words.specs.Sides.{rows_of}
-use Rattle.transcript_log.specs.declared.Entry.{Entry}
+use Rattle.event_schedule.specs.declared.Entry.{Entry}
 use Rattle.register_words.specs.Words.{register_streams}
 use Rattle.register_words.specs.Worlds.{row_words, sent_words}
-use Rattle.transcript_log.specs.Events.{events_of, lines_of}
+use Rattle.event_schedule.specs.Events.{events_of, lines_of}
 use Rattle.register_words.specs.SideReports.{side_total, further_totals, words_in, register_report}
-use Rattle.transcript_log.specs.Schedule.{is_opened, survivors}
-use Rattle.transcript_log.specs.Tables.{plain_sum}
+use Rattle.event_schedule.specs.Schedule.{is_opened, survivors}
+use Rattle.event_schedule.specs.Tables.{plain_sum}
 use Rattle.std.specs.List.{range_with_len}
 use Rattle.run_rows.specs.Report.{TotalRow}
 use Rattle.totals_report.specs.declared.row.RowOutcome.TheVariants.{Total}

@@ -1,11 +1,11 @@
 -- What `resume` makes of the bytes of its three files: a run of the plan and the readings that begins with the entries of the cut.
 use Rattle.std.specs.Prelude.{ℕ, List, ◌≡◌, Ok, ◌≢◌, ◌++◌, Err, Result, ⊤}
 use Rattle.group_plan.specs.Plans.{PlanView}
-use Rattle.transcript_log.specs.Transcripts.{TranscriptView}
+use Rattle.event_schedule.specs.Transcripts.{TranscriptView}
 use Rattle.transcript_text.specs.declared.version.Version.TheVariants.{Two}
 use Rattle.transcript_text.specs.Heads.{read_of}
 use Rattle.cut_resume.specs.Cut.{completed, CutEnds as CutIs}
-use Rattle.transcript_log.specs.declared.Entry.{Entry}
+use Rattle.event_schedule.specs.declared.Entry.{Entry}
 use Rattle.link_lanes.specs.Lanes.{Meaning}
 use Rattle.command_texts.specs.Runs.{Makes, Texts, plan_in, HasValues, AreValues, Values}
 use Rattle.transcript_text.specs.declared.fault.ReadError.{ReadError}

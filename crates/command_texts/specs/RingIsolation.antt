@@ -4,12 +4,12 @@ use Rattle.std.specs.Prelude.{ℕ, List, reverse, ◌≡◌, is_some}
 use Rattle.group_plan.specs.Plans.{PlanView}
 use Rattle.group_plan.specs.Tables.{reading, IsReadingTable}
 use Rattle.ideal_masks.specs.ListTables.{ReadingTable}
-use Rattle.transcript_log.specs.declared.Event.{Event}
-use Rattle.transcript_log.specs.Tables.{Masks, IsMasks}
+use Rattle.event_schedule.specs.declared.Event.{Event}
+use Rattle.event_schedule.specs.Tables.{Masks, IsMasks}
 use Rattle.sparse_masks.specs.Neighbours.{ring}
 use Rattle.sparse_masks.specs.Offsets.{ring_offsets, RingAgree}
 use Rattle.ideal_masks.specs.Offsets.{shift, unshift}
-use Rattle.transcript_log.specs.Transcript.{transcript}
+use Rattle.event_schedule.specs.Transcript.{transcript}
 
 -- the offsets between two tables on the ring of width w
 abbrev pub ring_between : ℕ → PlanView → ReadingTable → ReadingTable → List Event → Masks

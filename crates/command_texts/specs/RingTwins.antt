@@ -3,9 +3,9 @@ use Rattle.sparse_masks.specs.Neighbours.{ring}
 use Rattle.std.specs.Prelude.{ℕ, ◌≡◌, List, ◌≢◌, Err, ◌⊎◌, ⊤, Result, Ok}
 use Rattle.group_plan.specs.Tables.{ReadingsView}
 use Rattle.ideal_masks.specs.Offsets.{shift}
-use Rattle.transcript_log.specs.Events.{events_of, lines_of}
-use Rattle.transcript_log.specs.Tables.{Masks}
-use Rattle.transcript_log.specs.Transcripts.{TranscriptView}
+use Rattle.event_schedule.specs.Events.{events_of, lines_of}
+use Rattle.event_schedule.specs.Tables.{Masks}
+use Rattle.event_schedule.specs.Transcripts.{TranscriptView}
 use Rattle.command_texts.specs.RingIsolation.{ring_between, AgreeOnRing}
 use Rattle.twin_worlds.specs.declared.rows.MovedRow.{MovedRow}
 use Rattle.twin_worlds.specs.MovedRows.{AreMoved}
@@ -17,7 +17,7 @@ use Rattle.mask_stream.specs.KeyStreams.{streams}
 use Rattle.command_texts.specs.Twins.{TwinValues, TwinBytes, AreTwinValues, RefusesFirst, RefusesSecond}
 use Rattle.twin_worlds.specs.declared.answers.TwinError.{TwinError}
 use Rattle.plan_files.specs.PlanFiles.{plan_of}
-use Rattle.transcript_log.specs.declared.Line.{Line}
+use Rattle.event_schedule.specs.declared.Line.{Line}
 use Rattle.twin_worlds.specs.declared.answers.TwinError.TheVariants as twin
 use Rattle.command_words.specs.declared.outcome.Outcome.{Outcome}
 use Rattle.command_words.specs.declared.outcome.Outcome.TheVariants.{NoMemory, BadPlan, BadReadings, BadTranscript, OtherPlan, OtherLine, OtherPresence, OtherComponent}

@@ -5,7 +5,7 @@ use Rattle.command_texts.specs.Runs.{Texts, IsSaidBy}
 use Rattle.std.specs.Prelude.{◌≡◌, Ok}
 use Rattle.group_book.specs.Books.{BookView, past, shape_of}
 use Rattle.transcript_text.specs.declared.version.Version.TheVariants.{Two}
-use Rattle.transcript_log.specs.Transcripts.{TranscriptView, IsTranscript}
+use Rattle.event_schedule.specs.Transcripts.{TranscriptView, IsTranscript}
 use Rattle.transcript_text.specs.Heads.{read_of}
 use Rattle.totals_report.specs.Books.{row_in, summary_in}
 use Rattle.totals_report.specs.Reading.{rows_of_text}

@@ -4,9 +4,9 @@ use Rattle.group_plan.specs.Tables.{ReadingsView, reading, IsReadingTable}
 use Rattle.link_lanes.specs.Lanes.{Slot, Meaning}
 use Rattle.plan_files.specs.PlanFiles.{PlanFileView, plan_of}
 use Rattle.group_plan.specs.Plans.{PlanView, IsWithinLimits}
-use Rattle.transcript_log.specs.Tables.{Readings, Masks, plain_sum}
-use Rattle.transcript_log.specs.Schedule.{Shape}
-use Rattle.transcript_log.specs.Transcript.{shape_of_readings, transcript}
+use Rattle.event_schedule.specs.Tables.{Readings, Masks, plain_sum}
+use Rattle.event_schedule.specs.Schedule.{Shape}
+use Rattle.event_schedule.specs.Transcript.{shape_of_readings, transcript}
 use Rattle.run_rows.specs.Ticks.{Clock, clock_of, posts_of, HaveDelays, IsTickRun}
 use Rattle.mask_stream.specs.KeyStreams.{streams}
 use Rattle.pair_keys.specs.Keys.{Keys}
@@ -19,13 +19,13 @@ use Rattle.plan_files.specs.Readings.{readings_of}
 use Rattle.link_lanes.specs.declared.cupboard.RackError.{RackError}
 use Rattle.run_rows.specs.Report.{row, Row, fate_at, outcome_row}
 use Rattle.plan_files.specs.declared.fault.FileError.{FileError}
-use Rattle.transcript_log.specs.declared.Entry.{Entry}
-use Rattle.transcript_log.specs.declared.Event.{Event}
+use Rattle.event_schedule.specs.declared.Entry.{Entry}
+use Rattle.event_schedule.specs.declared.Event.{Event}
 use Rattle.ideal_masks.specs.Isolation.{Isolated}
 use Rattle.command_texts.specs.RingIsolation.{RingIsolated}
-use Rattle.transcript_log.specs.Events.{events_of, lines_of}
+use Rattle.event_schedule.specs.Events.{events_of, lines_of}
 use Rattle.run_rows.specs.Posts.{posts_by_lanes}
-use Rattle.transcript_log.specs.Transcripts.{TranscriptView, IsTranscript}
+use Rattle.event_schedule.specs.Transcripts.{TranscriptView, IsTranscript}
 use Rattle.run_rows.specs.Summary.{summary_of_posts}
 use Rattle.totals_report.specs.Reports.{summary_text, report_rows, report_text}
 use Rattle.std.specs.Fmt.{decimal}

@@ -8,14 +8,14 @@ use Rattle.twin_worlds.specs.declared.rows.MovedRow.{MovedRow}
 use Rattle.twin_worlds.specs.declared.answers.TwinError.{TwinError}
 use Rattle.twin_worlds.specs.Twins.{TwinEnds, IsRecord}
 use Rattle.plan_files.specs.declared.fault.FileError.{FileError}
-use Rattle.transcript_log.specs.declared.Line.{Line}
+use Rattle.event_schedule.specs.declared.Line.{Line}
 use Rattle.ideal_masks.specs.declared.Differ.TheVariants.{Presence, Total}
 use Rattle.twin_worlds.specs.declared.answers.TwinError.TheVariants as twin
 use Rattle.command_words.specs.declared.outcome.Outcome.{Outcome}
 use Rattle.command_words.specs.declared.outcome.Outcome.TheVariants.{NoMemory, BadPlan, BadReadings, BadTranscript, OtherPlan, OtherLine, OtherPresence, OtherTotal}
 use Rattle.command_words.specs.Words.{TwinNames}
 use Rattle.link_lanes.specs.Lanes.{Meaning}
-use Rattle.transcript_log.specs.Transcripts.{TranscriptView}
+use Rattle.event_schedule.specs.Transcripts.{TranscriptView}
 use Rattle.command_texts.specs.declared.sharing.Sharing.{Sharing}
 use Rattle.command_texts.specs.Runs.{Texts, MakesBy, words_by}
 

@@ -6,7 +6,7 @@ ghost use Rattle.command_words.specs.Outcomes.{IsFault};
 ghost use Rattle.command_texts.specs.Audits.{AuditRefuses, ReportRefuses, AreAuditTexts, TextsAudited};
 ghost use Rattle.totals_report.specs.Texts.{rows_text};
 ghost use Rattle.totals_report.specs.Reading.{rows_of_text};
-ghost use Rattle.transcript_log.specs.Transcripts.{TranscriptView};
+ghost use Rattle.event_schedule.specs.Transcripts.{TranscriptView};
 
 use audit_check::{AuditCounts, AuditError, Replayed, replay_text};
 use command_words::{AuditFiles, Outcome};

@@ -6,7 +6,7 @@ ghost use Rattle.command_words.specs.Outcomes.{IsFault};
 ghost use Rattle.command_words.specs.Limits.{most_bytes};
 ghost use Rattle.command_texts.specs.Inspecting.{PublicTextRefuses, TextsRefuse, TimesRefuse, InspectRefuses, OfPlan, IsInspected};
 ghost use Rattle.group_plan.specs.Plans.{PlanView};
-ghost use Rattle.transcript_log.specs.Transcripts.{TranscriptView};
+ghost use Rattle.event_schedule.specs.Transcripts.{TranscriptView};
 ghost use Rattle.twin_worlds.specs.Twins.{IsTextOf};
 ghost use Rattle.command_words.specs.Commands.{inspect_names_of};
 ghost use Rattle.command_texts.specs.InspectParts.{TextsRead, Judged, inspect_bytes_of};

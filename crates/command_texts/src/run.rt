@@ -5,7 +5,7 @@ ghost use Rattle.command_texts.specs.Runs.{least_line, IsSaidBy, AreValues, Make
 ghost use Rattle.group_book.specs.Books.{past, shape_of};
 ghost use Rattle.totals_report.specs.Books.{summary_in};
 ghost use Rattle.totals_report.specs.Reports.{summary_text};
-ghost use Rattle.transcript_log.specs.Events.{lines_of};
+ghost use Rattle.event_schedule.specs.Events.{lines_of};
 ghost use Rattle.command_texts.specs.RunTexts.{AreTextsOf, texts_of};
 ghost use Rattle.link_lanes.specs.Lanes.{Meaning};
 ghost use Rattle.link_lanes.specs.Racks.{HasRoom, posts_of, slots};

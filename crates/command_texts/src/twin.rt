@@ -17,6 +17,7 @@ ghost use Rattle.command_words.specs.Known.{IsKnown, known_in};
 
 use crate::values::{plan_in, readings_in};
 use command_words::{Outcome, TwinFiles, known_sets};
+use event_schedule::Entry;
 use group_plan::{Plan, Readings};
 use ideal_masks::Differ;
 use missing_round::MeterSet;
@@ -24,7 +25,6 @@ use pair_keys::KeyError;
 use plan_files::{FileCause, FileError, PlanFile};
 use std::alloc::Global;
 use std::thread::Threads;
-use transcript_log::Entry;
 use twin_worlds::{MovedWords, PoolTwinError, ReadingTables, TwinError, pooled_twin};
 
 /// The fault of a plan that hasn't each known meter.

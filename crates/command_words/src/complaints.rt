@@ -9,6 +9,7 @@ ghost use Rattle.transcript_text.specs.Spelling.{entry_text};
 ghost use Rattle.transcript_text.specs.Writing.{IsWritable};
 
 use crate::outcome::Outcome;
+use event_schedule::Entry;
 use group_plan::{PlanError, SpanError};
 use link_lanes::RackCause;
 use meter_files::part_name;
@@ -16,7 +17,6 @@ use pair_keys::{KeyError, KeyId};
 use plan_files::{FileCause, FileError};
 use std::alloc::{AllocError, Global};
 use totals_report::{ReportRow, row_text};
-use transcript_log::Entry;
 use transcript_text::{ReadError, line_text};
 
 // Adds a byte of a name as a complaint shows it.

@@ -1,10 +1,10 @@
 //! How a command ends.
 
+use event_schedule::Entry;
 use link_lanes::RackError;
 use meter_files::PartFile;
 use plan_files::FileError;
 use totals_report::ReportRow;
-use transcript_log::Entry;
 use transcript_text::ReadError;
 
 /// How a command ends. A name is the word that named the file.

@@ -27,13 +27,13 @@ use Rattle.command_texts.specs.Refusals.{RefusesTables, RegistersRefuse, PublicR
 use Rattle.plan_files.specs.Registers.{tables_of}
 use Rattle.run_commands.specs.RegisterEnds.{RegistersEnds, registers_fetched, registers_put}
 use Rattle.transcript_text.specs.declared.version.Version.TheVariants.{Two, One}
-use Rattle.transcript_log.specs.Transcripts.{TranscriptView}
+use Rattle.event_schedule.specs.Transcripts.{TranscriptView}
 use Rattle.totals_report.specs.declared.row.ReportRow.{ReportRow}
 use Rattle.totals_report.specs.Reading.{rows_of_text}
 use Rattle.command_texts.specs.Audits.{AreAuditTexts, AuditRefuses}
 use Rattle.transcript_text.specs.Heads.{read_of}
 use Rattle.transcript_text.specs.declared.fault.ReadError.{ReadError}
-use Rattle.transcript_log.specs.Frames.{IsPossible}
+use Rattle.event_schedule.specs.Frames.{IsPossible}
 use Rattle.audit_check.specs.Audits.{lines_in, IsFirstImpossible, rows_by_frames, DifferFirst}
 use Rattle.audit_check.proofs.PossibleLemmas.{possible_up_to}
 use Rattle.command_texts.specs.Lines.{audited_line, made_line, converted_line, public_line, line_of, bills_line, hidden_line}

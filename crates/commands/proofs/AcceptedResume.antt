@@ -10,12 +10,12 @@ use Rattle.commands.proofs.CalmLemmas.{read_is, IsCalm, ok_or_err, ok_same, puts
 use Rattle.std.proofs.lemmas.List.{take-append-drop}
 use Rattle.missing_round.specs.Masks.{Masks}
 use Rattle.group_plan.specs.Tables.{ReadingsView}
-use Rattle.transcript_log.specs.declared.Entry.{Entry}
+use Rattle.event_schedule.specs.declared.Entry.{Entry}
 use Rattle.cut_resume.specs.OnCourse.{OnCourse, IsFirstOff}
 use Rattle.link_lanes.specs.Fits.{hung_by}
 use Rattle.mask_stream.specs.KeyStreams.{streams}
 use Rattle.plan_files.specs.Readings.{readings_of}
-use Rattle.transcript_log.specs.Transcripts.{TranscriptView}
+use Rattle.event_schedule.specs.Transcripts.{TranscriptView}
 use Rattle.command_words.specs.declared.outcome.Outcome.{Outcome}
 use Rattle.command_words.specs.declared.outcome.Outcome.TheVariants.{NoMemory, BadPlan, BadReadings, BadTranscript, BadLane, NotThisRun, OtherPlan}
 use Rattle.command_texts.specs.Runs.{Values, plan_in}

@@ -22,9 +22,9 @@ use Rattle.ideal_masks.specs.declared.Differ.TheVariants.{Presence, Total}
 use Rattle.command_words.specs.declared.outcome.Outcome.TheVariants.{NoMemory, BadPlan, BadReadings, BadTranscript, OtherPlan, OtherLine, OtherPresence, OtherKnown, OtherTotal, OtherComponent}
 use Rattle.twin_worlds.specs.MasksText.{masks_text}
 use Rattle.command_texts.specs.Lines.{moved_line, counted_line}
-use Rattle.transcript_log.specs.Transcripts.{TranscriptView}
+use Rattle.event_schedule.specs.Transcripts.{TranscriptView}
 use Rattle.group_plan.specs.Tables.{ReadingsView}
-use Rattle.transcript_log.specs.Events.{events_of}
+use Rattle.event_schedule.specs.Events.{events_of}
 use Rattle.sparse_masks.specs.declared.RingDiffer.{RingDiffer}
 use Rattle.sparse_masks.specs.declared.RingDiffer.TheVariants as ring
 use Rattle.command_texts.specs.RingIsolation.{AgreeOnRing}

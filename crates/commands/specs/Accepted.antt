@@ -17,19 +17,19 @@ use Rattle.command_words.specs.Limits.{most_bytes}
 use Rattle.link_lanes.specs.Lanes.{Meaning, Slot}
 use Rattle.command_words.specs.Words.{CollectNames, RunNames, ResumeNames, RegisterNames, TwinNames, Size, InspectNames, BillNames, HideNames, Command, Run, Ring, Audit, Twin, RingTwin, Pooled, Make, Load, Convert, Public, Parts, Collect, Meter, Help, Version, Bill, Hide, Inspect, Registers, Resume}
 use Rattle.command_texts.specs.Runs.{Values, AreValues, plan_in}
-use Rattle.transcript_log.specs.Transcripts.{TranscriptView}
+use Rattle.event_schedule.specs.Transcripts.{TranscriptView}
 use Rattle.mask_stream.specs.KeyStreams.{streams}
 use Rattle.cut_resume.specs.OnCourse.{OnCourse}
 use Rattle.command_texts.specs.ResumeRuns.{ResumeBytes, IsCutOf}
 use Rattle.command_texts.specs.RegisterRuns.{RegisterValues, AreRegisterValues}
-use Rattle.transcript_log.specs.Frames.{IsPossible}
+use Rattle.event_schedule.specs.Frames.{IsPossible}
 use Rattle.totals_report.specs.Reading.{rows_of_text}
 use Rattle.totals_report.specs.declared.row.ReportRow.{ReportRow}
 use Rattle.audit_check.specs.Audits.{lines_in, rows_by_frames}
 use Rattle.transcript_text.specs.declared.version.Version.TheVariants.{Two, One}
 use Rattle.transcript_text.specs.Heads.{read_of}
 use Rattle.group_plan.specs.Tables.{reading}
-use Rattle.transcript_log.specs.Events.{events_of}
+use Rattle.event_schedule.specs.Events.{events_of}
 use Rattle.ideal_masks.specs.Offsets.{Agree, AgreeFor}
 use Rattle.twin_worlds.specs.Twins.{IsRecord}
 use Rattle.command_texts.specs.Twins.{TwinBytes, TwinValues, AreTwinValues}
@@ -50,7 +50,7 @@ use Rattle.command_words.specs.declared.words.Period.{Period}
 use Rattle.command_words.specs.declared.words.PlaceWords.{PlaceWords}
 use Rattle.billing_read.specs.declared.partners.Partner.{Partner}
 use Rattle.billing_read.specs.Partners.{IsPartner}
-use Rattle.transcript_log.specs.Transcript.{shape_of_readings}
+use Rattle.event_schedule.specs.Transcript.{shape_of_readings}
 
 -- the desk tells that the name holds these bytes, and they are not too many
 pub record HoldsFile (v : View) (name bytes : List ℕ) : Type 0 where

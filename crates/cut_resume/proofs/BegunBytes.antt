@@ -8,7 +8,7 @@ use Rattle.std.proofs.Math.Seq.{take-append_seam}
 use Rattle.field_texts.specs.Parts.{parts}
 use Rattle.field_texts.proofs.Cutting.{parts_some}
 use Rattle.field_texts.proofs.TextLaws.{clean, clean_append, clean_decimal, parts_clean}
-use Rattle.transcript_log.specs.Transcripts.{TranscriptView}
+use Rattle.event_schedule.specs.Transcripts.{TranscriptView}
 use Rattle.transcript_text.specs.Faults.{lines_text as all_lines}
 use Rattle.transcript_text.specs.Spelling.{ended, entries_text, head_text, text_of, transcript_text}
 use Rattle.transcript_text.specs.Writing.{begun_text, lines_text}

@@ -14,7 +14,7 @@ use Rattle.field_texts.specs.Numbers.{number_of, within}
 use Rattle.field_texts.proofs.Choices.{is_word}
 use Rattle.field_texts.proofs.Cutting.{parts_some}
 use Rattle.field_texts.proofs.TextLaws.{AllClean, clean, clean_append, clean_decimal, parts_at}
-use Rattle.transcript_log.specs.declared.Entry.{Entry}
+use Rattle.event_schedule.specs.declared.Entry.{Entry}
 use Rattle.transcript_text.specs.declared.version.Version.TheVariants.{Two}
 use Rattle.transcript_text.specs.declared.fault.ReadError.{ReadError}
 use Rattle.transcript_text.specs.declared.fault.ReadError.TheVariants as fault

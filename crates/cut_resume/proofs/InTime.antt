@@ -12,9 +12,9 @@ use Rattle.group_plan.proofs.TableLemmas.{entry_outside}
 use Rattle.link_lanes.specs.Lanes.{Slot}
 use Rattle.pair_keys.specs.Keys.{Keys}
 use Rattle.mask_stream.specs.KeyStreams.{streams}
-use Rattle.transcript_log.specs.declared.Entry.{Entry}
-use Rattle.transcript_log.specs.Transcript.{Contents, contents_of_tables, shape_of_readings}
-use Rattle.transcript_log.specs.Transcripts.{IsEntry, IsFate, IsTranscript, TranscriptView}
+use Rattle.event_schedule.specs.declared.Entry.{Entry}
+use Rattle.event_schedule.specs.Transcript.{Contents, contents_of_tables, shape_of_readings}
+use Rattle.event_schedule.specs.Transcripts.{IsEntry, IsFate, IsTranscript, TranscriptView}
 use Rattle.run_rows.specs.Ticks.{IsRunPlan, clock_of}
 use Rattle.run_course.specs.declared.errors.CourseError.{CourseError}
 use Rattle.run_course.specs.declared.errors.CourseError.TheVariants as course

@@ -6,11 +6,11 @@ use Rattle.std.proofs.lemmas.Bool.{true≢false, eq-eqb, and_from}
 use Rattle.std.proofs.lemmas.List.{take_more, drop_more, take-append-drop}
 use Rattle.std.proofs.lemmas.List.Elements.{All-head, All-tail}
 use Rattle.std.proofs.lemmas.Grind.{flat_map-append}
-use Rattle.transcript_log.specs.declared.Event.{Event}
-use Rattle.transcript_log.specs.declared.Event.TheVariants.{Send, Take, Close, End}
-use Rattle.transcript_log.specs.declared.Entry.{Entry}
-use Rattle.transcript_log.specs.Events.{event_of}
-use Rattle.transcript_log.proofs.EventLemmas.{is_send-itself}
+use Rattle.event_schedule.specs.declared.Event.{Event}
+use Rattle.event_schedule.specs.declared.Event.TheVariants.{Send, Take, Close, End}
+use Rattle.event_schedule.specs.declared.Entry.{Entry}
+use Rattle.event_schedule.specs.Events.{event_of}
+use Rattle.event_schedule.proofs.EventLemmas.{is_send-itself}
 use Rattle.run_course.proofs.Members.{all_more}
 use Rattle.cut_resume.specs.Left.{Decides, IsNoneOf, IsNotThere, Leaves, Picks, at_places}
 use Rattle.cut_resume.specs.Order.{IsPicked, are_apart, may_pass}

@@ -12,12 +12,12 @@ use Rattle.group_plan.specs.declared.Kind.TheVariants.{Reading, Announcement, An
 use Rattle.group_plan.specs.declared.Tag.{Tag}
 use Rattle.link_lanes.specs.declared.Post.{Post}
 use Rattle.link_lanes.specs.Lanes.{Slot, fates_after}
-use Rattle.transcript_log.specs.declared.Event.{Event}
-use Rattle.transcript_log.specs.declared.Event.TheVariants.{Send, Take, Close, End}
-use Rattle.transcript_log.specs.declared.Entry.{Entry}
-use Rattle.transcript_log.specs.Events.{event_of, events_of, lines_of, is_take, is_close, is_end}
-use Rattle.transcript_log.specs.Schedule.{Shape, members_of, survivors, is_announced}
-use Rattle.transcript_log.specs.Transcript.{Contents, line, lines_after}
+use Rattle.event_schedule.specs.declared.Event.{Event}
+use Rattle.event_schedule.specs.declared.Event.TheVariants.{Send, Take, Close, End}
+use Rattle.event_schedule.specs.declared.Entry.{Entry}
+use Rattle.event_schedule.specs.Events.{event_of, events_of, lines_of, is_take, is_close, is_end}
+use Rattle.event_schedule.specs.Schedule.{Shape, members_of, survivors, is_announced}
+use Rattle.event_schedule.specs.Transcript.{Contents, line, lines_after}
 use Rattle.run_rows.specs.Runs.{IsRun}
 use Rattle.run_rows.specs.Ticks.{Clock, NoneBefore, IsOrdered, StandsOnce, last_tick, moment, phase, takes_at, copies, tag_of, tags, tags_of, sent_at, due_of, posts_of}
 use Rattle.cut_resume.specs.Left.{Leaves}

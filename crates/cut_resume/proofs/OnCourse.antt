@@ -7,14 +7,14 @@ use Rattle.std.proofs.lemmas.Grind.{flat_map-append}
 use Rattle.group_plan.specs.declared.Tag.{Tag}
 use Rattle.link_lanes.specs.declared.Post.{Post}
 use Rattle.link_lanes.specs.Lanes.{Slot, fate_after, fates_after}
-use Rattle.transcript_log.specs.declared.Event.{Event}
-use Rattle.transcript_log.specs.declared.Event.TheVariants.{Send, Take, Close, End}
-use Rattle.transcript_log.specs.declared.Entry.{Entry}
-use Rattle.transcript_log.specs.Events.{event_of, events_of, lines_of, is_close, is_end}
-use Rattle.transcript_log.specs.Schedule.{Shape}
-use Rattle.transcript_log.specs.Transcript.{Contents, line, lines_after}
-use Rattle.transcript_log.specs.Transcripts.{last_tick_from}
-use Rattle.transcript_log.proofs.ScheduleLemmas.{after, after-reverse}
+use Rattle.event_schedule.specs.declared.Event.{Event}
+use Rattle.event_schedule.specs.declared.Event.TheVariants.{Send, Take, Close, End}
+use Rattle.event_schedule.specs.declared.Entry.{Entry}
+use Rattle.event_schedule.specs.Events.{event_of, events_of, lines_of, is_close, is_end}
+use Rattle.event_schedule.specs.Schedule.{Shape}
+use Rattle.event_schedule.specs.Transcript.{Contents, line, lines_after}
+use Rattle.event_schedule.specs.Transcripts.{last_tick_from}
+use Rattle.event_schedule.proofs.ScheduleLemmas.{after, after-reverse}
 use Rattle.run_rows.specs.Runs.{IsRun}
 use Rattle.run_rows.specs.Ticks.{Clock, last_tick, in_plan, moment, phase, takes_at, copies, sent_at, tags_of, posts_of, StandsOnce, IsOrdered}
 use Rattle.run_course.specs.Lists.{IsIn}

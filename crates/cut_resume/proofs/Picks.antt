@@ -9,14 +9,14 @@ use Rattle.std.proofs.lemmas.List.Sums.{sum_by-cons}
 use Rattle.group_plan.specs.declared.Kind.TheVariants.{Reading, Announcement, Answer}
 use Rattle.group_plan.specs.declared.Tag.{Tag}
 use Rattle.link_lanes.specs.Lanes.{Slot}
-use Rattle.transcript_log.specs.declared.Event.{Event}
-use Rattle.transcript_log.specs.declared.Event.TheVariants.{Send, Take, Close, End}
-use Rattle.transcript_log.specs.declared.Line.{Line}
-use Rattle.transcript_log.specs.declared.Entry.{Entry}
-use Rattle.transcript_log.specs.Events.{once, event_of, events_of, is_tag, is_send, is_take, is_close, is_end}
-use Rattle.transcript_log.specs.Schedule.{Shape, members_of, survivors, is_announced}
-use Rattle.transcript_log.proofs.EventLemmas.{is_send-itself}
-use Rattle.transcript_log.specs.Transcript.{Contents, line}
+use Rattle.event_schedule.specs.declared.Event.{Event}
+use Rattle.event_schedule.specs.declared.Event.TheVariants.{Send, Take, Close, End}
+use Rattle.event_schedule.specs.declared.Line.{Line}
+use Rattle.event_schedule.specs.declared.Entry.{Entry}
+use Rattle.event_schedule.specs.Events.{once, event_of, events_of, is_tag, is_send, is_take, is_close, is_end}
+use Rattle.event_schedule.specs.Schedule.{Shape, members_of, survivors, is_announced}
+use Rattle.event_schedule.proofs.EventLemmas.{is_send-itself}
+use Rattle.event_schedule.specs.Transcript.{Contents, line}
 use Rattle.run_rows.specs.Runs.{IsRun}
 use Rattle.run_rows.specs.Ticks.{Clock, IsRunPlan, StandsOnce, in_plan, moment, phase, takes_at, copies, tag_of, tags, tags_of, sent_at, due_of}
 use Rattle.run_course.specs.Lists.{IsIn}

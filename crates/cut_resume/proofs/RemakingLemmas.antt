@@ -3,9 +3,9 @@ use Rattle.std.proofs.Common.{◌≡◌, ℕ, ◌+◌, ◌-◌, ◌<◌, ◌≤�
 use Rattle.std.specs.List.{All}
 use Rattle.std.proofs.lemmas.List.{take_more, drop_more, take-append-drop, get_or-drop, length-drop}
 use Rattle.group_plan.specs.Plans.{PlanView}
-use Rattle.transcript_log.specs.declared.Entry.{Entry}
-use Rattle.transcript_log.specs.Events.{lines_of}
-use Rattle.transcript_log.specs.Transcripts.{Fits, NeverFalls, TranscriptView, last_tick_from, no_entries}
+use Rattle.event_schedule.specs.declared.Entry.{Entry}
+use Rattle.event_schedule.specs.Events.{lines_of}
+use Rattle.event_schedule.specs.Transcripts.{Fits, NeverFalls, TranscriptView, last_tick_from, no_entries}
 use Rattle.run_course.proofs.Members.{all_in, all_from_in, in_append}
 use Rattle.cut_resume.specs.declared.remaking.RemadeRun.{RemadeRun}
 use Rattle.cut_resume.specs.Left.{at_places}

@@ -10,16 +10,16 @@ use Rattle.group_plan.specs.declared.Kind.TheVariants.{Reading, Answer}
 use Rattle.group_plan.specs.declared.Tag.{Tag}
 use Rattle.group_plan.specs.Tables.{PresenceView}
 use Rattle.meter_frames.specs.declared.Frame.{Frame}
-use Rattle.transcript_log.specs.declared.Event.{Event}
-use Rattle.transcript_log.specs.declared.Event.TheVariants.{Send, Take, Close, End}
-use Rattle.transcript_log.specs.declared.Line.{Line}
-use Rattle.transcript_log.specs.declared.Line.TheVariants.{Send as SendLine, Take as TakeLine, Close as CloseLine, End as EndLine}
-use Rattle.transcript_log.specs.declared.Entry.{Entry}
-use Rattle.transcript_log.specs.Events.{event_of, frame_of, lines_of, is_send}
-use Rattle.transcript_log.specs.Schedule.{Shape, shape_of_presence, members_of, is_closed, is_ended, is_sent, is_taken, may_send}
-use Rattle.transcript_log.specs.Transcript.{Contents, frame, line, set_sent}
-use Rattle.transcript_log.specs.Frames.{word_or_zero, first_word, contents_of_lines}
-use Rattle.transcript_log.specs.Journal.{past_of, core_line, IsJournalAfter}
+use Rattle.event_schedule.specs.declared.Event.{Event}
+use Rattle.event_schedule.specs.declared.Event.TheVariants.{Send, Take, Close, End}
+use Rattle.event_schedule.specs.declared.Line.{Line}
+use Rattle.event_schedule.specs.declared.Line.TheVariants.{Send as SendLine, Take as TakeLine, Close as CloseLine, End as EndLine}
+use Rattle.event_schedule.specs.declared.Entry.{Entry}
+use Rattle.event_schedule.specs.Events.{event_of, frame_of, lines_of, is_send}
+use Rattle.event_schedule.specs.Schedule.{Shape, shape_of_presence, members_of, is_closed, is_ended, is_sent, is_taken, may_send}
+use Rattle.event_schedule.specs.Transcript.{Contents, frame, line, set_sent}
+use Rattle.event_schedule.specs.Frames.{word_or_zero, first_word, contents_of_lines}
+use Rattle.event_schedule.specs.Journal.{past_of, core_line, IsJournalAfter}
 use Rattle.group_book.specs.Pages.{PageView}
 use Rattle.group_book.specs.Books.{posted}
 use Rattle.group_book.specs.Groups.{GroupView}

@@ -10,11 +10,11 @@ use Rattle.group_book.specs.Replay.{AreReplayed}
 use Rattle.link_lanes.specs.Lanes.{Slot}
 use Rattle.pair_keys.specs.Keys.{Keys}
 use Rattle.mask_stream.specs.KeyStreams.{streams}
-use Rattle.transcript_log.specs.declared.Entry.{Entry}
-use Rattle.transcript_log.specs.Events.{event_of, lines_of}
-use Rattle.transcript_log.specs.Schedule.{Shape}
-use Rattle.transcript_log.specs.Transcript.{Contents, contents_of_tables, shape_of_readings}
-use Rattle.transcript_log.specs.Transcripts.{NeverFalls, TranscriptView}
+use Rattle.event_schedule.specs.declared.Entry.{Entry}
+use Rattle.event_schedule.specs.Events.{event_of, lines_of}
+use Rattle.event_schedule.specs.Schedule.{Shape}
+use Rattle.event_schedule.specs.Transcript.{Contents, contents_of_tables, shape_of_readings}
+use Rattle.event_schedule.specs.Transcripts.{NeverFalls, TranscriptView}
 use Rattle.run_rows.specs.Runs.{IsRun}
 use Rattle.run_rows.specs.Ticks.{Clock, IsOrdered, IsRunPlan, IsTickRun, NoneBefore, clock_of, moment}
 use Rattle.run_rows.proofs.PlanLemmas.{can_run}

@@ -7,15 +7,15 @@ use Rattle.std.proofs.lemmas.List.{map-append}
 use Rattle.std.proofs.lemmas.List.Elements.{All-nil}
 use Rattle.link_lanes.specs.declared.Post.{Post}
 use Rattle.link_lanes.specs.Lanes.{Slot, fate_after, fates_after}
-use Rattle.transcript_log.specs.declared.Event.{Event}
-use Rattle.transcript_log.specs.declared.Event.TheVariants.{Send, Take, Close, End}
-use Rattle.transcript_log.specs.declared.Entry.{Entry}
-use Rattle.transcript_log.specs.Events.{event_of, events_of, lines_of}
-use Rattle.transcript_log.specs.Schedule.{Shape}
-use Rattle.transcript_log.specs.Transcript.{Contents, line, lines_after}
-use Rattle.transcript_log.specs.Transcripts.{last_tick_from}
-use Rattle.transcript_log.proofs.ScheduleLemmas.{after-reverse}
-use Rattle.transcript_log.proofs.TranscriptLemmas.{lines_after-push}
+use Rattle.event_schedule.specs.declared.Event.{Event}
+use Rattle.event_schedule.specs.declared.Event.TheVariants.{Send, Take, Close, End}
+use Rattle.event_schedule.specs.declared.Entry.{Entry}
+use Rattle.event_schedule.specs.Events.{event_of, events_of, lines_of}
+use Rattle.event_schedule.specs.Schedule.{Shape}
+use Rattle.event_schedule.specs.Transcript.{Contents, line, lines_after}
+use Rattle.event_schedule.specs.Transcripts.{last_tick_from}
+use Rattle.event_schedule.proofs.ScheduleLemmas.{after-reverse}
+use Rattle.event_schedule.proofs.TranscriptLemmas.{lines_after-push}
 use Rattle.run_rows.specs.Ticks.{Clock, IsOrdered, last_tick, moment, phase, posts_of, tags_of}
 use Rattle.run_course.specs.Lists.{IsIn}
 use Rattle.run_course.proofs.Entries.{ordered_more}

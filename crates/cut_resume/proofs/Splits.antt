@@ -6,12 +6,12 @@ use Rattle.std.proofs.lemmas.Bool.{and_from, and_left, and_right, cases_eq, case
 use Rattle.std.proofs.lemmas.List.Elements.{filter-append}
 use Rattle.group_plan.specs.declared.Tag.{Tag}
 use Rattle.group_plan.specs.Plans.{PlanView}
-use Rattle.transcript_log.specs.declared.Event.{Event}
-use Rattle.transcript_log.specs.declared.Event.TheVariants.{Send, Take, Close, End}
-use Rattle.transcript_log.specs.declared.Entry.{Entry}
-use Rattle.transcript_log.specs.Events.{event_of, events_of, is_send, is_take, is_close, is_end}
-use Rattle.transcript_log.specs.Schedule.{Shape, is_closed}
-use Rattle.transcript_log.proofs.ListLemmas.{flat_map_same}
+use Rattle.event_schedule.specs.declared.Event.{Event}
+use Rattle.event_schedule.specs.declared.Event.TheVariants.{Send, Take, Close, End}
+use Rattle.event_schedule.specs.declared.Entry.{Entry}
+use Rattle.event_schedule.specs.Events.{event_of, events_of, is_send, is_take, is_close, is_end}
+use Rattle.event_schedule.specs.Schedule.{Shape, is_closed}
+use Rattle.event_schedule.proofs.ListLemmas.{flat_map_same}
 use Rattle.run_rows.specs.Ticks.{Clock, in_plan, moment, phase, takes_at, copies, sent_at, due_of, StandsOnce}
 use Rattle.run_course.specs.Lists.{IsIn}
 use Rattle.run_course.proofs.Calls.{readings_by, rest_by}

@@ -11,14 +11,14 @@ use Rattle.round_machine.specs.declared.Verdict.TheVariants.{Fresh, Again, Late,
 use Rattle.round_machine.specs.declared.Closing.TheVariants.{Announced, Thin as ThinClosing, Already as AlreadyClosed}
 use Rattle.round_machine.specs.declared.Ending.TheVariants.{Total, Lacking, Thin, Already, NotClosed}
 use Rattle.meter_frames.specs.declared.Frame.{Frame}
-use Rattle.transcript_log.specs.declared.Event.{Event}
-use Rattle.transcript_log.specs.declared.Event.TheVariants.{Send, Take, Close, End}
-use Rattle.transcript_log.specs.declared.Line.TheVariants.{Send as SendLine, Take as TakeLine, Close as CloseLine, End as EndLine}
-use Rattle.transcript_log.specs.Events.{once, is_tag, is_send, is_take, is_close, is_end}
-use Rattle.transcript_log.specs.Schedule.{Shape, members_of, floor_of, is_closed, is_reading_sent, is_reading_taken, survivors, missing, reaches_floor, is_announced, may_announce, is_announcement_sent, is_announcement_taken, is_answer_sent, is_ended, is_answer_taken, all_taken, lacking, may_send, is_sent, is_taken, is_late, verdict, verdict_by_table, closing}
-use Rattle.transcript_log.specs.Transcript.{Contents, line, lines_after, set_sent, word_sent, frame, ending}
-use Rattle.transcript_log.proofs.EventLemmas.{is_send-itself, is_send-true}
-use Rattle.transcript_log.proofs.VerdictLemmas.{verdict-table}
+use Rattle.event_schedule.specs.declared.Event.{Event}
+use Rattle.event_schedule.specs.declared.Event.TheVariants.{Send, Take, Close, End}
+use Rattle.event_schedule.specs.declared.Line.TheVariants.{Send as SendLine, Take as TakeLine, Close as CloseLine, End as EndLine}
+use Rattle.event_schedule.specs.Events.{once, is_tag, is_send, is_take, is_close, is_end}
+use Rattle.event_schedule.specs.Schedule.{Shape, members_of, floor_of, is_closed, is_reading_sent, is_reading_taken, survivors, missing, reaches_floor, is_announced, may_announce, is_announcement_sent, is_announcement_taken, is_answer_sent, is_ended, is_answer_taken, all_taken, lacking, may_send, is_sent, is_taken, is_late, verdict, verdict_by_table, closing}
+use Rattle.event_schedule.specs.Transcript.{Contents, line, lines_after, set_sent, word_sent, frame, ending}
+use Rattle.event_schedule.proofs.EventLemmas.{is_send-itself, is_send-true}
+use Rattle.event_schedule.proofs.VerdictLemmas.{verdict-table}
 use Rattle.cut_resume.specs.Order.{are_apart}
 
 -- ---- apart, the other way round

@@ -1,6 +1,6 @@
 -- How many entries of a run, from its first on, are heard to be those of a cut.
 use Rattle.std.specs.Prelude.{◌≡◌, ◌≢◌, ℕ, ◌<◌, ◌≤◌, true, List, length, take, slice_index_or, Option, IfSome}
-use Rattle.transcript_log.specs.declared.Entry.{Entry}
+use Rattle.event_schedule.specs.declared.Entry.{Entry}
 use Rattle.cut_resume.specs.declared.heard.Heard.{Heard}
 
 -- so many entries are the first of both

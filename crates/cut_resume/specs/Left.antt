@@ -1,8 +1,8 @@
 -- What is left of a run, and what a cut's entries leave of it.
 use Rattle.std.specs.Prelude.{◌≡◌, ℕ, ◌^◌, ◌<◌, ◌≤◌, Bool, true, false, List, [], ◌∷◌, ◌++◌, length, drop, take, slice_index_or, All, Option, Some, None, Result, Ok, Err, ⊤}
 use Rattle.std.specs.List.{flat_map}
-use Rattle.transcript_log.specs.declared.Entry.{Entry}
-use Rattle.transcript_log.specs.Transcripts.{TranscriptView}
+use Rattle.event_schedule.specs.declared.Entry.{Entry}
+use Rattle.event_schedule.specs.Transcripts.{TranscriptView}
 use Rattle.transcript_text.specs.EntryLines.{entry_line}
 use Rattle.cut_resume.specs.declared.errors.ResumeError.{ResumeError}
 use Rattle.cut_resume.specs.declared.errors.ResumeError.TheVariants.{NotThis, Memory}

@@ -5,13 +5,13 @@ use Rattle.missing_round.specs.Masks.{Masks}
 use Rattle.group_plan.specs.declared.Tag.{Tag}
 use Rattle.group_plan.specs.Tables.{ReadingsView, reading}
 use Rattle.link_lanes.specs.Lanes.{Slot, fate_after}
-use Rattle.transcript_log.specs.declared.Event.{Event}
-use Rattle.transcript_log.specs.declared.Event.TheVariants.{Send, Take, Close, End}
-use Rattle.transcript_log.specs.declared.Entry.{Entry}
-use Rattle.transcript_log.specs.Events.{event_of, events_of, is_close, is_end}
-use Rattle.transcript_log.specs.Schedule.{Shape}
-use Rattle.transcript_log.specs.Transcript.{Contents, line, shape_of_readings, contents_of_tables}
-use Rattle.transcript_log.specs.Transcripts.{last_tick_from}
+use Rattle.event_schedule.specs.declared.Event.{Event}
+use Rattle.event_schedule.specs.declared.Event.TheVariants.{Send, Take, Close, End}
+use Rattle.event_schedule.specs.declared.Entry.{Entry}
+use Rattle.event_schedule.specs.Events.{event_of, events_of, is_close, is_end}
+use Rattle.event_schedule.specs.Schedule.{Shape}
+use Rattle.event_schedule.specs.Transcript.{Contents, line, shape_of_readings, contents_of_tables}
+use Rattle.event_schedule.specs.Transcripts.{last_tick_from}
 use Rattle.run_rows.specs.Ticks.{Clock, clock_of, last_tick, in_plan, phase, takes_at, copies, StandsOnce, sent_at, due_of, posts_of}
 
 -- ---- 1. the line: what its event says after the events before it

@@ -1,9 +1,9 @@
 -- Entries whose order says nothing: neither of two that stand next to each other says anything of the other.
 use Rattle.std.specs.Prelude.{◌≡◌, ◌==◌, Bool, true, false, not, ◌&&◌, List, ◌∷◌, ◌++◌, All}
-use Rattle.transcript_log.specs.declared.Event.{Event}
-use Rattle.transcript_log.specs.declared.Event.TheVariants.{Take, Close, End}
-use Rattle.transcript_log.specs.declared.Entry.{Entry}
-use Rattle.transcript_log.specs.Events.{event_of, is_tag}
+use Rattle.event_schedule.specs.declared.Event.{Event}
+use Rattle.event_schedule.specs.declared.Event.TheVariants.{Take, Close, End}
+use Rattle.event_schedule.specs.declared.Entry.{Entry}
+use Rattle.event_schedule.specs.Events.{event_of, is_tag}
 
 -- two Takes of other tags, or two of the Closes and Ends, of other rounds
 abbrev pub are_apart : Event → Event → Bool

@@ -1,8 +1,8 @@
 -- Entries written down one after another: their lines stand in a journal.
 use Rattle.std.specs.Prelude.{◌≡◌, List, ◌++◌, All}
-use Rattle.transcript_log.specs.declared.Entry.{Entry}
-use Rattle.transcript_log.specs.Events.{lines_of}
-use Rattle.transcript_log.specs.Transcripts.{Fits, NeverFalls, TranscriptView, last_tick_from}
+use Rattle.event_schedule.specs.declared.Entry.{Entry}
+use Rattle.event_schedule.specs.Events.{lines_of}
+use Rattle.event_schedule.specs.Transcripts.{Fits, NeverFalls, TranscriptView, last_tick_from}
 use Rattle.cut_resume.specs.declared.remaking.RemadeRun.{RemadeRun}
 
 -- the journal has the lines of the entries

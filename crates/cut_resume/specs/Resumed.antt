@@ -4,9 +4,9 @@ use Rattle.group_plan.specs.Tables.{ReadingsView}
 use Rattle.link_lanes.specs.Lanes.{Slot}
 use Rattle.pair_keys.specs.Keys.{Keys}
 use Rattle.mask_stream.specs.KeyStreams.{streams}
-use Rattle.transcript_log.specs.declared.Entry.{Entry}
-use Rattle.transcript_log.specs.Events.{lines_of}
-use Rattle.transcript_log.specs.Transcripts.{TranscriptView}
+use Rattle.event_schedule.specs.declared.Entry.{Entry}
+use Rattle.event_schedule.specs.Events.{lines_of}
+use Rattle.event_schedule.specs.Transcripts.{TranscriptView}
 use Rattle.transcript_text.specs.EntryLines.{entry_line}
 use Rattle.tick_run.specs.declared.finished.Finished.{Finished}
 use Rattle.tick_run.specs.Finished.{HasRowsOf, IsFinished}

@@ -5,11 +5,11 @@ use Rattle.group_book.specs.Groups.{GroupView}
 use Rattle.group_book.specs.Replay.{AreReplayed}
 use Rattle.link_lanes.specs.Lanes.{Slot}
 use Rattle.pair_keys.specs.Keys.{Keys}
-use Rattle.transcript_log.specs.declared.Entry.{Entry}
-use Rattle.transcript_log.specs.Events.{lines_of}
-use Rattle.transcript_log.specs.Schedule.{Shape}
-use Rattle.transcript_log.specs.Transcript.{Contents}
-use Rattle.transcript_log.specs.Transcripts.{IsTranscript, TranscriptView}
+use Rattle.event_schedule.specs.declared.Entry.{Entry}
+use Rattle.event_schedule.specs.Events.{lines_of}
+use Rattle.event_schedule.specs.Schedule.{Shape}
+use Rattle.event_schedule.specs.Transcript.{Contents}
+use Rattle.event_schedule.specs.Transcripts.{IsTranscript, TranscriptView}
 use Rattle.run_rows.specs.Ticks.{Clock, HaveDelays}
 use Rattle.run_rows.specs.Runs.{IsRun}
 use Rattle.run_course.specs.declared.errors.CourseError.{CourseError}

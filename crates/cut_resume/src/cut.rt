@@ -2,7 +2,7 @@
 
 ghost use Rattle.std.specs.Prelude.{◌≡◌, ◌≤◌, ◌<◌, ◌+◌, ◌^◌, ◌||◌, ◌++◌, ℕ, List, length, take, codes, bytes_eq, true, false, IfOk, IfSome, Ok, Result, Err, if◌then◌else◌};
 ghost use Rattle.std.specs.List.{list_any};
-ghost use Rattle.transcript_log.specs.Transcripts.{IsTranscript, TranscriptView, no_entries};
+ghost use Rattle.event_schedule.specs.Transcripts.{IsTranscript, TranscriptView, no_entries};
 ghost use Rattle.transcript_text.specs.declared.Version.TheVariants.{Two};
 ghost use Rattle.transcript_text.specs.declared.fault.ReadError.{ReadError as ReadErrorView};
 ghost use Rattle.transcript_text.specs.declared.fault.ReadError.TheVariants.{NoEnd};

@@ -1,16 +1,17 @@
 //! The entries that are left of a run, of which those of a cut are picked.
 
 ghost use Rattle.std.specs.Prelude.{◌≡◌, ◌≤◌, ◌<◌, ◌^◌, ◌+◌, ◌++◌, true, false, All, IfOk, OnOk, IsTrue, drop, length, slice_index_or, Some};
-ghost use Rattle.transcript_log.specs.declared.Entry.{Entry as EntryView};
-ghost use Rattle.transcript_log.specs.Events.{same_kind, is_tag};
+ghost use Rattle.event_schedule.specs.declared.Entry.{Entry as EntryView};
+ghost use Rattle.event_schedule.specs.Events.{same_kind, is_tag};
 ghost use Rattle.cut_resume.specs.Left.{Decides, IsLeft, MayPassAll, StopsAt, Picks, PickEnds, PicksEnd, entries_left};
 ghost use Rattle.cut_resume.specs.Order.{are_apart, may_pass};
 
 use crate::ResumeError;
+use event_schedule::{Entry, Event, Line};
 use group_plan::{Kind, Tag};
 use link_lanes::Fate;
 use std::alloc::{AllocError, Global};
-use transcript_log::{Entry, Event, Line, Transcript};
+use transcript_log::Transcript;
 use transcript_text::entry_line;
 
 /// What is left of a run: the entries at these places, which others passed, and its entries from a place on.

@@ -1,13 +1,14 @@
 //! The entries of a cut, and behind them those that are left of a run.
 
 ghost use Rattle.std.specs.Prelude.{◌≡◌, ◌≤◌, ◌<◌, ◌++◌, [], ◌∷◌, All, IfOk, OnOk, drop, length};
-ghost use Rattle.transcript_log.specs.Transcripts.{Fits, NeverFalls};
+ghost use Rattle.event_schedule.specs.Transcripts.{Fits, NeverFalls};
 ghost use Rattle.cut_resume.specs.Left.{IsLeft, at_places, entries_left};
 ghost use Rattle.cut_resume.specs.Remaking.{CanGoOn, GoesOn, IsRemade};
 
 use crate::left::Left;
+use event_schedule::Entry;
 use std::alloc::{AllocError, Global};
-use transcript_log::{Draft, Entry, Lines, Transcript};
+use transcript_log::{Draft, Lines, Transcript};
 
 /// A run that is remade: its entries, and the journal that has their lines.
 #[derive(Drop)]

@@ -5,7 +5,7 @@ ghost use Rattle.group_plan.specs.Tables.{IsPresenceTable};
 ghost use Rattle.link_lanes.specs.Racks.{slots, posts_of, HasRoom};
 ghost use Rattle.pair_keys.specs.Keys.{table_of};
 ghost use Rattle.run_rows.specs.Ticks.{IsOrdered};
-ghost use Rattle.transcript_log.specs.Events.{lines_of};
+ghost use Rattle.event_schedule.specs.Events.{lines_of};
 ghost use Rattle.cut_resume.specs.Resumed.{FollowEnds, ResumeEnds};
 
 use crate::ResumeError;

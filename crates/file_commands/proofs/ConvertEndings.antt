@@ -5,7 +5,7 @@ use Rattle.file_commands.specs.ConvertEnds.{ConvertEnds}
 use Rattle.desk_outside.specs.Desk.{View}
 use Rattle.command_files.specs.Calls.{IsRead, after_fetches, putting, PutsEnd}
 use Rattle.transcript_text.specs.declared.version.Version.TheVariants.{One}
-use Rattle.transcript_log.specs.Transcripts.{TranscriptView}
+use Rattle.event_schedule.specs.Transcripts.{TranscriptView}
 use Rattle.transcript_text.specs.ReadBack.{HasText}
 use Rattle.transcript_text.specs.Spelling.{text_of, transcript_text}
 use Rattle.command_texts.specs.Lines.{converted_line}

@@ -6,7 +6,7 @@ use Rattle.command_words.specs.declared.outcome.Outcome.{Outcome}
 use Rattle.command_words.specs.declared.outcome.Outcome.TheVariants.{NoMemory, BadTranscript}
 use Rattle.command_texts.specs.Lines.{converted_line}
 use Rattle.transcript_text.specs.declared.version.Version.TheVariants.{One}
-use Rattle.transcript_log.specs.Transcripts.{TranscriptView}
+use Rattle.event_schedule.specs.Transcripts.{TranscriptView}
 use Rattle.transcript_text.specs.ReadBack.{HasText}
 use Rattle.transcript_text.specs.Spelling.{text_of, transcript_text}
 use Rattle.transcript_text.specs.Heads.{read_of}

@@ -1,11 +1,12 @@
 //! A part of a draft.
 
 ghost use Rattle.std.specs.Prelude.{◌≡◌, ◌≤◌, ◌++◌, ◌∷◌, [], OnOk, IfOk};
-ghost use Rattle.transcript_log.specs.Events.{lines_of};
-ghost use Rattle.transcript_log.specs.Transcripts.{last_tick_from, Fits};
+ghost use Rattle.event_schedule.specs.Events.{lines_of};
+ghost use Rattle.event_schedule.specs.Transcripts.{last_tick_from, Fits};
 ghost use Rattle.transcript_log.specs.Lines.{HasOwnTag};
 
 use crate::fixtures::{check_bytes, check_same};
+use event_schedule::{Entry, Line};
 use group_plan::{Kind, Plan, Tag};
 use link_lanes::Fate;
 use round_machine::Verdict;
@@ -13,7 +14,7 @@ use row_fixtures::plan_of_north;
 use std::alloc::{AllocError, Global};
 use std::process::Abort;
 use std::test::Fail;
-use transcript_log::{Draft, Entry, Line, Lines, Transcript};
+use transcript_log::{Draft, Lines, Transcript};
 
 // The reading of meter 2 in round 0.
 const TAG: Tag = Tag {

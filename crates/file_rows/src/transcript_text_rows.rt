@@ -1,6 +1,7 @@
 //! Texts of transcripts, read and written, and their first faults.
 
 use crate::fixtures::{check, check_bytes, check_same};
+use event_schedule::{Entry, Line, members};
 use group_plan::{Kind, Plan, Span, Tag};
 use link_lanes::Fate;
 use round_machine::Verdict;
@@ -9,7 +10,7 @@ use std::alloc::{AllocError, Global};
 use std::process::Abort;
 use std::test::Fail;
 use std::thread::Threads;
-use transcript_log::{Entry, Line, Transcript, members};
+use transcript_log::Transcript;
 use transcript_text::{ReadError, line_text, read, read_old, write};
 
 /// The plain case in version 1.

@@ -9,11 +9,11 @@ use Rattle.group_plan.specs.declared.Kind.TheVariants.{Reading}
 use Rattle.group_plan.specs.Plans.{PlanView, is_member, is_place}
 use Rattle.group_plan.specs.Tables.{ReadingsView, PresenceView, reading, presence_of, absent}
 use Rattle.group_plan.proofs.TableLemmas.{is_present-map, entry-table_of, entry_outside, is_table-table_of}
-use Rattle.transcript_log.specs.declared.Entry.{Entry}
-use Rattle.transcript_log.specs.declared.Line.{Line}
-use Rattle.transcript_log.specs.Events.{event_of, frame_of, is_send, lines_of}
-use Rattle.transcript_log.specs.Frames.{first_frame, shape_of_lines}
-use Rattle.transcript_log.specs.Transcript.{shape_of_readings}
+use Rattle.event_schedule.specs.declared.Entry.{Entry}
+use Rattle.event_schedule.specs.declared.Line.{Line}
+use Rattle.event_schedule.specs.Events.{event_of, frame_of, is_send, lines_of}
+use Rattle.event_schedule.specs.Frames.{first_frame, shape_of_lines}
+use Rattle.event_schedule.specs.Transcript.{shape_of_readings}
 use Rattle.frame_presence.specs.Presence.{IsPresenceOf, Notes, IsNoted}
 
 -- where no line is noted no reading stands

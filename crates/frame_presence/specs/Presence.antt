@@ -3,12 +3,12 @@ use Rattle.std.specs.Prelude.{◌≡◌, ℕ, ◌&&◌, List, is_some, if◌then
 use Rattle.group_plan.specs.declared.Kind.TheVariants.{Reading}
 use Rattle.group_plan.specs.Plans.{PlanView, is_member}
 use Rattle.group_plan.specs.Tables.{ReadingsView, PresenceView, reading}
-use Rattle.transcript_log.specs.declared.Line.{Line}
-use Rattle.transcript_log.specs.declared.Line.TheVariants.{Send as SendLine}
-use Rattle.transcript_log.specs.Transcripts.{HasPlace}
-use Rattle.transcript_log.specs.Events.{event_of, frame_of, is_send}
-use Rattle.transcript_log.specs.Schedule.{shape_of_presence}
-use Rattle.transcript_log.specs.Frames.{first_frame, shape_of_lines}
+use Rattle.event_schedule.specs.declared.Line.{Line}
+use Rattle.event_schedule.specs.declared.Line.TheVariants.{Send as SendLine}
+use Rattle.event_schedule.specs.Transcripts.{HasPlace}
+use Rattle.event_schedule.specs.Events.{event_of, frame_of, is_send}
+use Rattle.event_schedule.specs.Schedule.{shape_of_presence}
+use Rattle.event_schedule.specs.Frames.{first_frame, shape_of_lines}
 
 -- the presence of the lines' own shape
 pub record IsPresenceOf (plan : PlanView) (ls : List Line) (presence : PresenceView) : Type 0 where

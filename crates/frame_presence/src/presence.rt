@@ -1,12 +1,13 @@
 //! Who has a reading, by the frames of a transcript.
 
 ghost use Rattle.std.specs.Prelude.{IfOk};
-ghost use Rattle.transcript_log.specs.Events.{lines_of};
+ghost use Rattle.event_schedule.specs.Events.{lines_of};
 ghost use Rattle.frame_presence.specs.Presence.{HasTagPlace, IsPresenceOf, IsNoted, Notes};
 
+use event_schedule::Line;
 use group_plan::{Kind, Presence, Readings};
 use std::alloc::{AllocError, Global};
-use transcript_log::{Line, Transcript};
+use transcript_log::Transcript;
 
 // Notes whether a line is a Send of a reading of a member, and has a frame: a reading of 0 stands for one that is present.
 fn note(readings: &mut Readings, line: &Line)

@@ -8,10 +8,10 @@ use Rattle.group_plan.specs.declared.Tag.{Tag}
 use Rattle.group_plan.specs.Plans.{PlanView, is_place}
 use Rattle.group_plan.specs.Tables.{PresenceView}
 use Rattle.group_plan.proofs.MeterNumbers.{group-lt, in_place}
-use Rattle.transcript_log.specs.declared.Line.{Line}
-use Rattle.transcript_log.specs.Events.{event_of}
+use Rattle.event_schedule.specs.declared.Line.{Line}
+use Rattle.event_schedule.specs.Events.{event_of}
 use Rattle.transcript_log.specs.Lines.{LinesView}
-use Rattle.transcript_log.specs.ByGroup.{group_of}
+use Rattle.event_schedule.specs.ByGroup.{group_of}
 use Rattle.group_book.specs.Books.{BookView}
 use Rattle.group_book.specs.Groups.{GroupView}
 use Rattle.group_book.specs.Replay.{Replays, IsGroup, AreReplayed, PagesEnd, book_at}

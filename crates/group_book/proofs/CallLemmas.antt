@@ -11,14 +11,14 @@ use Rattle.group_plan.specs.Tables.{PresenceView}
 use Rattle.meter_frames.specs.declared.Frame.{Frame}
 use Rattle.round_machine.specs.declared.Verdict.{Verdict}
 use Rattle.round_machine.specs.Rounds.{missing as missing_in, is_announced as round_announced}
-use Rattle.transcript_log.specs.declared.Event.{Event}
-use Rattle.transcript_log.specs.declared.Line.{Line}
-use Rattle.transcript_log.specs.Schedule.{Shape, shape_of_presence, is_sent, may_send, is_taken, missing, is_announced, is_reading_taken}
-use Rattle.transcript_log.specs.Transcript.{set_sent}
-use Rattle.transcript_log.specs.Frames.{word_or_zero, first_word}
-use Rattle.transcript_log.specs.Journal.{past_of, core_line}
-use Rattle.transcript_log.proofs.ScheduleLemmas.{is_announced-from_sent, is_announced-from_answer, is_announcement_sent-from_taken}
-use Rattle.transcript_log.proofs.ListLemmas.{and_first}
+use Rattle.event_schedule.specs.declared.Event.{Event}
+use Rattle.event_schedule.specs.declared.Line.{Line}
+use Rattle.event_schedule.specs.Schedule.{Shape, shape_of_presence, is_sent, may_send, is_taken, missing, is_announced, is_reading_taken}
+use Rattle.event_schedule.specs.Transcript.{set_sent}
+use Rattle.event_schedule.specs.Frames.{word_or_zero, first_word}
+use Rattle.event_schedule.specs.Journal.{past_of, core_line}
+use Rattle.event_schedule.proofs.ScheduleLemmas.{is_announced-from_sent, is_announced-from_answer, is_announcement_sent-from_taken}
+use Rattle.event_schedule.proofs.ListLemmas.{and_first}
 use Rattle.group_book.specs.Groups.{GroupView, holds}
 use Rattle.group_book.specs.Pages.{PageView, taken_in, announced_in, PageTakes}
 use Rattle.group_book.specs.Books.{BookView, shape_of, past, posted_of, was_sent, allows, missing_of, Adds, IsFree, HasSet, IsPosted, IsAnnounced}

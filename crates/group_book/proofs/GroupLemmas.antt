@@ -23,19 +23,19 @@ use Rattle.round_machine.specs.declared.Closing.{Closing}
 use Rattle.round_machine.specs.declared.Ending.{Ending}
 use Rattle.round_machine.specs.Rounds.{Closes, Ends}
 use Rattle.round_machine.specs.Rounds.{is_announced as round_announced}
-use Rattle.transcript_log.specs.declared.Event.{Event}
-use Rattle.transcript_log.specs.declared.Event.TheVariants.{Send}
-use Rattle.transcript_log.specs.declared.Line.{Line}
-use Rattle.transcript_log.specs.declared.Line.TheVariants.{Send as SendLine, Take as TakeLine, Close as CloseLine, End as EndLine}
-use Rattle.transcript_log.specs.Events.{event_of, frame_of, is_tag, is_send}
-use Rattle.transcript_log.specs.Schedule.{Shape, shape_of_presence, members_of, is_closed, reaches_floor, may_send, is_sent, is_taken, is_late, verdict, is_fresh, has_fresh_take, missing, is_announced, may_announce, is_reading_taken}
-use Rattle.transcript_log.specs.Transcript.{set_sent, word_sent}
-use Rattle.transcript_log.specs.Frames.{word_or_zero, first_word, contents_of_lines}
-use Rattle.transcript_log.specs.Journal.{past_of}
-use Rattle.transcript_log.proofs.ScheduleLemmas.{once-gives, missing-closed, is_announced-from_sent, is_closed-from_answer, is_reading_taken-from_answer, is_announced-from_answer, present-from_taken}
-use Rattle.transcript_log.proofs.ListLemmas.{and_first, and_last}
+use Rattle.event_schedule.specs.declared.Event.{Event}
+use Rattle.event_schedule.specs.declared.Event.TheVariants.{Send}
+use Rattle.event_schedule.specs.declared.Line.{Line}
+use Rattle.event_schedule.specs.declared.Line.TheVariants.{Send as SendLine, Take as TakeLine, Close as CloseLine, End as EndLine}
+use Rattle.event_schedule.specs.Events.{event_of, frame_of, is_tag, is_send}
+use Rattle.event_schedule.specs.Schedule.{Shape, shape_of_presence, members_of, is_closed, reaches_floor, may_send, is_sent, is_taken, is_late, verdict, is_fresh, has_fresh_take, missing, is_announced, may_announce, is_reading_taken}
+use Rattle.event_schedule.specs.Transcript.{set_sent, word_sent}
+use Rattle.event_schedule.specs.Frames.{word_or_zero, first_word, contents_of_lines}
+use Rattle.event_schedule.specs.Journal.{past_of}
+use Rattle.event_schedule.proofs.ScheduleLemmas.{once-gives, missing-closed, is_announced-from_sent, is_closed-from_answer, is_reading_taken-from_answer, is_announced-from_answer, present-from_taken}
+use Rattle.event_schedule.proofs.ListLemmas.{and_first, and_last}
 use Rattle.transcript_log.specs.Lines.{LinesView}
-use Rattle.transcript_log.specs.ByGroup.{group_of}
+use Rattle.event_schedule.specs.ByGroup.{group_of}
 use Rattle.group_book.specs.Groups.{GroupView, holds, word_in}
 use Rattle.std.proofs.lemmas.List.Elements.{All-nil, All-cons}
 use Rattle.group_book.specs.Pages.{PageView, taken_in, PageTakes, can_take}

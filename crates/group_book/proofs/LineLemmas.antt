@@ -6,15 +6,15 @@ use Rattle.std.proofs.lemmas.Bool.{false≢true}
 use Rattle.group_plan.specs.declared.Kind.{Kind}
 use Rattle.group_plan.specs.declared.Kind.TheVariants.{Reading, Announcement, Answer}
 use Rattle.meter_frames.specs.declared.Frame.{Frame}
-use Rattle.transcript_log.specs.declared.Event.{Event}
-use Rattle.transcript_log.specs.declared.Line.{Line}
-use Rattle.transcript_log.specs.declared.Line.TheVariants.{Send as SendLine, Take as TakeLine, Close as CloseLine, End as EndLine}
-use Rattle.transcript_log.specs.Events.{event_of, frame_of, is_send, is_take}
-use Rattle.transcript_log.specs.Schedule.{Shape, may_send, is_sent, is_taken, is_late}
-use Rattle.transcript_log.specs.Transcript.{frame}
-use Rattle.transcript_log.specs.Frames.{word_or_zero, first_word, contents_of_lines}
-use Rattle.transcript_log.specs.Journal.{past_of, core_line, IsJournalAfter}
-use Rattle.transcript_log.proofs.ScheduleLemmas.{once-cons, is_reading_sent-from_taken, is_announcement_sent-from_taken, is_answer_sent-from_taken}
+use Rattle.event_schedule.specs.declared.Event.{Event}
+use Rattle.event_schedule.specs.declared.Line.{Line}
+use Rattle.event_schedule.specs.declared.Line.TheVariants.{Send as SendLine, Take as TakeLine, Close as CloseLine, End as EndLine}
+use Rattle.event_schedule.specs.Events.{event_of, frame_of, is_send, is_take}
+use Rattle.event_schedule.specs.Schedule.{Shape, may_send, is_sent, is_taken, is_late}
+use Rattle.event_schedule.specs.Transcript.{frame}
+use Rattle.event_schedule.specs.Frames.{word_or_zero, first_word, contents_of_lines}
+use Rattle.event_schedule.specs.Journal.{past_of, core_line, IsJournalAfter}
+use Rattle.event_schedule.proofs.ScheduleLemmas.{once-cons, is_reading_sent-from_taken, is_announcement_sent-from_taken, is_answer_sent-from_taken}
 use Rattle.group_book.specs.Books.{posted}
 use Rattle.group_book.specs.Replay.{HasOwnFrames, IsJournal}
 

@@ -13,20 +13,20 @@ use Rattle.group_plan.specs.declared.Tag.{Tag}
 use Rattle.meter_frames.specs.declared.Frame.{Frame}
 use Rattle.round_machine.specs.declared.Ending.{Ending}
 use Rattle.round_machine.specs.declared.Ending.TheVariants.{Total, Lacking, Thin, Already, NotClosed}
-use Rattle.transcript_log.specs.declared.Event.{Event}
-use Rattle.transcript_log.specs.declared.Event.TheVariants.{Send, Take, Close, End}
-use Rattle.transcript_log.specs.declared.Line.{Line}
-use Rattle.transcript_log.specs.declared.Line.TheVariants.{Send as SendLine, Take as TakeLine, Close as CloseLine, End as EndLine}
-use Rattle.transcript_log.specs.Events.{event_of, frame_of, is_send}
-use Rattle.transcript_log.specs.Schedule.{Shape, is_closed, is_ended, is_announced, all_taken, lacking, survivors, may_send, verdict, closing}
-use Rattle.transcript_log.specs.Transcript.{set_sent, word_sent, frame, ending}
-use Rattle.transcript_log.specs.Frames.{word_or_zero, first_word, contents_of_lines}
-use Rattle.transcript_log.specs.Journal.{past_of, core_line, IsJournalAfter}
+use Rattle.event_schedule.specs.declared.Event.{Event}
+use Rattle.event_schedule.specs.declared.Event.TheVariants.{Send, Take, Close, End}
+use Rattle.event_schedule.specs.declared.Line.{Line}
+use Rattle.event_schedule.specs.declared.Line.TheVariants.{Send as SendLine, Take as TakeLine, Close as CloseLine, End as EndLine}
+use Rattle.event_schedule.specs.Events.{event_of, frame_of, is_send}
+use Rattle.event_schedule.specs.Schedule.{Shape, is_closed, is_ended, is_announced, all_taken, lacking, survivors, may_send, verdict, closing}
+use Rattle.event_schedule.specs.Transcript.{set_sent, word_sent, frame, ending}
+use Rattle.event_schedule.specs.Frames.{word_or_zero, first_word, contents_of_lines}
+use Rattle.event_schedule.specs.Journal.{past_of, core_line, IsJournalAfter}
 use Rattle.group_book.specs.Books.{posted}
 use Rattle.group_book.specs.Replay.{HasOwnFrames, IsJournal}
-use Rattle.transcript_log.specs.ByGroup.{group_of, events_in, lines_in}
+use Rattle.event_schedule.specs.ByGroup.{group_of, events_in, lines_in}
 use Rattle.group_book.proofs.LineLemmas.{IsCore, HasOwnFrame, first_word-posted}
-use Rattle.transcript_log.proofs.EventsByGroup.{reverse_aux-filter, send-elsewhere, closed-in, ended-in, announced-in, all_taken-in, lacking-in, survivors-in, may_send-in, verdict-in, closing-in, set_sent-in}
+use Rattle.event_schedule.proofs.EventsByGroup.{reverse_aux-filter, send-elsewhere, closed-in, ended-in, announced-in, all_taken-in, lacking-in, survivors-in, may_send-in, verdict-in, closing-in, set_sent-in}
 
 -- ---- the events of a group's lines
 

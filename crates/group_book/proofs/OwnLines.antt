@@ -7,18 +7,18 @@ use Rattle.missing_round.specs.Words.{word}
 use Rattle.group_plan.specs.declared.Kind.{Kind}
 use Rattle.group_plan.specs.declared.Kind.TheVariants.{Reading, Answer}
 use Rattle.group_plan.specs.Tables.{PresenceView}
-use Rattle.transcript_log.specs.declared.Event.{Event}
-use Rattle.transcript_log.specs.declared.Line.{Line}
-use Rattle.transcript_log.specs.Schedule.{Shape, shape_of_presence, members_of, is_closed, is_ended, is_taken}
-use Rattle.transcript_log.specs.Transcript.{set_sent}
-use Rattle.transcript_log.specs.Frames.{first_word}
-use Rattle.transcript_log.specs.Journal.{past_of}
+use Rattle.event_schedule.specs.declared.Event.{Event}
+use Rattle.event_schedule.specs.declared.Line.{Line}
+use Rattle.event_schedule.specs.Schedule.{Shape, shape_of_presence, members_of, is_closed, is_ended, is_taken}
+use Rattle.event_schedule.specs.Transcript.{set_sent}
+use Rattle.event_schedule.specs.Frames.{first_word}
+use Rattle.event_schedule.specs.Journal.{past_of}
 use Rattle.group_book.specs.Pages.{PageView}
 use Rattle.group_book.specs.Books.{posted}
-use Rattle.transcript_log.specs.ByGroup.{events_in, lines_in}
+use Rattle.event_schedule.specs.ByGroup.{events_in, lines_in}
 use Rattle.group_book.specs.Groups.{GroupView}
 use Rattle.group_book.specs.Replay.{IsPage, IsWord, frame_with, IsLedger, Replays}
-use Rattle.transcript_log.proofs.EventsByGroup.{closed-in, ended-in, taken-in, set_sent-in}
+use Rattle.event_schedule.proofs.EventsByGroup.{closed-in, ended-in, taken-in, set_sent-in}
 use Rattle.group_book.proofs.LinesByGroup.{past-in, posted-in, first_word-in}
 
 module _ (s : Shape) (g : ℕ) (one other : List Line) (same : lines_in g other ≡ lines_in g one) where

@@ -22,18 +22,18 @@ use Rattle.round_machine.specs.declared.Ending.{Ending}
 use Rattle.round_machine.specs.declared.Ending.TheVariants as endings
 use Rattle.round_machine.specs.Rounds.{RoundView, has_floor, Closes, Ends}
 use Rattle.round_machine.specs.Rounds.{missing as missing_in, is_announced as round_announced, lacking as lacking_in, total as total_in}
-use Rattle.transcript_log.specs.declared.Event.{Event}
-use Rattle.transcript_log.specs.declared.Event.TheVariants.{Send, Take, Close, End}
-use Rattle.transcript_log.specs.declared.Line.{Line}
-use Rattle.transcript_log.specs.declared.Line.TheVariants.{Take as TakeLine, Close as CloseLine, End as EndLine}
-use Rattle.transcript_log.specs.Events.{event_of, is_tag, same_kind, is_close, is_end}
-use Rattle.transcript_log.specs.Schedule.{Shape, members_of, floor_of, is_sent, is_taken, is_late, is_closed, is_ended, survivors, missing, reaches_floor, is_announced, is_answer_taken, all_taken, is_opened, is_published, lacking, verdict, closing, Running, EndedThin, Published, Unpublished, outcome}
-use Rattle.transcript_log.specs.Transcript.{ending}
-use Rattle.transcript_log.specs.Frames.{first_word, word_or_zero, contents_of_lines}
-use Rattle.transcript_log.specs.Journal.{past_of}
-use Rattle.transcript_log.proofs.ScheduleLemmas.{once-cons, once-gives, is_closed-more, is_opened-from_taken, is_reading_taken-from_answer, is_answer_sent-from_taken}
-use Rattle.transcript_log.proofs.ListLemmas.{and_last, list_all-from_filter}
-use Rattle.transcript_log.proofs.VerdictLemmas.{verdict-table}
+use Rattle.event_schedule.specs.declared.Event.{Event}
+use Rattle.event_schedule.specs.declared.Event.TheVariants.{Send, Take, Close, End}
+use Rattle.event_schedule.specs.declared.Line.{Line}
+use Rattle.event_schedule.specs.declared.Line.TheVariants.{Take as TakeLine, Close as CloseLine, End as EndLine}
+use Rattle.event_schedule.specs.Events.{event_of, is_tag, same_kind, is_close, is_end}
+use Rattle.event_schedule.specs.Schedule.{Shape, members_of, floor_of, is_sent, is_taken, is_late, is_closed, is_ended, survivors, missing, reaches_floor, is_announced, is_answer_taken, all_taken, is_opened, is_published, lacking, verdict, closing, Running, EndedThin, Published, Unpublished, outcome}
+use Rattle.event_schedule.specs.Transcript.{ending}
+use Rattle.event_schedule.specs.Frames.{first_word, word_or_zero, contents_of_lines}
+use Rattle.event_schedule.specs.Journal.{past_of}
+use Rattle.event_schedule.proofs.ScheduleLemmas.{once-cons, once-gives, is_closed-more, is_opened-from_taken, is_reading_taken-from_answer, is_answer_sent-from_taken}
+use Rattle.event_schedule.proofs.ListLemmas.{and_last, list_all-from_filter}
+use Rattle.event_schedule.proofs.VerdictLemmas.{verdict-table}
 use Rattle.group_book.specs.declared.answers.OutcomeState.{OutcomeState}
 use Rattle.group_book.specs.declared.answers.OutcomeState.TheVariants as states
 use Rattle.group_book.specs.Pages.{PageView, taken_in, is_past, with_taken, PageTakes, announced_in, total_or_lacking, state_in}

@@ -8,7 +8,7 @@ use Rattle.group_plan.specs.declared.Kind.TheVariants.{Reading, Announcement, An
 use Rattle.group_plan.specs.declared.Tag.{Tag}
 use Rattle.group_plan.specs.Plans.{PlanView, is_place}
 use Rattle.group_plan.proofs.MeterNumbers.{group-lt, in_place}
-use Rattle.transcript_log.specs.Events.{is_tag}
+use Rattle.event_schedule.specs.Events.{is_tag}
 use Rattle.group_book.specs.Places.{is_round, kind_number}
 use Rattle.group_book.specs.Pages.{PageView}
 use Rattle.group_book.specs.Groups.{GroupView, holds, group_tags, word_in}

@@ -8,8 +8,8 @@ use Rattle.group_plan.specs.declared.Kind.{Kind}
 use Rattle.group_plan.specs.declared.Kind.TheVariants.{Reading, Announcement, Answer}
 use Rattle.group_plan.specs.Plans.{PlanView, members, size, IsWithinLimits}
 use Rattle.group_plan.specs.Tables.{PresenceView, IsPresenceTable}
-use Rattle.transcript_log.specs.Events.{once}
-use Rattle.transcript_log.specs.Schedule.{Shape, shape_of_presence, is_sent, is_taken}
+use Rattle.event_schedule.specs.Events.{once}
+use Rattle.event_schedule.specs.Schedule.{Shape, shape_of_presence, is_sent, is_taken}
 use Rattle.group_book.specs.Groups.{GroupView, group_tags, word_in, first_group}
 use Rattle.group_book.specs.Pages.{PageView, taken_in}
 use Rattle.group_book.specs.Start.{first_page}

@@ -6,16 +6,16 @@ use Rattle.group_plan.specs.declared.Tag.{Tag}
 use Rattle.group_plan.specs.Plans.{Group, IsWithinLimits}
 use Rattle.group_plan.specs.Tables.{PresenceView, IsPresenceTable}
 use Rattle.meter_frames.specs.declared.Frame.{Frame}
-use Rattle.transcript_log.specs.declared.Event.{Event}
-use Rattle.transcript_log.specs.declared.Line.{Line}
-use Rattle.transcript_log.specs.declared.Line.TheVariants.{Send as SendLine, Take as TakeLine, Close as CloseLine, End as EndLine}
-use Rattle.transcript_log.specs.Events.{event_of}
-use Rattle.transcript_log.specs.Tables.{Readings, Masks, plain_sum, IsOfPlan, IsBounded}
-use Rattle.transcript_log.specs.Schedule.{Shape, shape_of_presence, may_send, survivors, is_ended, all_taken, is_announced, is_opened, lacking, outcome, Running, EndedThin, Published, Unpublished}
-use Rattle.transcript_log.specs.Transcript.{Contents, set_sent, word_sent, frame, lines_after, transcript, shape_of_readings, contents_of_tables}
-use Rattle.transcript_log.specs.Frames.{contents_of_lines}
-use Rattle.transcript_log.specs.Journal.{past_of, IsJournalAfter, HasFramesOf}
-use Rattle.transcript_log.proofs.JournalLemmas.{journal_is, total_of_journal}
+use Rattle.event_schedule.specs.declared.Event.{Event}
+use Rattle.event_schedule.specs.declared.Line.{Line}
+use Rattle.event_schedule.specs.declared.Line.TheVariants.{Send as SendLine, Take as TakeLine, Close as CloseLine, End as EndLine}
+use Rattle.event_schedule.specs.Events.{event_of}
+use Rattle.event_schedule.specs.Tables.{Readings, Masks, plain_sum, IsOfPlan, IsBounded}
+use Rattle.event_schedule.specs.Schedule.{Shape, shape_of_presence, may_send, survivors, is_ended, all_taken, is_announced, is_opened, lacking, outcome, Running, EndedThin, Published, Unpublished}
+use Rattle.event_schedule.specs.Transcript.{Contents, set_sent, word_sent, frame, lines_after, transcript, shape_of_readings, contents_of_tables}
+use Rattle.event_schedule.specs.Frames.{contents_of_lines}
+use Rattle.event_schedule.specs.Journal.{past_of, IsJournalAfter, HasFramesOf}
+use Rattle.event_schedule.proofs.JournalLemmas.{journal_is, total_of_journal}
 use Rattle.group_book.specs.Replay.{HasOwnFrames, IsJournal}
 use Rattle.group_book.specs.Tables.{HasWordsOf, IsUnder}
 

@@ -4,10 +4,10 @@ use Rattle.std.specs.Prelude.{◌==◌, ◌&&◌}
 use Rattle.std.proofs.lemmas.Bool.{cases_Bool, eq-eqb}
 use Rattle.group_plan.specs.declared.Kind.{Kind}
 use Rattle.group_plan.specs.declared.Tag.{Tag}
-use Rattle.transcript_log.specs.declared.Event.{Event}
-use Rattle.transcript_log.specs.declared.Event.TheVariants.{Send, Take, Close, End}
-use Rattle.transcript_log.specs.Events.{is_tag, same_kind}
-use Rattle.transcript_log.proofs.EventLemmas.{is_send-true, is_send-itself}
+use Rattle.event_schedule.specs.declared.Event.{Event}
+use Rattle.event_schedule.specs.declared.Event.TheVariants.{Send, Take, Close, End}
+use Rattle.event_schedule.specs.Events.{is_tag, same_kind}
+use Rattle.event_schedule.proofs.EventLemmas.{is_send-true, is_send-itself}
 
 OfTag : (ℕ → ℕ → ℕ → Kind → Type 0) → Event → Type 0
 OfTag P (Send tag) = P tag.group tag.round tag.meter tag.kind

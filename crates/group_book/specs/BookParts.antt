@@ -4,7 +4,7 @@ use Rattle.group_plan.specs.declared.Kind.{Kind}
 use Rattle.group_plan.specs.declared.Kind.TheVariants.{Reading}
 use Rattle.group_plan.specs.declared.Tag.{Tag}
 use Rattle.meter_frames.specs.declared.Frame.{Frame}
-use Rattle.transcript_log.specs.Transcript.{set_sent}
+use Rattle.event_schedule.specs.Transcript.{set_sent}
 use Rattle.group_book.specs.Books.{BookView, shape_of, past, posted_of, was_sent, IsFree, HasSet, HasOtherSet}
 
 -- the word that is kept of a tag: the posted frame has it, and carries the set that a frame of the tag carries now

@@ -9,16 +9,16 @@ use Rattle.meter_frames.specs.declared.Frame.{Frame}
 use Rattle.round_machine.specs.declared.Verdict.{Verdict}
 use Rattle.round_machine.specs.declared.Closing.{Closing}
 use Rattle.round_machine.specs.declared.Ending.{Ending}
-use Rattle.transcript_log.specs.declared.Event.{Event}
-use Rattle.transcript_log.specs.declared.Event.TheVariants.{Send, Take, Close, End}
-use Rattle.transcript_log.specs.declared.Line.{Line}
-use Rattle.transcript_log.specs.declared.Line.TheVariants.{Send as SendLine}
-use Rattle.transcript_log.specs.Events.{event_of, frame_of, is_send}
-use Rattle.transcript_log.specs.Schedule.{Shape, shape_of_presence, may_send, missing, verdict, closing, is_sent, is_announced, survivors, outcome, Running, EndedThin, Published, Unpublished}
-use Rattle.transcript_log.specs.Schedule.{Outcome as RoundOutcome}
-use Rattle.transcript_log.specs.Transcript.{ending}
-use Rattle.transcript_log.specs.Frames.{contents_of_lines}
-use Rattle.transcript_log.specs.Journal.{past_of, core_line}
+use Rattle.event_schedule.specs.declared.Event.{Event}
+use Rattle.event_schedule.specs.declared.Event.TheVariants.{Send, Take, Close, End}
+use Rattle.event_schedule.specs.declared.Line.{Line}
+use Rattle.event_schedule.specs.declared.Line.TheVariants.{Send as SendLine}
+use Rattle.event_schedule.specs.Events.{event_of, frame_of, is_send}
+use Rattle.event_schedule.specs.Schedule.{Shape, shape_of_presence, may_send, missing, verdict, closing, is_sent, is_announced, survivors, outcome, Running, EndedThin, Published, Unpublished}
+use Rattle.event_schedule.specs.Schedule.{Outcome as RoundOutcome}
+use Rattle.event_schedule.specs.Transcript.{ending}
+use Rattle.event_schedule.specs.Frames.{contents_of_lines}
+use Rattle.event_schedule.specs.Journal.{past_of, core_line}
 use Rattle.group_book.specs.declared.answers.SendAnswer.{SendAnswer}
 use Rattle.group_book.specs.declared.answers.SendAnswer.TheVariants.{Unknown, NotAllowed, WrongSet, Differs, Sent}
 use Rattle.group_book.specs.declared.answers.TakeError.{TakeError}

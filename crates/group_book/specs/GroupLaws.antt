@@ -1,12 +1,12 @@
 -- What of a journal each group decides alone.
 use Rattle.std.specs.Prelude.{◌≡◌, ℕ, ◌↔◌, List, Option}
 use Rattle.meter_frames.specs.declared.Frame.{Frame}
-use Rattle.transcript_log.specs.declared.Event.{Event}
-use Rattle.transcript_log.specs.declared.Line.{Line}
-use Rattle.transcript_log.specs.Schedule.{Shape}
-use Rattle.transcript_log.specs.Journal.{core_line}
+use Rattle.event_schedule.specs.declared.Event.{Event}
+use Rattle.event_schedule.specs.declared.Line.{Line}
+use Rattle.event_schedule.specs.Schedule.{Shape}
+use Rattle.event_schedule.specs.Journal.{core_line}
 use Rattle.group_plan.specs.Tables.{PresenceView}
-use Rattle.transcript_log.specs.ByGroup.{group_of, lines_in}
+use Rattle.event_schedule.specs.ByGroup.{group_of, lines_in}
 use Rattle.group_book.specs.Groups.{GroupView}
 use Rattle.group_book.specs.Replay.{IsJournal, IsLedger, Replays}
 

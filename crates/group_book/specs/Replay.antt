@@ -7,16 +7,16 @@ use Rattle.group_plan.specs.declared.Tag.{Tag}
 use Rattle.group_plan.specs.Plans.{IsWithinLimits, size}
 use Rattle.group_plan.specs.Tables.{PresenceView, IsPresenceTable}
 use Rattle.meter_frames.specs.declared.Frame.{Frame}
-use Rattle.transcript_log.specs.declared.Line.{Line}
-use Rattle.transcript_log.specs.declared.Line.TheVariants.{Send as SendLine}
-use Rattle.transcript_log.specs.Schedule.{Shape, shape_of_presence, members_of, floor_of, is_closed, is_ended, is_sent, is_taken}
-use Rattle.transcript_log.specs.Transcript.{set_sent, frame}
-use Rattle.transcript_log.specs.Frames.{first_word, contents_of_lines}
-use Rattle.transcript_log.specs.Journal.{past_of, IsJournalAfter}
+use Rattle.event_schedule.specs.declared.Line.{Line}
+use Rattle.event_schedule.specs.declared.Line.TheVariants.{Send as SendLine}
+use Rattle.event_schedule.specs.Schedule.{Shape, shape_of_presence, members_of, floor_of, is_closed, is_ended, is_sent, is_taken}
+use Rattle.event_schedule.specs.Transcript.{set_sent, frame}
+use Rattle.event_schedule.specs.Frames.{first_word, contents_of_lines}
+use Rattle.event_schedule.specs.Journal.{past_of, IsJournalAfter}
 use Rattle.transcript_log.specs.Lines.{LinesView}
 use Rattle.group_book.specs.Pages.{PageView, taken_in}
-use Rattle.transcript_log.specs.ByGroup.{group_of}
-use Rattle.transcript_log.specs.Events.{event_of}
+use Rattle.event_schedule.specs.ByGroup.{group_of}
+use Rattle.event_schedule.specs.Events.{event_of}
 use Rattle.group_book.specs.Groups.{GroupView, group_tags, word_in}
 use Rattle.group_book.specs.Books.{BookView, posted}
 

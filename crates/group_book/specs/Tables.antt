@@ -1,13 +1,13 @@
 -- A book under a reading table and a mask table: its frames have their words.
 use Rattle.std.specs.Prelude.{◌≡◌, ℕ, ◌^◌, ◌<◌, List, [], ◌∷◌, ◌++◌, map, Some, is_some}
 use Rattle.group_plan.specs.Tables.{PresenceView, is_present}
-use Rattle.transcript_log.specs.declared.Line.{Line}
-use Rattle.transcript_log.specs.declared.Line.TheVariants.{Send as SendLine}
-use Rattle.transcript_log.specs.Events.{event_of}
-use Rattle.transcript_log.specs.Tables.{Readings, Masks, reading_at, plain_sum}
-use Rattle.transcript_log.specs.Schedule.{Shape, shape_of_presence, outcome}
-use Rattle.transcript_log.specs.Transcript.{Contents, word_sent, transcript, shape_of_readings, contents_of_tables}
-use Rattle.transcript_log.specs.Journal.{past_of}
+use Rattle.event_schedule.specs.declared.Line.{Line}
+use Rattle.event_schedule.specs.declared.Line.TheVariants.{Send as SendLine}
+use Rattle.event_schedule.specs.Events.{event_of}
+use Rattle.event_schedule.specs.Tables.{Readings, Masks, reading_at, plain_sum}
+use Rattle.event_schedule.specs.Schedule.{Shape, shape_of_presence, outcome}
+use Rattle.event_schedule.specs.Transcript.{Contents, word_sent, transcript, shape_of_readings, contents_of_tables}
+use Rattle.event_schedule.specs.Journal.{past_of}
 use Rattle.group_book.specs.declared.answers.OutcomeState.{OutcomeState}
 use Rattle.group_book.specs.Books.{BookView, past, state_of}
 

@@ -4,7 +4,7 @@ ghost use Rattle.std.specs.Prelude.{◌≡◌, ◌<◌, ℕ, List, IsTrue, IfOk,
 ghost use Rattle.missing_round.specs.Sets.{is_member};
 ghost use Rattle.group_plan.specs.Tables.{PresenceView};
 ghost use Rattle.meter_frames.specs.Frames.{FitsKind};
-ghost use Rattle.transcript_log.specs.declared.Line.{Line as LineView};
+ghost use Rattle.event_schedule.specs.declared.Line.{Line as LineView};
 ghost use Rattle.group_book.specs.Books.{allows, knows, HasSet, missing_of, IsFree, SendEnds, TakeEnds, CloseEnds, EndEnds, IsPosted, IsAnnounced, outcome_of};
 ghost use Rattle.group_book.specs.BookParts.{HasWord, set_carried, IsOther, IsOtherSet, HasSetOf};
 ghost use Rattle.group_book.specs.Groups.{first_group, holds};
@@ -110,6 +110,7 @@ impl GroupPages {
 
     /// Sends a frame of the group, with the presence of its plan, and adds its line. It is posted under its tag where the Send has
     /// effect; a Send without effect has a line too.
+    #[inline(always)]
     pub fn send(&mut self, presence: &Presence, frame: Frame, lines: &mut Lines) -> SendAnswer
         requires can { CanSend presence.now self.old }
         requires own { frame.tag.group ≡ self.old.group }
@@ -138,6 +139,7 @@ impl GroupPages {
     }
 
     /// Takes a frame of the group: what came from the link. Adds its line.
+    #[inline(always)]
     pub fn take(&mut self, frame: &Frame, lines: &mut Lines) -> Result<Verdict, TakeError>
         requires can { CanCall self.old }
         requires own { frame.now.tag.group ≡ self.old.group }
@@ -165,6 +167,7 @@ impl GroupPages {
     }
 
     /// Closes a round to readings, and adds the line of that. The first Close announces the missing set, or finds the round thin.
+    #[inline(always)]
     pub fn close(&mut self, round: u32, lines: &mut Lines) -> Closing
         requires can { CanCall self.old }
         requires round { round < self.old.rounds }
@@ -177,6 +180,7 @@ impl GroupPages {
     }
 
     /// Ends a round, and adds the line of that. The first End after a Close says its total, or why none is published.
+    #[inline(always)]
     pub fn end(&mut self, round: u32, lines: &mut Lines) -> Ending
         requires can { CanCall self.old }
         requires round { round < self.old.rounds }

@@ -1,13 +1,14 @@
 //! Lines added to a journal that has room for them.
 
 ghost use Rattle.std.specs.Prelude.{◌≡◌, ◌<◌, ◌≤◌, ◌+◌, ◌++◌, [], ◌∷◌};
-ghost use Rattle.transcript_log.specs.declared.Line.TheVariants.{Send as SendLine, Take as TakeLine, Close as CloseLine, End as EndLine};
+ghost use Rattle.event_schedule.specs.declared.Line.TheVariants.{Send as SendLine, Take as TakeLine, Close as CloseLine, End as EndLine};
 ghost use Rattle.transcript_log.specs.Lines.{HasOwnTag};
 
+use event_schedule::Line;
 use group_plan::Tag;
 use meter_frames::Frame;
 use round_machine::{Closing, Ending, Verdict};
-use transcript_log::{Line, Lines};
+use transcript_log::Lines;
 
 /// Adds the line of a Send, with no frame where it had no effect.
 pub(crate) fn add_send(journal: &mut Lines, tag: Tag, frame: Option<Frame>)

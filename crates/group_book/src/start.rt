@@ -9,9 +9,9 @@ ghost use Rattle.group_book.specs.Start.{first_page};
 
 use crate::page::Page;
 use crate::words::Words;
+use event_schedule::{floor_of, members};
 use group_plan::Plan;
 use std::alloc::{AllocError, Global};
-use transcript_log::{floor_of, members};
 
 // The page with which a round begins.
 fn first_page(plan: &Plan, group: u16, round: u32) -> Page

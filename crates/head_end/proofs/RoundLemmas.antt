@@ -18,7 +18,7 @@ use Rattle.round_machine.specs.declared.Closing.TheVariants as closings
 use Rattle.round_machine.specs.declared.Ending.{Ending}
 use Rattle.round_machine.specs.declared.Ending.TheVariants as endings
 use Rattle.round_machine.specs.Rounds.{RoundView, has_floor, Closes, Ends, with_reading, with_answer}
-use Rattle.transcript_log.specs.Events.{same_kind}
+use Rattle.event_schedule.specs.Events.{same_kind}
 use Rattle.group_book.proofs.Tags.{is_tag-in_round}
 use Rattle.head_end.specs.declared.answers.Logged.{Logged}
 use Rattle.head_end.specs.declared.answers.Logged.TheVariants.{Took}

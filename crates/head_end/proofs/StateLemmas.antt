@@ -15,7 +15,7 @@ use Rattle.group_plan.specs.Places.{place_at, places}
 use Rattle.group_plan.proofs.MeterNumbers.{in_place, place_at-lt}
 use Rattle.meter_frames.specs.declared.Frame.{Frame}
 use Rattle.round_machine.specs.Rounds.{RoundView}
-use Rattle.transcript_log.specs.Events.{same_kind}
+use Rattle.event_schedule.specs.Events.{same_kind}
 use Rattle.group_book.specs.Places.{all_rounds, page_at}
 use Rattle.head_end.specs.declared.answers.Logged.{Logged}
 use Rattle.head_end.specs.declared.answers.Logged.TheVariants.{Took, Passed}

@@ -12,7 +12,7 @@ use Rattle.group_plan.specs.Plans.{PlanView, members, floor_of}
 use Rattle.meter_frames.specs.declared.Frame.{Frame}
 use Rattle.round_machine.specs.declared.Ending.{Ending}
 use Rattle.round_machine.specs.declared.Ending.TheVariants as endings
-use Rattle.transcript_log.specs.Events.{same_kind, is_tag}
+use Rattle.event_schedule.specs.Events.{same_kind, is_tag}
 use Rattle.run_rows.specs.Report.{OpenRow}
 use Rattle.totals_report.specs.Reports.{report_row}
 use Rattle.head_end.specs.declared.answers.Logged.{Logged}

@@ -8,8 +8,8 @@ use Rattle.missing_round.proofs.SetLemmas.{is_member-filter, less-filter}
 use Rattle.missing_round.proofs.WordLemmas.{cancels}
 use Rattle.group_plan.specs.declared.Kind.TheVariants.{Reading, Answer}
 use Rattle.group_plan.specs.Plans.{PlanView, members}
-use Rattle.transcript_log.specs.Tables.{reading_at}
-use Rattle.transcript_log.proofs.MemberLemmas.{plain_sum_fits}
+use Rattle.event_schedule.specs.Tables.{reading_at}
+use Rattle.event_schedule.proofs.MemberLemmas.{plain_sum_fits}
 use Rattle.head_end.specs.declared.answers.Logged.{Logged}
 use Rattle.head_end.specs.Journal.{is_taken, word_taken, survivors, lacking}
 use Rattle.head_end.specs.Statements.{TotalsAreExact}

@@ -6,7 +6,7 @@ use Rattle.missing_round.specs.Words.{frame_total}
 use Rattle.group_plan.specs.declared.Kind.{Kind}
 use Rattle.group_plan.specs.declared.Kind.TheVariants.{Reading, Answer}
 use Rattle.group_plan.specs.Plans.{PlanView, members, floor_of}
-use Rattle.transcript_log.specs.Events.{is_tag}
+use Rattle.event_schedule.specs.Events.{is_tag}
 use Rattle.head_end.specs.declared.answers.Logged.{Logged}
 use Rattle.head_end.specs.declared.answers.Logged.TheVariants.{Took, Passed}
 

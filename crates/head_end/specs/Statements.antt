@@ -3,7 +3,7 @@ use Rattle.std.specs.Prelude.{◌≡◌, ◌<◌, ◌++◌, ℕ, true, List, [],
 use Rattle.missing_round.specs.Words.{reading_word, answer_word}
 use Rattle.group_plan.specs.declared.Kind.TheVariants.{Reading, Answer}
 use Rattle.group_plan.specs.Plans.{PlanView, members}
-use Rattle.transcript_log.specs.Tables.{Readings, Masks, IsBounded, reading_at, plain_sum}
+use Rattle.event_schedule.specs.Tables.{Readings, Masks, IsBounded, reading_at, plain_sum}
 use Rattle.head_end.specs.declared.answers.Logged.{Logged}
 use Rattle.head_end.specs.Journal.{passed, is_taken, word_taken, survivors, missing, lacking, total}
 use Rattle.head_end.specs.Replies.{first_wrong}

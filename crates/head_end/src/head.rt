@@ -12,13 +12,13 @@ ghost use Rattle.head_end.specs.Kept.{KeepsRounds, closed_where, ended_where, ha
 
 use crate::answers::{Logged, Refusal, Reply};
 use crate::start::{first_rounds, no_words};
+use event_schedule::{floor_of, members};
 use group_plan::{Kind, Plan, Tag};
 use meter_frames::Frame;
 use missing_round::MeterSet;
 use mod_word::Word;
 use round_machine::{Ending, Round, Verdict};
 use std::alloc::{AllocError, Global};
-use transcript_log::{floor_of, members};
 
 /// A head end: the rounds of a plan with what was taken in each, and the ticks that have passed. It takes the memory of the
 /// plan's rounds and words when it begins, and no more however many frames come.

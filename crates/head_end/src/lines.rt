@@ -9,6 +9,7 @@ ghost use Rattle.head_end.specs.Lines.{row_in, rows, outcome_of, lacking_by, rou
 
 use crate::answers::{Logged, TickLine};
 use crate::head::HeadEnd;
+use event_schedule::members;
 use group_plan::{Kind, Tag};
 use meter_frames::Frame;
 use missing_round::MeterSet;
@@ -16,7 +17,6 @@ use mod_word::Word;
 use round_machine::Ending;
 use std::alloc::{AllocError, Global};
 use totals_report::{ReportRow, RowOutcome};
-use transcript_log::members;
 
 /// The round, of so many, that began so many ticks before a tick, where there is one.
 fn round_before(rounds: u32, ago: u32, tick: u32) -> Option<u32>

@@ -6,11 +6,11 @@ ghost use Rattle.group_plan.specs.Places.{places};
 ghost use Rattle.group_book.specs.Places.{is_round, all_rounds};
 ghost use Rattle.head_end.specs.Kept.{first_round, first_round_at};
 
+use event_schedule::{floor_of, members};
 use group_plan::Plan;
 use mod_word::Word;
 use round_machine::Round;
 use std::alloc::{AllocError, Global};
-use transcript_log::{floor_of, members};
 
 // The round before anything was taken in it.
 fn first_round(plan: &Plan, group: u16, round: u32) -> Round

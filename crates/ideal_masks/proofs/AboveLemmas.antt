@@ -11,7 +11,7 @@ use Rattle.missing_round.proofs.SetLemmas.{less-range}
 use Rattle.missing_round.specs.Words.{group}
 use Rattle.group_plan.specs.Plans.{PlanView, size, is_place}
 use Rattle.mask_stream.specs.Ends.{is_other, between}
-use Rattle.transcript_log.specs.Tables.{Masks}
+use Rattle.event_schedule.specs.Tables.{Masks}
 use Rattle.ideal_masks.specs.KeptMasks.{higher_of}
 use Rattle.ideal_masks.proofs.TableLemmas.{tabulate_is}
 

@@ -9,10 +9,10 @@ use Rattle.std.specs.Str.{bytes_eq}
 use Rattle.missing_round.specs.Words.{word}
 use Rattle.group_plan.specs.Plans.{Group, PlanView, size, size_or, span_or, is_member, is_member_of, members, IsWithinLimits}
 use Rattle.group_plan.specs.Tables.{Table, reading, IsReadingTable}
-use Rattle.transcript_log.specs.declared.Event.{Event}
-use Rattle.transcript_log.specs.Schedule.{Shape, is_reading_taken, is_announced, is_answer_sent}
-use Rattle.transcript_log.specs.Tables.{Readings, plain_sum, IsBounded}
-use Rattle.transcript_log.proofs.MemberLemmas.{plain_sum_fits}
+use Rattle.event_schedule.specs.declared.Event.{Event}
+use Rattle.event_schedule.specs.Schedule.{Shape, is_reading_taken, is_announced, is_answer_sent}
+use Rattle.event_schedule.specs.Tables.{Readings, plain_sum, IsBounded}
+use Rattle.event_schedule.proofs.MemberLemmas.{plain_sum_fits}
 use Rattle.ideal_masks.specs.Pools.{Pool, others, others_answered, is_open}
 use Rattle.ideal_masks.specs.OffsetEnds.{is_earlier_round, HasOneTotalFor, HaveOneTotalBeforeFor}
 

@@ -6,15 +6,15 @@ use Rattle.group_plan.specs.declared.Kind.{Kind}
 use Rattle.group_plan.specs.declared.Kind.TheVariants.{Reading, Announcement, Answer}
 use Rattle.group_plan.specs.declared.Tag.{Tag}
 use Rattle.meter_frames.specs.declared.Frame.{Frame}
-use Rattle.transcript_log.specs.declared.Event.{Event}
-use Rattle.transcript_log.specs.declared.Event.TheVariants.{Send, Take, Close, End}
-use Rattle.transcript_log.specs.declared.Line.{Line}
-use Rattle.transcript_log.specs.Events.{event_of, is_send}
-use Rattle.transcript_log.specs.Schedule.{Shape, shape_of_presence, is_closed, is_announced, is_reading_taken, reaches_floor, may_send, missing}
-use Rattle.transcript_log.specs.Transcript.{set_sent, word_sent, frame}
-use Rattle.transcript_log.specs.Journal.{past_of, core_line}
-use Rattle.transcript_log.proofs.EventLemmas.{is_send-true}
-use Rattle.transcript_log.proofs.ScheduleLemmas.{once-more, is_announced-more, is_reading_taken-closed, missing-closed, is_closed-from_taken, is_announced-from_sent, is_announcement_sent-from_taken}
+use Rattle.event_schedule.specs.declared.Event.{Event}
+use Rattle.event_schedule.specs.declared.Event.TheVariants.{Send, Take, Close, End}
+use Rattle.event_schedule.specs.declared.Line.{Line}
+use Rattle.event_schedule.specs.Events.{event_of, is_send}
+use Rattle.event_schedule.specs.Schedule.{Shape, shape_of_presence, is_closed, is_announced, is_reading_taken, reaches_floor, may_send, missing}
+use Rattle.event_schedule.specs.Transcript.{set_sent, word_sent, frame}
+use Rattle.event_schedule.specs.Journal.{past_of, core_line}
+use Rattle.event_schedule.proofs.EventLemmas.{is_send-true}
+use Rattle.event_schedule.proofs.ScheduleLemmas.{once-more, is_announced-more, is_reading_taken-closed, missing-closed, is_closed-from_taken, is_announced-from_sent, is_announcement_sent-from_taken}
 use Rattle.group_book.specs.declared.answers.SendAnswer.{SendAnswer}
 use Rattle.group_book.specs.declared.answers.SendAnswer.TheVariants.{Unknown, NotAllowed, WrongSet, Differs, Sent}
 use Rattle.group_book.specs.declared.answers.TakeError.{TakeError}

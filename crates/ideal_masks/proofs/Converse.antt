@@ -6,23 +6,23 @@ use Rattle.std.proofs.lemmas.Bool.{false≢true, or_cases}
 use Rattle.group_plan.specs.declared.Kind.TheVariants.{Reading, Answer}
 use Rattle.group_plan.specs.declared.Tag.{Tag}
 use Rattle.meter_frames.specs.declared.Frame.{Frame}
-use Rattle.transcript_log.specs.declared.Event.{Event}
-use Rattle.transcript_log.specs.declared.Event.TheVariants.{Send}
-use Rattle.transcript_log.specs.declared.Line.{Line}
-use Rattle.transcript_log.specs.declared.Line.TheVariants.{Send as SendLine, Take as TakeLine, Close as CloseLine, End as EndLine}
+use Rattle.event_schedule.specs.declared.Event.{Event}
+use Rattle.event_schedule.specs.declared.Event.TheVariants.{Send}
+use Rattle.event_schedule.specs.declared.Line.{Line}
+use Rattle.event_schedule.specs.declared.Line.TheVariants.{Send as SendLine, Take as TakeLine, Close as CloseLine, End as EndLine}
 use Rattle.missing_round.specs.Words.{word, minus, reading_word, answer_word}
 use Rattle.group_plan.specs.Plans.{Group, members}
-use Rattle.transcript_log.specs.Schedule.{Shape, is_closed, is_reading_sent, is_reading_taken, survivors, missing, is_announced, is_announcement_taken, is_answer_sent}
-use Rattle.transcript_log.specs.Events.{once, is_send}
-use Rattle.transcript_log.specs.Tables.{Readings, Masks, reading_at, plain_sum, IsBounded}
-use Rattle.transcript_log.specs.Transcript.{shape_of_readings, Contents, contents_of_tables, frame, line, lines_after, transcript}
+use Rattle.event_schedule.specs.Schedule.{Shape, is_closed, is_reading_sent, is_reading_taken, survivors, missing, is_announced, is_announcement_taken, is_answer_sent}
+use Rattle.event_schedule.specs.Events.{once, is_send}
+use Rattle.event_schedule.specs.Tables.{Readings, Masks, reading_at, plain_sum, IsBounded}
+use Rattle.event_schedule.specs.Transcript.{shape_of_readings, Contents, contents_of_tables, frame, line, lines_after, transcript}
 use Rattle.ideal_masks.specs.Pools.{Pool, nobody, others, is_open, ShareWords}
 use Rattle.ideal_masks.specs.Offsets.{AgreeFor, Agree}
-use Rattle.transcript_log.proofs.ScheduleLemmas.{after, is_closed-from_answer, is_closed-from_taken, is_reading_sent-from_taken, missing-closed, once-cons}
-use Rattle.transcript_log.proofs.ListLemmas.{and_first, and_last, sum_by-filter_same}
-use Rattle.transcript_log.proofs.EventLemmas.{is_send-true}
-use Rattle.transcript_log.proofs.MemberLemmas.{plain_sum_fits}
-use Rattle.transcript_log.proofs.TranscriptLemmas.{shape-same}
+use Rattle.event_schedule.proofs.ScheduleLemmas.{after, is_closed-from_answer, is_closed-from_taken, is_reading_sent-from_taken, missing-closed, once-cons}
+use Rattle.event_schedule.proofs.ListLemmas.{and_first, and_last, sum_by-filter_same}
+use Rattle.event_schedule.proofs.EventLemmas.{is_send-true}
+use Rattle.event_schedule.proofs.MemberLemmas.{plain_sum_fits}
+use Rattle.event_schedule.proofs.TranscriptLemmas.{shape-same}
 use Rattle.missing_round.proofs.WordLemmas.{frame_total-words}
 use Rattle.ideal_masks.proofs.PoolLemmas.{all-or, answer-shared, nobody-shares, word-outside}
 

@@ -11,22 +11,22 @@ use Rattle.std.proofs.lemmas.List.Elements.{filter-append}
 use Rattle.std.proofs.lemmas.List.Sums.{sum_by-cons, sum_by_push}
 use Rattle.missing_round.specs.Words.{word, minus, share, group, reading_word, frame_total}
 use Rattle.group_plan.specs.declared.Kind.TheVariants.{Reading, Answer}
-use Rattle.transcript_log.specs.declared.Event.{Event}
-use Rattle.transcript_log.specs.declared.Line.{Line}
+use Rattle.event_schedule.specs.declared.Event.{Event}
+use Rattle.event_schedule.specs.declared.Line.{Line}
 use Rattle.group_plan.specs.Plans.{Group, size_or, is_member, members}
-use Rattle.transcript_log.specs.Schedule.{Shape, is_answer_sent, is_reading_taken, survivors, missing, is_announced, is_opened, all_answered, answered}
-use Rattle.transcript_log.specs.Tables.{Readings, Masks, reading_at}
-use Rattle.transcript_log.specs.Transcript.{shape_of_readings, Contents, contents_of_tables, lines_after}
+use Rattle.event_schedule.specs.Schedule.{Shape, is_answer_sent, is_reading_taken, survivors, missing, is_announced, is_opened, all_answered, answered}
+use Rattle.event_schedule.specs.Tables.{Readings, Masks, reading_at}
+use Rattle.event_schedule.specs.Transcript.{shape_of_readings, Contents, contents_of_tables, lines_after}
 use Rattle.ideal_masks.specs.Pools.{nobody}
 use Rattle.ideal_masks.specs.Offsets.{silent, moves, shift}
-use Rattle.transcript_log.specs.Events.{event_of}
-use Rattle.transcript_log.specs.Frames.{first_frame, first_word, shape_of_lines, contents_of_lines, IsPossible, HasWordsOf64Bits}
+use Rattle.event_schedule.specs.Events.{event_of}
+use Rattle.event_schedule.specs.Frames.{first_frame, first_word, shape_of_lines, contents_of_lines, IsPossible, HasWordsOf64Bits}
 use Rattle.ideal_masks.specs.Statements.{IsExplained}
-use Rattle.transcript_log.proofs.TranscriptLemmas.{Alike, lines_after-same}
-use Rattle.transcript_log.proofs.ScheduleLemmas.{after, after-reverse, present-from_taken}
-use Rattle.transcript_log.proofs.ListLemmas.{and_first, and_last, list_all-from_filter, sum_by-filter_same}
+use Rattle.event_schedule.proofs.TranscriptLemmas.{Alike, lines_after-same}
+use Rattle.event_schedule.proofs.ScheduleLemmas.{after, after-reverse, present-from_taken}
+use Rattle.event_schedule.proofs.ListLemmas.{and_first, and_last, list_all-from_filter, sum_by-filter_same}
 use Rattle.ideal_masks.proofs.TwoWorlds.{answer_word-moved, reading_word-moved}
-use Rattle.transcript_log.proofs.FrameLemmas.{possible}
+use Rattle.event_schedule.proofs.FrameLemmas.{possible}
 use Rattle.ideal_masks.proofs.OffsetLemmas.{sum_share-none}
 use Rattle.missing_round.proofs.WordLemmas.{word-add_same, word-same_add, sum_by-add, word-sum_by, word-minus}
 

@@ -6,11 +6,11 @@ use Rattle.std.proofs.lemmas.List.FromFn.{length-map-range_with_len}
 use Rattle.group_plan.specs.Plans.{PlanView, size}
 use Rattle.group_plan.specs.Tables.{table_of, reading, IsReadingTable}
 use Rattle.group_plan.proofs.TableLemmas.{is_table-table_of}
-use Rattle.transcript_log.specs.declared.Event.{Event}
-use Rattle.transcript_log.specs.Tables.{Masks, IsMasks}
-use Rattle.transcript_log.specs.Transcript.{shape_of_readings, contents_of_tables, transcript}
-use Rattle.transcript_log.proofs.ScheduleLemmas.{after}
-use Rattle.transcript_log.proofs.TranscriptLemmas.{lines_after-same}
+use Rattle.event_schedule.specs.declared.Event.{Event}
+use Rattle.event_schedule.specs.Tables.{Masks, IsMasks}
+use Rattle.event_schedule.specs.Transcript.{shape_of_readings, contents_of_tables, transcript}
+use Rattle.event_schedule.proofs.ScheduleLemmas.{after}
+use Rattle.event_schedule.proofs.TranscriptLemmas.{lines_after-same}
 use Rattle.ideal_masks.specs.ListTables.{ReadingTable, tabulate, masks_in, mask_table_of, IsMaskTable}
 use Rattle.ideal_masks.proofs.Isolation.{alike_tables, present_in_plan}
 use Rattle.ideal_masks.proofs.TableLemmas.{get_or-tabulate, own-table_of, pair-table_of}

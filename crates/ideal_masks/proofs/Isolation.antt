@@ -7,21 +7,21 @@ use Rattle.std.proofs.lemmas.List.{get_or_past}
 use Rattle.std.proofs.lemmas.Bool.{false≢true, cases_lt, ltb-true}
 use Rattle.std.proofs.lemmas.List.Sums.{sum_by-cons}
 use Rattle.std.proofs.lemmas.List.Elements.{All-filter, recursion_from_All}
-use Rattle.transcript_log.specs.declared.Event.{Event}
+use Rattle.event_schedule.specs.declared.Event.{Event}
 use Rattle.missing_round.specs.Words.{word, share, group}
 use Rattle.group_plan.specs.Plans.{PlanView, is_member, members, size}
-use Rattle.transcript_log.specs.Schedule.{is_reading_taken, missing}
-use Rattle.transcript_log.specs.Tables.{Readings, Masks, reading_at}
-use Rattle.transcript_log.specs.Transcript.{shape_of_readings, contents_of_tables, transcript}
+use Rattle.event_schedule.specs.Schedule.{is_reading_taken, missing}
+use Rattle.event_schedule.specs.Tables.{Readings, Masks, reading_at}
+use Rattle.event_schedule.specs.Transcript.{shape_of_readings, contents_of_tables, transcript}
 use Rattle.ideal_masks.specs.Pools.{Pool, nobody, ShareWords}
 use Rattle.ideal_masks.specs.Offsets.{offsets_for, shift, AgreeFor}
 use Rattle.group_plan.specs.Tables.{reading, IsReadingTable}
 use Rattle.ideal_masks.specs.ListTables.{ReadingTable, MaskTable, masks_in, IsMaskTable, shift_table, unshift_table}
 use Rattle.ideal_masks.specs.Moves.{offset_list, listed}
 use Rattle.ideal_masks.specs.Isolation.{KeepsWords, CarriesFor, IsolatedFor, Isolated}
-use Rattle.transcript_log.proofs.TranscriptLemmas.{Alike, lines_after-same}
+use Rattle.event_schedule.proofs.TranscriptLemmas.{Alike, lines_after-same}
 use Rattle.ideal_masks.proofs.OffsetLemmas.{AllBelow, AllBelow-from_recursion, all_below_group}
-use Rattle.transcript_log.proofs.ScheduleLemmas.{after, after-reverse, is_reading_taken-from_answer, present-from_taken}
+use Rattle.event_schedule.proofs.ScheduleLemmas.{after, after-reverse, is_reading_taken-from_answer, present-from_taken}
 use Rattle.ideal_masks.proofs.MoveLemmas.{list_is}
 use Rattle.ideal_masks.proofs.TableLemmas.{own-table_of, pair-table_of, shift_table-unshift, unshift_table-shift}
 use Rattle.ideal_masks.proofs.PoolLemmas.{shares_same}

@@ -12,7 +12,7 @@ use Rattle.group_plan.specs.Plans.{PlanView, size, is_place, IsWithinLimits}
 use Rattle.group_plan.specs.Tables.{Table, entry, table_of, IsTable, is_same_place}
 use Rattle.group_plan.proofs.MeterNumbers.{group-lt, in_place}
 use Rattle.group_plan.proofs.TableLemmas.{is_table-table_of, entry_outside}
-use Rattle.transcript_log.specs.Tables.{Masks}
+use Rattle.event_schedule.specs.Tables.{Masks}
 use Rattle.ideal_masks.specs.ListTables.{tabulate, masks_in, mask_table_of, IsMaskTable}
 use Rattle.ideal_masks.specs.KeptMasks.{MeterView, no_words, meter_of, round_of, group_of, kept_words, KeepsMeter, KeepsMasks, IsSmall, HasWords, change_round, with_own, with_pair, is_same_pair, SetsOwn, SetsPair}
 use Rattle.ideal_masks.proofs.Tabulated.{change, change-here, change-elsewhere, change-shape}

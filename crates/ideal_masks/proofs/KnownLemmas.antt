@@ -4,7 +4,7 @@ use Rattle.std.specs.Prelude.{Option, Some, None, is_some}
 use Rattle.std.proofs.lemmas.Bool.Decides.{nat_tests}
 use Rattle.group_plan.specs.Plans.{PlanView}
 use Rattle.group_plan.specs.Tables.{reading, IsReadingTable}
-use Rattle.transcript_log.specs.Tables.{Readings}
+use Rattle.event_schedule.specs.Tables.{Readings}
 use Rattle.ideal_masks.specs.Pools.{Pool}
 use Rattle.ideal_masks.specs.ListTables.{ReadingTable}
 use Rattle.ideal_masks.specs.OffsetEnds.{is_earlier}

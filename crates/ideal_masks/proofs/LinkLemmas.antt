@@ -9,8 +9,8 @@ use Rattle.missing_round.specs.Sets.{is_member, without}
 use Rattle.missing_round.specs.Words.{word, minus, group}
 use Rattle.missing_round.proofs.SetLemmas.{is_member-filter}
 use Rattle.group_plan.specs.Plans.{size, is_member as is_of}
-use Rattle.transcript_log.specs.declared.Event.{Event}
-use Rattle.transcript_log.specs.Schedule.{Shape, is_reading_taken, is_answer_sent}
+use Rattle.event_schedule.specs.declared.Event.{Event}
+use Rattle.event_schedule.specs.Schedule.{Shape, is_reading_taken, is_answer_sent}
 use Rattle.ideal_masks.specs.declared.chain.Chain.{Chain}
 use Rattle.ideal_masks.specs.declared.links.Walk.{Walk}
 use Rattle.ideal_masks.specs.Pools.{Pool, others, others_answered, others_silent, chain_for}

@@ -13,12 +13,12 @@ use Rattle.pair_keys.specs.declared.KeyId.TheVariants.{Own, Pair}
 use Rattle.ideal_masks.specs.declared.Offset.{Offset}
 use Rattle.missing_round.specs.Words.{word, minus, group}
 use Rattle.group_plan.specs.Plans.{PlanView, size}
-use Rattle.transcript_log.specs.Tables.{Masks}
+use Rattle.event_schedule.specs.Tables.{Masks}
 use Rattle.ideal_masks.specs.Offsets.{shift, unshift}
 use Rattle.ideal_masks.specs.ListTables.{masks_in, mask_table_of}
 use Rattle.ideal_masks.specs.Moves.{moved, own_list, pair_list, offset_list, same_id, IsKeyOf, listed, ListIsOffsets}
 use Rattle.ideal_masks.proofs.OffsetLemmas.{at, sum_at_range}
-use Rattle.transcript_log.proofs.ListLemmas.{sum_by-flat_map, sum_none, tabulate_same}
+use Rattle.event_schedule.proofs.ListLemmas.{sum_by-flat_map, sum_none, tabulate_same}
 use Rattle.missing_round.proofs.WordLemmas.{word-add_word}
 
 -- one term alone

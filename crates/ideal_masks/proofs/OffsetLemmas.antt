@@ -12,7 +12,7 @@ use Rattle.std.proofs.lemmas.List.FromFn.{length-range_with_len, get_or-range_wi
 use Rattle.missing_round.specs.Words.{word, minus, share, group, reading_word, answer_word}
 use Rattle.ideal_masks.specs.Offsets.{link, pair_move, own_move}
 use Rattle.group_plan.specs.Plans.{Group, size_or, is_member, members}
-use Rattle.transcript_log.proofs.MemberLemmas.{is_member-below}
+use Rattle.event_schedule.proofs.MemberLemmas.{is_member-below}
 use Rattle.missing_round.proofs.WordLemmas.{word-word_add, word-add_word, word-add_same, word-add_both, sum_by-add, word-sum_by, word-minus}
 
 -- ---- a term at one place of a list

@@ -9,7 +9,7 @@ use Rattle.missing_round.specs.Words.{word}
 use Rattle.group_plan.specs.Plans.{PlanView, size}
 use Rattle.pair_keys.specs.declared.KeyId.{KeyId}
 use Rattle.pair_keys.specs.declared.KeyId.TheVariants.{Own, Pair}
-use Rattle.transcript_log.specs.Tables.{Masks}
+use Rattle.event_schedule.specs.Tables.{Masks}
 use Rattle.ideal_masks.specs.declared.Offset.{Offset}
 use Rattle.ideal_masks.specs.Moves.{moved, own_list, pair_list, offset_list, IsKeyOf}
 use Rattle.ideal_masks.specs.Order.{key_group, is_before, is_lower_first, IsAscending, AreMoves}

@@ -6,8 +6,8 @@ use Rattle.std.proofs.lemmas.Bool.{false≢true}
 use Rattle.std.specs.List.{flat_map, sum_by}
 use Rattle.missing_round.specs.Words.{group}
 use Rattle.pair_keys.specs.declared.KeyId.TheVariants.{Own, Pair}
-use Rattle.transcript_log.specs.declared.Event.{Event}
-use Rattle.transcript_log.specs.Schedule.{Shape, is_announced, is_answer_sent}
+use Rattle.event_schedule.specs.declared.Event.{Event}
+use Rattle.event_schedule.specs.Schedule.{Shape, is_announced, is_answer_sent}
 use Rattle.ideal_masks.specs.Pools.{Pool, others_answered, others_silent, chain_for}
 use Rattle.ideal_masks.specs.Offsets.{pair_move, own_move, moves_for}
 use Rattle.ideal_masks.specs.Moves.{moved, own_list, pair_list}

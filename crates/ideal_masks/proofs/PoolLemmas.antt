@@ -6,10 +6,10 @@ use mathlib.Core.Path.{fun_ext}
 use Rattle.std.proofs.lemmas.Bool.{false≢true, and_from, ltb-true}
 use Rattle.std.proofs.lemmas.List.Sums.{sum_by-cons}
 use Rattle.missing_round.specs.Words.{word, minus, share, answer_word}
-use Rattle.transcript_log.specs.declared.Event.{Event}
-use Rattle.transcript_log.specs.Schedule.{Shape, is_reading_taken, is_announced, is_answer_sent, all_answered, survivors, members_of, is_opened}
-use Rattle.transcript_log.specs.Tables.{Masks}
-use Rattle.transcript_log.proofs.ListLemmas.{and_first, and_last}
+use Rattle.event_schedule.specs.declared.Event.{Event}
+use Rattle.event_schedule.specs.Schedule.{Shape, is_reading_taken, is_announced, is_answer_sent, all_answered, survivors, members_of, is_opened}
+use Rattle.event_schedule.specs.Tables.{Masks}
+use Rattle.event_schedule.proofs.ListLemmas.{and_first, and_last}
 use Rattle.ideal_masks.specs.Pools.{Pool, nobody, others, is_open, ShareWords}
 
 -- ---- those that pass t, in the pool k and outside it

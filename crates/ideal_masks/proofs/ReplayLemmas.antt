@@ -8,14 +8,14 @@ use Rattle.group_plan.specs.declared.Tag.{Tag}
 use Rattle.group_plan.specs.Plans.{PlanView}
 use Rattle.group_plan.specs.Tables.{ReadingsView, presence_of}
 use Rattle.meter_frames.specs.declared.Frame.{Frame}
-use Rattle.transcript_log.specs.declared.Event.{Event}
-use Rattle.transcript_log.specs.declared.Line.{Line}
-use Rattle.transcript_log.specs.declared.Line.TheVariants.{Send as SendLine, Take as TakeLine, Close as CloseLine, End as EndLine}
-use Rattle.transcript_log.specs.declared.Entry.{Entry}
-use Rattle.transcript_log.specs.Events.{event_of, events_of}
-use Rattle.transcript_log.specs.Transcripts.{TranscriptView, FitsLine, Fits, IsTranscript}
+use Rattle.event_schedule.specs.declared.Event.{Event}
+use Rattle.event_schedule.specs.declared.Line.{Line}
+use Rattle.event_schedule.specs.declared.Line.TheVariants.{Send as SendLine, Take as TakeLine, Close as CloseLine, End as EndLine}
+use Rattle.event_schedule.specs.declared.Entry.{Entry}
+use Rattle.event_schedule.specs.Events.{event_of, events_of}
+use Rattle.event_schedule.specs.Transcripts.{TranscriptView, FitsLine, Fits, IsTranscript}
 use Rattle.group_book.specs.Books.{BookView, past, posted, posted_in}
-use Rattle.transcript_log.specs.Journal.{past_of}
+use Rattle.event_schedule.specs.Journal.{past_of}
 use Rattle.ideal_masks.specs.Replaying.{IsOfBook, IsBlank, MakesEvent, HasEvents}
 
 -- a book after the first k entries, with room for the rest

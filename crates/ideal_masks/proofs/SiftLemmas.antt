@@ -5,8 +5,8 @@ use Rattle.std.specs.List.{filter}
 use Rattle.std.proofs.lemmas.Bool.{false≢true}
 use Rattle.missing_round.specs.Sets.{is_member, less}
 use Rattle.missing_round.proofs.SetLemmas.{is_member-filter, less-filter, same_filter}
-use Rattle.transcript_log.specs.declared.Event.{Event}
-use Rattle.transcript_log.specs.Schedule.{Shape, members_of, is_reading_taken, is_announced, is_answer_sent, survivors}
+use Rattle.event_schedule.specs.declared.Event.{Event}
+use Rattle.event_schedule.specs.Schedule.{Shape, members_of, is_reading_taken, is_announced, is_answer_sent, survivors}
 use Rattle.group_book.specs.Books.{BookView, shape_of, past, IsAnnounced}
 use Rattle.ideal_masks.specs.declared.chain.Chain.{Chain}
 use Rattle.ideal_masks.specs.Pools.{Pool, pool_of, others, others_answered}

@@ -3,7 +3,7 @@ use Rattle.std.proofs.Common.{◌≡◌, ℕ, suc, ◌+◌, ◌-◌, ◌^◌, �
 use Rattle.std.proofs.lemmas.List.FromFn.{get_or-map-range_with_len, fill_by_all}
 use Rattle.missing_round.specs.Words.{word, minus}
 use Rattle.group_plan.specs.Plans.{PlanView, size}
-use Rattle.transcript_log.specs.Tables.{Masks}
+use Rattle.event_schedule.specs.Tables.{Masks}
 use Rattle.ideal_masks.specs.Offsets.{shift, unshift}
 use Rattle.ideal_masks.specs.ListTables.{tabulate, MaskTable, masks_in, mask_table_of, IsMaskTable, shift_table, unshift_table}
 

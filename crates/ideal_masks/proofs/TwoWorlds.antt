@@ -5,19 +5,19 @@ use Rattle.std.specs.List.{sum_by, list_all}
 use mathlib.Core.Path.{fun_ext}
 use Rattle.std.proofs.lemmas.Bool.{false≢true, and_from, cases_Bool, or_cases}
 use Rattle.std.proofs.lemmas.List.Filters.{sum_by-filter_both}
-use Rattle.transcript_log.specs.declared.Event.{Event}
+use Rattle.event_schedule.specs.declared.Event.{Event}
 use Rattle.missing_round.specs.Words.{word, minus, share, reading_word, answer_word}
 use Rattle.group_plan.specs.Plans.{Group, is_member, members}
-use Rattle.transcript_log.specs.Schedule.{Shape, is_reading_taken, missing, is_announced, is_answer_sent}
-use Rattle.transcript_log.specs.Tables.{Readings, Masks, reading_at, IsOfPlan, IsMasks}
-use Rattle.transcript_log.specs.Transcript.{shape_of_readings, Contents, contents_of_tables, lines_after, transcript}
+use Rattle.event_schedule.specs.Schedule.{Shape, is_reading_taken, missing, is_announced, is_answer_sent}
+use Rattle.event_schedule.specs.Tables.{Readings, Masks, reading_at, IsOfPlan, IsMasks}
+use Rattle.event_schedule.specs.Transcript.{shape_of_readings, Contents, contents_of_tables, lines_after, transcript}
 use Rattle.ideal_masks.specs.Pools.{Pool, nobody, others, others_answered, others_silent, is_open, chain_for, ShareWords}
 use Rattle.ideal_masks.specs.Offsets.{delta, pair_move, own_move, own_offset_for, pair_offset_for, moves_for, offsets_for, offsets, shift, unshift, AgreeFor, Agree}
-use Rattle.transcript_log.proofs.TranscriptLemmas.{Alike, lines_after-same, shape-same}
-use Rattle.transcript_log.proofs.ScheduleLemmas.{after, is_announced-from_answer, is_reading_taken-from_answer}
+use Rattle.event_schedule.proofs.TranscriptLemmas.{Alike, lines_after-same, shape-same}
+use Rattle.event_schedule.proofs.ScheduleLemmas.{after, is_announced-from_answer, is_reading_taken-from_answer}
 use Rattle.ideal_masks.proofs.OffsetLemmas.{answer_word-shifted, chain_apart, each_once, once_members, reading_word-shifted, round_apart, round_moves, round_still, sum_deltas, sum_share-none, word-delta}
 use Rattle.ideal_masks.proofs.PoolLemmas.{open-opened, total-whole}
-use Rattle.transcript_log.proofs.ListLemmas.{list_all-from_filter}
+use Rattle.event_schedule.proofs.ListLemmas.{list_all-from_filter}
 use Rattle.missing_round.proofs.WordLemmas.{word-add_same}
 
 with_announced : (announced : Bool) (om d : ℕ) (move : ℕ → ℕ → ℕ) (i : ℕ) (xs : List ℕ) → (announced ≡ true → word (om + sum_by (share move i) xs) ≡ word d)

@@ -6,10 +6,10 @@ use Rattle.std.proofs.lemmas.Bool.{false≢true}
 use Rattle.std.proofs.Math.ListN.{get_or-map}
 use Rattle.group_plan.specs.Plans.{IsWithinLimits}
 use Rattle.group_plan.specs.Tables.{ReadingsView, reading, is_present, presence_of, IsReadingTable}
-use Rattle.transcript_log.specs.declared.Event.{Event}
-use Rattle.transcript_log.specs.Schedule.{Shape, shape_of_presence}
-use Rattle.transcript_log.specs.Tables.{Readings}
-use Rattle.transcript_log.specs.Transcript.{shape_of_readings}
+use Rattle.event_schedule.specs.declared.Event.{Event}
+use Rattle.event_schedule.specs.Schedule.{Shape, shape_of_presence}
+use Rattle.event_schedule.specs.Tables.{Readings}
+use Rattle.event_schedule.specs.Transcript.{shape_of_readings}
 use Rattle.group_book.specs.Books.{BookView, shape_of, past}
 use Rattle.ideal_masks.specs.declared.Offset.{Offset}
 use Rattle.ideal_masks.specs.declared.Differ.{Differ}
@@ -25,7 +25,7 @@ use Rattle.ideal_masks.specs.Chains.{deltas, moves_of}
 use Rattle.ideal_masks.specs.Replaying.{HasEvents}
 use Rattle.ideal_masks.specs.OffsetEnds.{IsAlike, IsKnownAlike, IsFirstKnown, HasOneTotalFor, IsFirstTotalFor, OffsetsEnd, PooledEnd, HasTwoWorldsFor, HasNoWorldsFor, HasNoPooledWorlds, HasNoWorlds}
 use Rattle.ideal_masks.specs.AgreementParts.{PresenceEnds, known_reading, IsFirstSeen, KnownEnds, TotalsEnd, MovesEnd}
-use Rattle.transcript_log.proofs.ScheduleLemmas.{after-reverse}
+use Rattle.event_schedule.proofs.ScheduleLemmas.{after-reverse}
 use Rattle.ideal_masks.proofs.AgreementLemmas.{bounded}
 use Rattle.ideal_masks.proofs.PoolLemmas.{nobody-shares}
 use Rattle.ideal_masks.proofs.Converse.{converse_for}

@@ -1,9 +1,9 @@
 -- What the parts of the comparison of two tables of readings answer.
 use Rattle.std.specs.Prelude.{◌≡◌, ℕ, true, List, reverse, Option, None, Result, Ok, Err, if◌then◌else◌}
 use Rattle.group_plan.specs.Tables.{ReadingsView, reading}
-use Rattle.transcript_log.specs.declared.Event.{Event}
-use Rattle.transcript_log.specs.Tables.{Readings}
-use Rattle.transcript_log.specs.Transcript.{shape_of_readings}
+use Rattle.event_schedule.specs.declared.Event.{Event}
+use Rattle.event_schedule.specs.Tables.{Readings}
+use Rattle.event_schedule.specs.Transcript.{shape_of_readings}
 use Rattle.group_book.specs.Books.{BookView, shape_of, past}
 use Rattle.ideal_masks.specs.declared.Differ.{Differ}
 use Rattle.ideal_masks.specs.declared.Differ.TheVariants.{Presence, Total, Memory}

@@ -4,9 +4,9 @@ use Rattle.std.specs.List.{list_all}
 use Rattle.missing_round.specs.Words.{word}
 use Rattle.group_plan.specs.Plans.{size}
 use Rattle.group_plan.specs.Tables.{ReadingsView, reading}
-use Rattle.transcript_log.specs.declared.Event.{Event}
-use Rattle.transcript_log.specs.Schedule.{Shape, is_announced, is_answer_sent}
-use Rattle.transcript_log.specs.Tables.{Masks}
+use Rattle.event_schedule.specs.declared.Event.{Event}
+use Rattle.event_schedule.specs.Schedule.{Shape, is_announced, is_answer_sent}
+use Rattle.event_schedule.specs.Tables.{Masks}
 use Rattle.group_book.specs.Books.{BookView, shape_of, past, has_round}
 use Rattle.ideal_masks.specs.declared.chain.Chain.{Chain}
 use Rattle.ideal_masks.specs.declared.chain.Link.{Link}

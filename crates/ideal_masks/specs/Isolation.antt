@@ -2,9 +2,9 @@
 use Rattle.std.specs.Prelude.{◌≡◌, ℕ, ◌<◌, true, ◌||◌, List, length, reverse}
 use Rattle.group_plan.specs.Plans.{PlanView, size}
 use Rattle.group_plan.specs.Tables.{reading, IsReadingTable}
-use Rattle.transcript_log.specs.declared.Event.{Event}
-use Rattle.transcript_log.specs.Tables.{Masks}
-use Rattle.transcript_log.specs.Transcript.{transcript}
+use Rattle.event_schedule.specs.declared.Event.{Event}
+use Rattle.event_schedule.specs.Tables.{Masks}
+use Rattle.event_schedule.specs.Transcript.{transcript}
 use Rattle.ideal_masks.specs.declared.Offset.{Offset}
 use Rattle.ideal_masks.specs.Pools.{Pool, nobody}
 use Rattle.ideal_masks.specs.Offsets.{offsets_for, AgreeFor}

@@ -2,7 +2,7 @@
 use Rattle.std.specs.Prelude.{◌≡◌, ℕ, ◌+◌, ◌-◌, ◌^◌, ◌<◌, ◌==◌, ◌&&◌, Bool, false, suc, List, [], All, length, map, set, slice_index_or}
 use Rattle.group_plan.specs.Plans.{PlanView, size, IsWithinLimits}
 use Rattle.group_plan.specs.Tables.{entry, IsTable, is_same_place}
-use Rattle.transcript_log.specs.Tables.{Masks}
+use Rattle.event_schedule.specs.Tables.{Masks}
 use Rattle.ideal_masks.specs.ListTables.{tabulate, MaskTable, masks_in}
 
 -- a plan, and its table of mask words

@@ -3,7 +3,7 @@ use Rattle.std.specs.Prelude.{◌≡◌, ℕ, ◌+◌, ◌-◌, ◌^◌, ◌<◌
 use Rattle.std.specs.List.{range_with_len}
 use Rattle.group_plan.specs.Plans.{PlanView, size}
 use Rattle.group_plan.specs.Tables.{Table, IsTable}
-use Rattle.transcript_log.specs.Tables.{Masks}
+use Rattle.event_schedule.specs.Tables.{Masks}
 use Rattle.ideal_masks.specs.Offsets.{shift, unshift}
 
 -- the list of f 0 to f (n - 1)

@@ -5,7 +5,7 @@ use Rattle.missing_round.specs.Words.{word, group}
 use Rattle.group_plan.specs.Plans.{PlanView, size}
 use Rattle.pair_keys.specs.declared.KeyId.{KeyId}
 use Rattle.pair_keys.specs.declared.KeyId.TheVariants.{Own, Pair}
-use Rattle.transcript_log.specs.Tables.{Masks}
+use Rattle.event_schedule.specs.Tables.{Masks}
 use Rattle.ideal_masks.specs.declared.Offset.{Offset}
 use Rattle.ideal_masks.specs.ListTables.{MaskTable, shift_table, unshift_table}
 

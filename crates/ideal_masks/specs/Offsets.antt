@@ -3,10 +3,10 @@
 use Rattle.std.specs.Prelude.{◌≡◌, ℕ, ◌+◌, ◌==◌, Bool, true, ◌&&◌, List, [], ◌∷◌, sum_by, is_some, if◌then◌else◌}
 use Rattle.missing_round.specs.Words.{word, minus}
 use Rattle.group_plan.specs.Plans.{Group}
-use Rattle.transcript_log.specs.declared.Event.{Event}
-use Rattle.transcript_log.specs.Tables.{Readings, Masks, reading_at, plain_sum}
-use Rattle.transcript_log.specs.Schedule.{Shape, is_announced, is_answer_sent}
-use Rattle.transcript_log.specs.Transcript.{shape_of_readings}
+use Rattle.event_schedule.specs.declared.Event.{Event}
+use Rattle.event_schedule.specs.Tables.{Readings, Masks, reading_at, plain_sum}
+use Rattle.event_schedule.specs.Schedule.{Shape, is_announced, is_answer_sent}
+use Rattle.event_schedule.specs.Transcript.{shape_of_readings}
 use Rattle.ideal_masks.specs.Pools.{Pool, nobody, others, others_answered, others_silent, is_open, chain_for}
 
 -- ---- agreement

@@ -3,9 +3,9 @@
 use Rattle.std.specs.Prelude.{◌≡◌, ℕ, ◌<◌, Bool, true, false, not, ◌&&◌, ◌||◌, List, [], ◌++◌, take, filter, slice_index_or}
 use Rattle.std.specs.List.{list_all}
 use Rattle.missing_round.specs.Sets.{is_member}
-use Rattle.transcript_log.specs.declared.Event.{Event}
-use Rattle.transcript_log.specs.Tables.{Masks}
-use Rattle.transcript_log.specs.Schedule.{Shape, members_of, is_reading_taken, is_announced, is_answer_sent}
+use Rattle.event_schedule.specs.declared.Event.{Event}
+use Rattle.event_schedule.specs.Tables.{Masks}
+use Rattle.event_schedule.specs.Schedule.{Shape, members_of, is_reading_taken, is_announced, is_answer_sent}
 
 -- whether a meter is in the pool, by its group and its number
 abbrev pub Pool : Type 0

@@ -2,11 +2,11 @@
 use Rattle.std.specs.Prelude.{ℕ, List, [], ◌∷◌, ◌++◌}
 use Rattle.group_plan.specs.Plans.{PlanView}
 use Rattle.pair_keys.specs.declared.KeyId.TheVariants.{Own, Pair}
-use Rattle.transcript_log.specs.Tables.{Readings, Masks}
+use Rattle.event_schedule.specs.Tables.{Readings, Masks}
 use Rattle.group_plan.specs.declared.Kind.TheVariants.{Reading, Announcement, Answer}
-use Rattle.transcript_log.specs.declared.Event.{Event}
-use Rattle.transcript_log.specs.declared.Event.TheVariants.{Close, End}
-use Rattle.transcript_log.specs.Rows.{three, readings_of, sends, takes, all, first_two}
+use Rattle.event_schedule.specs.declared.Event.{Event}
+use Rattle.event_schedule.specs.declared.Event.TheVariants.{Close, End}
+use Rattle.event_schedule.specs.Rows.{three, readings_of, sends, takes, all, first_two}
 use Rattle.ideal_masks.specs.declared.Offset.{Offset}
 use Rattle.ideal_masks.specs.Pools.{Pool, pool_of}
 

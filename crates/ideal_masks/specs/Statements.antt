@@ -2,12 +2,12 @@
 use Rattle.std.specs.Prelude.{◌≡◌, ◌↔◌, ℕ, ◌^◌, ◌<◌, ◌≤◌, true, List, map, reverse, is_some}
 use Rattle.group_plan.specs.Plans.{Group, PlanView, size}
 use Rattle.group_plan.specs.Tables.{IsReadingTable}
-use Rattle.transcript_log.specs.declared.Event.{Event}
-use Rattle.transcript_log.specs.declared.Line.{Line}
-use Rattle.transcript_log.specs.Events.{event_of}
-use Rattle.transcript_log.specs.Tables.{Readings, Masks, reading_at, IsOfPlan, IsBounded, IsMasks}
-use Rattle.transcript_log.specs.Transcript.{transcript}
-use Rattle.transcript_log.specs.Frames.{IsPossible, HasWordsOf64Bits}
+use Rattle.event_schedule.specs.declared.Event.{Event}
+use Rattle.event_schedule.specs.declared.Line.{Line}
+use Rattle.event_schedule.specs.Events.{event_of}
+use Rattle.event_schedule.specs.Tables.{Readings, Masks, reading_at, IsOfPlan, IsBounded, IsMasks}
+use Rattle.event_schedule.specs.Transcript.{transcript}
+use Rattle.event_schedule.specs.Frames.{IsPossible, HasWordsOf64Bits}
 use Rattle.ideal_masks.specs.Pools.{Pool, ShareWords}
 use Rattle.ideal_masks.specs.Offsets.{offsets_for, offsets, shift, unshift, AgreeFor, Agree}
 use Rattle.ideal_masks.specs.ListTables.{ReadingTable}

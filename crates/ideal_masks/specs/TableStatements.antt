@@ -2,9 +2,9 @@
 use Rattle.std.specs.Prelude.{◌≡◌, List}
 use Rattle.group_plan.specs.Plans.{PlanView}
 use Rattle.group_plan.specs.Tables.{reading, IsReadingTable}
-use Rattle.transcript_log.specs.declared.Event.{Event}
-use Rattle.transcript_log.specs.Tables.{Masks, IsMasks}
-use Rattle.transcript_log.specs.Transcript.{transcript}
+use Rattle.event_schedule.specs.declared.Event.{Event}
+use Rattle.event_schedule.specs.Tables.{Masks, IsMasks}
+use Rattle.event_schedule.specs.Transcript.{transcript}
 use Rattle.ideal_masks.specs.ListTables.{ReadingTable, masks_in, mask_table_of, IsMaskTable}
 
 -- words below 2^64 make a mask table of the plan

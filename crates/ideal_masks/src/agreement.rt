@@ -3,7 +3,7 @@ ghost use Rattle.std.specs.Prelude.{◌≡◌, ◌<◌, ◌+◌, ◌≤◌, IsTr
 ghost use Rattle.group_plan.specs.Plans.{is_place, size, IsWithinLimits};
 ghost use Rattle.group_plan.specs.Tables.{reading, IsReadingTable};
 ghost use Rattle.missing_round.specs.Words.{word};
-ghost use Rattle.transcript_log.specs.Tables.{plain_sum};
+ghost use Rattle.event_schedule.specs.Tables.{plain_sum};
 ghost use Rattle.group_book.specs.Books.{shape_of, past};
 ghost use Rattle.ideal_masks.specs.OffsetEnds.{AreAlikeBefore, HaveOneTotalBeforeFor};
 ghost use Rattle.ideal_masks.specs.AgreementParts.{PresenceGoesOn, PresenceEnds, known_reading, AreKnownBefore, KnownGoesOn, KnownEnds, TotalsGoOn, TotalsEnd, AreOfOne};

@@ -2,7 +2,7 @@
 ghost use Rattle.std.specs.Prelude.{◌≡◌, ◌&&◌, IsTrue};
 ghost use Rattle.missing_round.specs.Sets.{is_member};
 ghost use Rattle.std.specs.List.{filter};
-ghost use Rattle.transcript_log.specs.Schedule.{is_answer_sent};
+ghost use Rattle.event_schedule.specs.Schedule.{is_answer_sent};
 ghost use Rattle.group_book.specs.Books.{shape_of, past, has_round};
 ghost use Rattle.ideal_masks.specs.Pools.{Pool, pool_of, others as others_of};
 ghost use Rattle.ideal_masks.specs.Chains.{IsChain, IsOpenTo, IsOpened};

@@ -3,7 +3,7 @@ ghost use Rattle.std.specs.Prelude.{◌≡◌, ◌<◌, ◌≤◌, IsTrue, sum_b
 ghost use Rattle.group_plan.specs.Plans.{is_place};
 ghost use Rattle.group_plan.specs.Tables.{reading};
 ghost use Rattle.missing_round.specs.Words.{word};
-ghost use Rattle.transcript_log.specs.Tables.{reading_at};
+ghost use Rattle.event_schedule.specs.Tables.{reading_at};
 ghost use Rattle.ideal_masks.specs.Chains.{IsCompared, pool_in, size_of, deltas_of, own_deltas_of, are_below};
 
 use crate::pool::is_known;

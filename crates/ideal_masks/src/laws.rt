@@ -1,10 +1,10 @@
 //! What the shift keeps, for every plan, table and schedule, and worked rows. Each law is a contract with an empty body.
 
 ghost use Rattle.std.specs.Prelude.{◌≡◌, ◌-◌, ◌^◌, true, false, [], ◌∷◌, reverse, ◌++◌};
-ghost use Rattle.transcript_log.specs.Rows.{three, readings, masks, whole, late, deaf, late_lines};
-ghost use Rattle.transcript_log.specs.Schedule.{is_opened};
-ghost use Rattle.transcript_log.specs.Tables.{plain_sum};
-ghost use Rattle.transcript_log.specs.Transcript.{shape_of_readings, transcript};
+ghost use Rattle.event_schedule.specs.Rows.{three, readings, masks, whole, late, deaf, late_lines};
+ghost use Rattle.event_schedule.specs.Schedule.{is_opened};
+ghost use Rattle.event_schedule.specs.Tables.{plain_sum};
+ghost use Rattle.event_schedule.specs.Transcript.{shape_of_readings, transcript};
 ghost use Rattle.ideal_masks.specs.Moves.{offset_list};
 ghost use Rattle.ideal_masks.specs.Pools.{others, is_open};
 ghost use Rattle.ideal_masks.specs.Offsets.{offsets_for, offsets, shift};
@@ -12,7 +12,7 @@ ghost use Rattle.ideal_masks.specs.Rows.{plain_plan, second, third, words_of, ze
 ghost use Rattle.ideal_masks.specs.Statements.{TwoWorlds, Undone, Converse, TwoWorldsFor, PoolWordsStay, ConverseFor, IsolatedFromPools, OffsetsAreListed, IsolatedAlways, PossibleIsExplained};
 
 /// Worked rows: the moved words of the two masks files, as a list and in two mask tables, and a second world's lines.
-#[tactic(auto, unfolding(transcript_log::specs::Events::once, transcript_log::specs::Transcript::lines_after))]
+#[tactic(auto, unfolding(event_schedule::specs::Events::once, event_schedule::specs::Transcript::lines_after))]
 pub fn moved_words()
     ensures late_reading { offset_list plain_plan (offsets three readings second (reverse late)) ≡ own_by 2 30 ∷ pair_by 0 1 (2 ^ 64 - 5) ∷ [] }
     ensures late_reading_words { words_of (shift (offsets three readings second (reverse late)) masks) ≡ 100 ∷ 200 ∷ 330 ∷ 0 ∷ 7 ∷ 11 ∷ [] }
@@ -31,7 +31,7 @@ pub fn two_worlds()
 
 /// Worked rows: the announcement to meter 2 is lost, and the round isn't opened. Yet it is open to meter 2, which learns that the two
 /// others read 30 together, and nothing else of them. These two learn nothing of meter 2 then, and its very reading where it answers.
-#[tactic(auto, unfolding(transcript_log::specs::Events::once, transcript_log::specs::Transcript::lines_after))]
+#[tactic(auto, unfolding(event_schedule::specs::Events::once, event_schedule::specs::Transcript::lines_after))]
 pub fn pooled_rounds()
     ensures not_opened { is_opened (shape_of_readings three readings) 0 0 (reverse meter_2_deaf) ≡ false }
     ensures open { is_open meter_2 (shape_of_readings three readings) 0 0 (reverse meter_2_deaf) ≡ true }

@@ -3,7 +3,7 @@ ghost use Rattle.std.specs.Prelude.{◌≡◌, ◌<◌, ◌++◌, false, sum_by,
 ghost use Rattle.missing_round.specs.Words.{word};
 ghost use Rattle.pair_keys.specs.declared.KeyId.TheVariants.{Own};
 ghost use Rattle.group_book.specs.Books.{shape_of, past};
-ghost use Rattle.transcript_log.specs.Schedule.{is_announced};
+ghost use Rattle.event_schedule.specs.Schedule.{is_announced};
 ghost use Rattle.ideal_masks.specs.Chains.{IsCompared, IsChainOf, pool_in, size_of, deltas_of, others_moves_of, own_moves_of, owns_of, pairs_of};
 
 use crate::Offset;

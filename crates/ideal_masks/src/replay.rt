@@ -1,19 +1,20 @@
 //! The events of a transcript, made again on a book.
 ghost use Rattle.std.specs.Prelude.{◌≡◌, ◌<◌, true, Some, IsTrue, IfOk};
 ghost use Rattle.meter_frames.specs.Frames.{FitsKind};
-ghost use Rattle.transcript_log.specs.Events.{events_of};
-ghost use Rattle.transcript_log.specs.Transcript.{frame};
+ghost use Rattle.event_schedule.specs.Events.{events_of};
+ghost use Rattle.event_schedule.specs.Transcript.{frame};
 ghost use Rattle.group_book.specs.Books.{shape_of, past, knows, has_round, allows};
-ghost use Rattle.transcript_log.specs.Schedule.{is_announced, missing};
+ghost use Rattle.event_schedule.specs.Schedule.{is_announced, missing};
 ghost use Rattle.ideal_masks.specs.Replaying.{no_contents, IsOfBook, IsBlank, MakesEvent, HasEvents};
 
+use event_schedule::Event;
 use group_book::Book;
 use group_plan::{Kind, Presence, Readings, Tag};
 use meter_frames::Frame;
 use missing_round::MeterSet;
 use mod_word::Word;
 use std::alloc::{AllocError, Global};
-use transcript_log::{Event, Transcript};
+use transcript_log::Transcript;
 
 // The announced set of a round, and the empty one where it isn't announced.
 fn announced_set(book: &Book, group: u16, round: u32) -> MeterSet

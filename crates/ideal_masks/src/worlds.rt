@@ -3,7 +3,7 @@ ghost use Rattle.std.specs.Prelude.{◌≡◌, ◌<◌, ◌++◌, IfOk, IfErr, O
 ghost use Rattle.std.specs.List.{flat_map, range_with_len};
 ghost use Rattle.group_plan.specs.Plans.{size, IsWithinLimits};
 ghost use Rattle.group_plan.specs.Tables.{reading};
-ghost use Rattle.transcript_log.specs.Events.{events_of};
+ghost use Rattle.event_schedule.specs.Events.{events_of};
 ghost use Rattle.ideal_masks.specs.Moves.{own_list, pair_list, offset_list};
 ghost use Rattle.ideal_masks.specs.Order.{AreMoves, AreOfPlan};
 ghost use Rattle.ideal_masks.specs.Chains.{moves_of};

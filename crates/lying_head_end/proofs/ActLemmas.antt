@@ -12,7 +12,7 @@ use Rattle.missing_round.proofs.SetLemmas.{is_member-filter}
 use Rattle.meter_core.specs.declared.Why.{Why}
 use Rattle.meter_core.specs.declared.Why.TheVariants.{OutOfPlan, SelfMissing, Thin}
 use Rattle.meter_core.specs.Meters.{is_within, survivors}
-use Rattle.transcript_log.specs.Schedule.{Shape, members_of, floor_of}
+use Rattle.event_schedule.specs.Schedule.{Shape, members_of, floor_of}
 use Rattle.lying_head_end.specs.Acts.{Act, Read, Tell, is_reading, has_read, may_answer, set_heard, set_answered, is_set, does_answer}
 use Rattle.lying_head_end.specs.Frames.{TellsSet}
 

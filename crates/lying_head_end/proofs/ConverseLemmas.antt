@@ -8,11 +8,11 @@ use Rattle.std.proofs.lemmas.Slice.Eq.{bytes_eq-Decides}
 use Rattle.missing_round.specs.Words.{answer_word}
 use Rattle.group_plan.specs.Plans.{Group}
 use Rattle.meter_frames.specs.declared.Frame.{Frame}
-use Rattle.transcript_log.specs.Schedule.{Shape}
-use Rattle.transcript_log.specs.Tables.{Readings, Masks, reading_at, IsOfPlan, IsBounded}
-use Rattle.transcript_log.specs.Transcript.{shape_of_readings, Contents, contents_of_tables}
-use Rattle.transcript_log.proofs.TranscriptLemmas.{shape-same}
-use Rattle.transcript_log.proofs.MemberLemmas.{plain_sum_fits}
+use Rattle.event_schedule.specs.Schedule.{Shape}
+use Rattle.event_schedule.specs.Tables.{Readings, Masks, reading_at, IsOfPlan, IsBounded}
+use Rattle.event_schedule.specs.Transcript.{shape_of_readings, Contents, contents_of_tables}
+use Rattle.event_schedule.proofs.TranscriptLemmas.{shape-same}
+use Rattle.event_schedule.proofs.MemberLemmas.{plain_sum_fits}
 use Rattle.ideal_masks.specs.Pools.{Pool, ShareWords}
 use Rattle.mask_graphs.specs.Graphs.{Graph}
 use Rattle.mask_graphs.specs.Moves.{left_out}

@@ -7,10 +7,10 @@ use Rattle.std.proofs.lemmas.List.Filters.{length-filter_both}
 use Rattle.missing_round.specs.Sets.{is_member}
 use Rattle.missing_round.proofs.SetLemmas.{is_member-picked, same_filter}
 use Rattle.group_plan.specs.Plans.{Group, size, is_member as is_plan_member, members}
-use Rattle.transcript_log.specs.Schedule.{Shape, members_of, floor_of}
-use Rattle.transcript_log.specs.Tables.{Readings, IsOfPlan}
-use Rattle.transcript_log.specs.Transcript.{shape_of_readings}
-use Rattle.transcript_log.proofs.MemberLemmas.{is_member-below}
+use Rattle.event_schedule.specs.Schedule.{Shape, members_of, floor_of}
+use Rattle.event_schedule.specs.Tables.{Readings, IsOfPlan}
+use Rattle.event_schedule.specs.Transcript.{shape_of_readings}
+use Rattle.event_schedule.proofs.MemberLemmas.{is_member-below}
 use Rattle.ideal_masks.specs.Pools.{Pool}
 use Rattle.mask_graphs.specs.Graphs.{Graph, IsGraph, IsPart, IsBare, sees}
 use Rattle.mask_graphs.specs.Moves.{left_out}

@@ -10,11 +10,11 @@ use Rattle.missing_round.proofs.SetLemmas.{is_member-filter, same_filter}
 use Rattle.group_plan.specs.declared.Kind.{Kind}
 use Rattle.group_plan.specs.declared.Kind.TheVariants.{Reading, Announcement, Answer}
 use Rattle.meter_core.specs.Meters.{is_within, survivors as left_by}
-use Rattle.transcript_log.specs.declared.Event.{Event}
-use Rattle.transcript_log.specs.declared.Event.TheVariants.{Send, Take, Close, End}
-use Rattle.transcript_log.specs.Events.{is_send, once}
-use Rattle.transcript_log.specs.Schedule.{Shape, members_of, floor_of, is_closed, is_reading_sent, is_reading_taken, survivors, missing, reaches_floor, is_announced, may_announce, is_announcement_taken, is_answer_sent}
-use Rattle.transcript_log.proofs.ScheduleLemmas.{once-cons, once-more, once-gives, is_announced-from_sent, is_announcement_sent-from_taken, is_reading_sent-from_taken, is_closed-from_answer, is_closed-from_taken, missing-closed}
+use Rattle.event_schedule.specs.declared.Event.{Event}
+use Rattle.event_schedule.specs.declared.Event.TheVariants.{Send, Take, Close, End}
+use Rattle.event_schedule.specs.Events.{is_send, once}
+use Rattle.event_schedule.specs.Schedule.{Shape, members_of, floor_of, is_closed, is_reading_sent, is_reading_taken, survivors, missing, reaches_floor, is_announced, may_announce, is_announcement_taken, is_answer_sent}
+use Rattle.event_schedule.proofs.ScheduleLemmas.{once-cons, once-more, once-gives, is_announced-from_sent, is_announcement_sent-from_taken, is_reading_sent-from_taken, is_closed-from_answer, is_closed-from_taken, missing-closed}
 use Rattle.lying_head_end.specs.Acts.{Tell, has_read, may_answer, set_heard, set_answered}
 use Rattle.lying_head_end.specs.Honest.{act_sent, acts_in}
 

@@ -14,7 +14,7 @@ use Rattle.meter_core.specs.declared.Heard.TheVariants.{Answer, AnswerAgain, Ref
 use Rattle.meter_core.specs.Meters.{MeterView, blank, note_at, new_meter, marked, refusal, refusal_over, kept_set, keeping, Hears}
 use Rattle.meter_core.specs.Calls.{Call, Marked, Announced, Step, Run, IsAnswer}
 use Rattle.meter_core.proofs.CallLemmas.{kept_set-keeping_same, kept_set-marked, members-marked, note_at-keeping_other, note_at-marked_other, note_at-same, one_set, within-rounds}
-use Rattle.transcript_log.specs.Schedule.{Shape, members_of, floor_of}
+use Rattle.event_schedule.specs.Schedule.{Shape, members_of, floor_of}
 use Rattle.lying_head_end.specs.Acts.{Act, Read, Tell, has_read, meter_of, may_answer, set_heard, set_answered, is_set, does_answer}
 use Rattle.lying_head_end.specs.Meters.{act_of, past_of, MarksReading, AnswersItsSet}
 use Rattle.lying_head_end.proofs.ActLemmas.{after, after-reverse, passed}

@@ -6,11 +6,11 @@ use Rattle.std.proofs.lemmas.Bool.{false≢true, cases_eq, eq-eqb, ne_eqb, eqb-t
 use Rattle.missing_round.specs.Sets.{is_member}
 use Rattle.missing_round.proofs.SetLemmas.{is_member-filter, same_filter}
 use Rattle.group_plan.specs.Plans.{Group}
-use Rattle.transcript_log.specs.declared.Event.{Event}
-use Rattle.transcript_log.specs.Schedule.{Shape, members_of, is_reading_taken, missing, is_announced, is_answer_sent}
-use Rattle.transcript_log.specs.Tables.{Readings, reading_at, plain_sum}
-use Rattle.transcript_log.specs.Transcript.{shape_of_readings}
-use Rattle.transcript_log.proofs.ScheduleLemmas.{is_announced-from_answer, is_reading_taken-from_answer}
+use Rattle.event_schedule.specs.declared.Event.{Event}
+use Rattle.event_schedule.specs.Schedule.{Shape, members_of, is_reading_taken, missing, is_announced, is_answer_sent}
+use Rattle.event_schedule.specs.Tables.{Readings, reading_at, plain_sum}
+use Rattle.event_schedule.specs.Transcript.{shape_of_readings}
+use Rattle.event_schedule.proofs.ScheduleLemmas.{is_announced-from_answer, is_reading_taken-from_answer}
 use Rattle.ideal_masks.specs.Pools.{Pool, others, is_open}
 use Rattle.ideal_masks.specs.Offsets.{AgreeFor}
 use Rattle.mask_graphs.specs.Graphs.{Graph, IsPart, IsBare, sees}

@@ -9,10 +9,10 @@ use Rattle.missing_round.specs.Words.{word, minus, share, reading_word, answer_w
 use Rattle.missing_round.proofs.WordLemmas.{word-add_both}
 use Rattle.meter_frames.specs.declared.Frame.{Frame}
 use Rattle.group_plan.specs.declared.Kind.TheVariants.{Reading, Answer}
-use Rattle.transcript_log.specs.Schedule.{Shape}
-use Rattle.transcript_log.specs.Tables.{Readings, Masks, reading_at, IsOfPlan, IsMasks}
-use Rattle.transcript_log.specs.Transcript.{shape_of_readings, Contents, contents_of_tables}
-use Rattle.transcript_log.proofs.TranscriptLemmas.{shape-same}
+use Rattle.event_schedule.specs.Schedule.{Shape}
+use Rattle.event_schedule.specs.Tables.{Readings, Masks, reading_at, IsOfPlan, IsMasks}
+use Rattle.event_schedule.specs.Transcript.{shape_of_readings, Contents, contents_of_tables}
+use Rattle.event_schedule.proofs.TranscriptLemmas.{shape-same}
 use Rattle.ideal_masks.specs.Pools.{Pool, ShareWords}
 use Rattle.ideal_masks.specs.Offsets.{link, delta, shift}
 use Rattle.ideal_masks.proofs.OffsetLemmas.{reading_word-shifted, answer_word-shifted}

@@ -4,7 +4,7 @@ use Rattle.std.specs.Prelude.{ℕ, Bool, false, not, ◌&&◌, ◌||◌, List, [
 use Rattle.std.specs.Option.{option_or}
 use Rattle.group_plan.specs.Tables.{is_same_place}
 use Rattle.meter_core.specs.Meters.{MeterView, refusal_over}
-use Rattle.transcript_log.specs.Schedule.{Shape, members_of, floor_of}
+use Rattle.event_schedule.specs.Schedule.{Shape, members_of, floor_of}
 
 -- meter i of group g reads round r; or it is told that this set of meters is missing in the round
 pub data Act : Type 0 where

@@ -4,9 +4,9 @@ use Rattle.missing_round.specs.Sets.{IsSet}
 use Rattle.group_plan.specs.declared.Kind.TheVariants.{Reading, Answer}
 use Rattle.group_plan.specs.Plans.{Group}
 use Rattle.meter_frames.specs.declared.Frame.{Frame}
-use Rattle.transcript_log.specs.Schedule.{Shape}
-use Rattle.transcript_log.specs.Tables.{Readings, Masks}
-use Rattle.transcript_log.specs.Transcript.{Contents, shape_of_readings, contents_of_tables}
+use Rattle.event_schedule.specs.Schedule.{Shape}
+use Rattle.event_schedule.specs.Tables.{Readings, Masks}
+use Rattle.event_schedule.specs.Transcript.{Contents, shape_of_readings, contents_of_tables}
 use Rattle.lying_head_end.specs.Acts.{Act, Read, Tell, does_answer}
 
 -- the frame that a meter sends at an act, where it sends one: its reading word, or its answer word to the set

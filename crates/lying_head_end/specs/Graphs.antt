@@ -2,7 +2,7 @@
 -- `whole` is the whole list of acts as a past: the newest first.
 use Rattle.std.specs.Prelude.{ℕ, Bool, false, not, ◌&&◌, List, Option, Some, None, is_some}
 use Rattle.missing_round.specs.Sets.{is_member}
-use Rattle.transcript_log.specs.Schedule.{Shape, members_of}
+use Rattle.event_schedule.specs.Schedule.{Shape, members_of}
 use Rattle.ideal_masks.specs.Pools.{Pool}
 use Rattle.mask_graphs.specs.Graphs.{Graph}
 use Rattle.lying_head_end.specs.Acts.{Act, set_answered}

@@ -4,11 +4,11 @@ use Rattle.std.specs.Prelude.{◌↔◌, ℕ, List, [], ◌∷◌, ◌++◌, rev
 use Rattle.group_plan.specs.declared.Kind.{Kind}
 use Rattle.group_plan.specs.declared.Kind.TheVariants.{Reading, Announcement, Answer}
 use Rattle.group_plan.specs.Plans.{Group}
-use Rattle.transcript_log.specs.declared.Event.{Event}
-use Rattle.transcript_log.specs.declared.Event.TheVariants.{Send}
-use Rattle.transcript_log.specs.Schedule.{Shape, is_announcement_taken, missing}
-use Rattle.transcript_log.specs.Tables.{Readings}
-use Rattle.transcript_log.specs.Transcript.{shape_of_readings}
+use Rattle.event_schedule.specs.declared.Event.{Event}
+use Rattle.event_schedule.specs.declared.Event.TheVariants.{Send}
+use Rattle.event_schedule.specs.Schedule.{Shape, is_announcement_taken, missing}
+use Rattle.event_schedule.specs.Tables.{Readings}
+use Rattle.event_schedule.specs.Transcript.{shape_of_readings}
 use Rattle.ideal_masks.specs.Pools.{Pool}
 use Rattle.ideal_masks.specs.Offsets.{AgreeFor}
 use Rattle.lying_head_end.specs.Acts.{Act, Read, Tell}

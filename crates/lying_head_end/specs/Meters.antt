@@ -3,7 +3,7 @@ use Rattle.std.specs.Prelude.{◌≡◌, ◌↔◌, ℕ, true, List, map, revers
 use Rattle.meter_core.specs.declared.Heard.{Heard}
 use Rattle.meter_core.specs.Meters.{MeterView, new_meter, kept_set, Hears}
 use Rattle.meter_core.specs.Calls.{Call, Marked, Announced, Run, IsAnswer, first_passed}
-use Rattle.transcript_log.specs.Schedule.{Shape, members_of, floor_of}
+use Rattle.event_schedule.specs.Schedule.{Shape, members_of, floor_of}
 use Rattle.lying_head_end.specs.Acts.{Act, Read, Tell, set_answered, does_answer}
 
 -- the act that a call on meter i of group g is

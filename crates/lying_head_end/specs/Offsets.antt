@@ -1,9 +1,9 @@
 -- Offsets: how the masks move, so that one table of readings takes the place of another before a head end that lies.
 use Rattle.std.specs.Prelude.{◌≡◌, ℕ, true, List, is_some, if◌then◌else◌}
 use Rattle.group_plan.specs.Plans.{Group}
-use Rattle.transcript_log.specs.Schedule.{Shape}
-use Rattle.transcript_log.specs.Tables.{Readings, Masks, reading_at}
-use Rattle.transcript_log.specs.Transcript.{shape_of_readings}
+use Rattle.event_schedule.specs.Schedule.{Shape}
+use Rattle.event_schedule.specs.Tables.{Readings, Masks, reading_at}
+use Rattle.event_schedule.specs.Transcript.{shape_of_readings}
 use Rattle.ideal_masks.specs.Pools.{Pool}
 use Rattle.ideal_masks.specs.Offsets.{delta}
 use Rattle.mask_graphs.specs.Graphs.{HaveOneSum}

@@ -1,9 +1,9 @@
 -- Worked rows: one round of eight meters with floor 4, and one of three meters with floor 2. Each list of acts is a past, the newest first.
 use Rattle.std.specs.Prelude.{ℕ, List, [], ◌∷◌, ◌++◌, map, Some, codes}
 use Rattle.group_plan.specs.Plans.{Rounds, Group}
-use Rattle.transcript_log.specs.Schedule.{Shape}
-use Rattle.transcript_log.specs.Tables.{Readings}
-use Rattle.transcript_log.specs.Transcript.{shape_of_readings}
+use Rattle.event_schedule.specs.Schedule.{Shape}
+use Rattle.event_schedule.specs.Tables.{Readings}
+use Rattle.event_schedule.specs.Transcript.{shape_of_readings}
 use Rattle.ideal_masks.specs.Pools.{nobody}
 use Rattle.mask_graphs.specs.Graphs.{Graph}
 use Rattle.lying_head_end.specs.Acts.{Act, Read, Tell}

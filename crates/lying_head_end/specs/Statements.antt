@@ -1,9 +1,9 @@
 -- What the laws of this crate say. Each is proved for every plan, table, pool and list of acts.
 use Rattle.std.specs.Prelude.{◌≡◌, ℕ, ◌+◌, ◌≤◌, Bool, true, ◌&&◌, List, filter, length, reverse, is_some}
 use Rattle.group_plan.specs.Plans.{Group}
-use Rattle.transcript_log.specs.Schedule.{floor_of, members_of}
-use Rattle.transcript_log.specs.Tables.{Readings, Masks, IsOfPlan, IsBounded, IsMasks}
-use Rattle.transcript_log.specs.Transcript.{shape_of_readings}
+use Rattle.event_schedule.specs.Schedule.{floor_of, members_of}
+use Rattle.event_schedule.specs.Tables.{Readings, Masks, IsOfPlan, IsBounded, IsMasks}
+use Rattle.event_schedule.specs.Transcript.{shape_of_readings}
 use Rattle.ideal_masks.specs.Pools.{Pool, ShareWords}
 use Rattle.ideal_masks.specs.Offsets.{shift}
 use Rattle.mask_graphs.specs.Graphs.{IsPart, IsBare}

@@ -73,6 +73,7 @@ impl Meter {
     }
 
     /// Marks the round as read and sent to these members, of which the meter is one.
+    #[inline(always)]
     pub fn mark_read(&mut self, round: u32, members: &MeterSet)
         requires round { round < length self.old.notes }
         requires member { is_member self.old.meter members.now ≡ true }
@@ -84,6 +85,7 @@ impl Meter {
     }
 
     /// Hears of the missing set that is announced for the round.
+    #[inline(always)]
     pub fn hear(&mut self, round: u32, missing: &MeterSet) -> Heard
         ensures { Hears self.old round missing.now result self.new }
     {

@@ -11,10 +11,10 @@ use Rattle.group_plan.specs.Tables.{PresenceView, IsPresenceTable}
 use Rattle.group_plan.specs.declared.Kind.TheVariants.{Announcement}
 use Rattle.group_plan.specs.declared.Tag.{Tag}
 use Rattle.meter_frames.specs.declared.Frame.{Frame}
-use Rattle.transcript_log.specs.declared.Event.{Event}
-use Rattle.transcript_log.specs.declared.Event.TheVariants.{Send}
-use Rattle.transcript_log.specs.Schedule.{Shape, shape_of_presence, missing}
-use Rattle.transcript_log.proofs.EventLemmas.{is_send-true}
+use Rattle.event_schedule.specs.declared.Event.{Event}
+use Rattle.event_schedule.specs.declared.Event.TheVariants.{Send}
+use Rattle.event_schedule.specs.Schedule.{Shape, shape_of_presence, missing}
+use Rattle.event_schedule.proofs.EventLemmas.{is_send-true}
 use Rattle.run_rows.specs.Ticks.{Clock, clock_of, tag_of}
 use Rattle.plan_meters.specs.Came.{same_tag, tags_of}
 use Rattle.plan_meters.specs.TickFrames.{was_taken, announced_set, answer_to, answers_to, CanAnswer, AreAnswerable, AreHeard, IsHeardIn}

@@ -11,11 +11,11 @@ use Rattle.group_plan.specs.Plans.{size, is_place, members}
 use Rattle.group_plan.specs.Tables.{ReadingsView, reading, PresenceView, IsPresenceTable}
 use Rattle.group_plan.specs.declared.Kind.TheVariants.{Announcement}
 use Rattle.group_plan.specs.declared.Tag.{Tag}
-use Rattle.transcript_log.specs.declared.Event.{Event}
-use Rattle.transcript_log.specs.Events.{is_send, same_kind}
-use Rattle.transcript_log.specs.Schedule.{Shape, shape_of_presence, members_of, is_announced, is_reading_taken, missing, may_announce, is_announcement_taken}
-use Rattle.transcript_log.proofs.ScheduleLemmas.{once-gives, once-more, is_announcement_sent-from_taken, present-from_taken}
-use Rattle.transcript_log.proofs.MemberLemmas.{is_member-below}
+use Rattle.event_schedule.specs.declared.Event.{Event}
+use Rattle.event_schedule.specs.Events.{is_send, same_kind}
+use Rattle.event_schedule.specs.Schedule.{Shape, shape_of_presence, members_of, is_announced, is_reading_taken, missing, may_announce, is_announcement_taken}
+use Rattle.event_schedule.proofs.ScheduleLemmas.{once-gives, once-more, is_announcement_sent-from_taken, present-from_taken}
+use Rattle.event_schedule.proofs.MemberLemmas.{is_member-below}
 use Rattle.blind_core.specs.Blind.{are_places}
 use Rattle.plan_meters.proofs.RowLemmas.{members-are_places}
 use Rattle.run_rows.specs.Ticks.{tag_of}

@@ -15,9 +15,9 @@ use Rattle.meter_core.specs.declared.Why.{Why}
 use Rattle.meter_core.specs.declared.Why.TheVariants.{OutOfPlan, NotRead, SelfMissing, Thin, OtherSet}
 use Rattle.meter_core.specs.Meters.{MeterView, blank, note_at, new_meter, marked, is_within, survivors, refusal, refusal_over, kept_set, keeping, Hears}
 use Rattle.meter_core.proofs.CallLemmas.{note_at-marked_other, members-marked, kept_set-marked, kept_set-keeping_same, note_at-keeping_other, note_at-same, within-rounds}
-use Rattle.transcript_log.specs.declared.Event.{Event}
-use Rattle.transcript_log.specs.Schedule.{Shape, members_of, floor_of, is_closed, is_reading_taken, reaches_floor, missing, is_announced, is_announcement_taken, survivors as survivors_of}
-use Rattle.transcript_log.proofs.ScheduleLemmas.{is_announced-from_sent, is_announcement_sent-from_taken, present-from_taken}
+use Rattle.event_schedule.specs.declared.Event.{Event}
+use Rattle.event_schedule.specs.Schedule.{Shape, members_of, floor_of, is_closed, is_reading_taken, reaches_floor, missing, is_announced, is_announcement_taken, survivors as survivors_of}
+use Rattle.event_schedule.proofs.ScheduleLemmas.{is_announced-from_sent, is_announcement_sent-from_taken, present-from_taken}
 use Rattle.plan_meters.specs.Meters.{AreMembers, IsKept, IsMeter, is_answer}
 use Rattle.plan_meters.proofs.RangeLemmas.{lt-other}
 use Rattle.plan_meters.proofs.GroupLemmas.{told_survives, told-not_missing}

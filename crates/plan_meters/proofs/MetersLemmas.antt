@@ -12,10 +12,10 @@ use Rattle.group_plan.specs.declared.Kind.TheVariants.{Announcement}
 use Rattle.group_plan.specs.declared.Tag.{Tag}
 use Rattle.meter_core.specs.Meters.{MeterView, marked, kept_set, Hears}
 use Rattle.meter_core.specs.declared.Heard.{Heard}
-use Rattle.transcript_log.specs.Events.{same_kind}
+use Rattle.event_schedule.specs.Events.{same_kind}
 use Rattle.run_rows.specs.Ticks.{clock_of, tag_of}
-use Rattle.transcript_log.specs.declared.Event.{Event}
-use Rattle.transcript_log.specs.Schedule.{shape_of_presence, members_of, missing, is_announcement_taken}
+use Rattle.event_schedule.specs.declared.Event.{Event}
+use Rattle.event_schedule.specs.Schedule.{shape_of_presence, members_of, missing, is_announcement_taken}
 use Rattle.meter_frames.specs.declared.Frame.{Frame}
 use Rattle.plan_meters.specs.Came.{same_tag, tags_of}
 use Rattle.plan_meters.specs.TickFrames.{was_taken, AreHeard}

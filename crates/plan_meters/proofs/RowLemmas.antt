@@ -11,7 +11,7 @@ use Rattle.group_plan.specs.Plans.{PlanView, Group, size, is_place, is_member, m
 use Rattle.group_plan.specs.Tables.{ReadingsView, reading, IsReadingTable}
 use Rattle.meter_frames.specs.declared.Frame.{Frame}
 use Rattle.blind_core.specs.Blind.{are_places, AreReadings, AreGroupWords, word_or_0}
-use Rattle.transcript_log.proofs.MemberLemmas.{is_member-below}
+use Rattle.event_schedule.proofs.MemberLemmas.{is_member-below}
 use Rattle.run_rows.specs.Ticks.{tag_of}
 use Rattle.group_plan.specs.declared.Kind.TheVariants.{Reading}
 use Rattle.plan_meters.specs.TickFrames.{reading_frame, word_frame, IsRow}

@@ -5,7 +5,7 @@ use Rattle.group_plan.specs.declared.Kind.TheVariants.{Reading}
 use Rattle.group_plan.specs.declared.Tag.{Tag}
 use Rattle.meter_frames.specs.declared.Frame.{Frame}
 use Rattle.meter_frames.specs.Frames.{spelling, IsFrame, kind_of, frame_at}
-use Rattle.transcript_log.specs.Events.{is_tag}
+use Rattle.event_schedule.specs.Events.{is_tag}
 
 -- the two are one tag
 abbrev pub same_tag : Tag → Tag → Bool

@@ -3,7 +3,7 @@ use Rattle.std.specs.Prelude.{◌≡◌, ℕ, true, List, Some, slice_index_or}
 use Rattle.group_plan.specs.Tables.{PresenceView, IsPresenceTable}
 use Rattle.meter_core.specs.Meters.{MeterView, kept_set}
 use Rattle.meter_frames.specs.declared.Frame.{Frame}
-use Rattle.transcript_log.specs.declared.Event.{Event}
+use Rattle.event_schedule.specs.declared.Event.{Event}
 use Rattle.plan_meters.specs.Meters.{AreOfGroup, is_announcement, IsTold}
 
 -- only members are present, and after these events they are the meters of group g, and have read the rounds below t

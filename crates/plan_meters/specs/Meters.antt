@@ -9,9 +9,9 @@ use Rattle.group_plan.specs.declared.Tag.{Tag}
 use Rattle.meter_core.specs.Meters.{MeterView, note_at, kept_set}
 use Rattle.meter_core.specs.declared.Heard.{Heard}
 use Rattle.meter_core.specs.declared.Heard.TheVariants.{Answer, AnswerAgain, Refused}
-use Rattle.transcript_log.specs.declared.Event.{Event}
-use Rattle.transcript_log.specs.Events.{same_kind}
-use Rattle.transcript_log.specs.Schedule.{Shape, shape_of_presence, members_of, floor_of, missing, is_announcement_taken}
+use Rattle.event_schedule.specs.declared.Event.{Event}
+use Rattle.event_schedule.specs.Events.{same_kind}
+use Rattle.event_schedule.specs.Schedule.{Shape, shape_of_presence, members_of, floor_of, missing, is_announcement_taken}
 
 -- a meter that is marked read is so over the members of the round
 abbrev pub AreMembers : List ℕ → Option (List ℕ) → Type 0

@@ -5,7 +5,7 @@ use Rattle.missing_round.specs.Masks.{Masks}
 use Rattle.group_plan.specs.Plans.{PlanView}
 use Rattle.group_plan.specs.Tables.{ReadingsView, reading}
 use Rattle.meter_frames.specs.declared.Frame.{Frame}
-use Rattle.transcript_log.specs.Schedule.{members_of}
+use Rattle.event_schedule.specs.Schedule.{members_of}
 use Rattle.plan_meters.specs.TickFrames.{run_shape, reading_frame, answers_to}
 
 -- the readings of group g at tick t

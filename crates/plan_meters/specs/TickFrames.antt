@@ -10,10 +10,10 @@ use Rattle.group_plan.specs.Tables.{ReadingsView, reading, presence_of}
 use Rattle.group_plan.specs.declared.Kind.TheVariants.{Reading, Announcement, Answer}
 use Rattle.group_plan.specs.declared.Tag.{Tag}
 use Rattle.meter_frames.specs.declared.Frame.{Frame}
-use Rattle.transcript_log.specs.declared.Event.{Event}
-use Rattle.transcript_log.specs.Events.{same_kind}
-use Rattle.transcript_log.specs.Tables.{Readings, reading_at}
-use Rattle.transcript_log.specs.Schedule.{Shape, is_announcement_taken, shape_of_presence}
+use Rattle.event_schedule.specs.declared.Event.{Event}
+use Rattle.event_schedule.specs.Events.{same_kind}
+use Rattle.event_schedule.specs.Tables.{Readings, reading_at}
+use Rattle.event_schedule.specs.Schedule.{Shape, is_announcement_taken, shape_of_presence}
 use Rattle.run_rows.specs.Ticks.{Clock, tag_of}
 use Rattle.plan_meters.specs.Came.{same_tag, tags_of}
 

@@ -17,13 +17,13 @@ ghost use Rattle.plan_meters.specs.Hidden.{IsOfOnePlan};
 use crate::group::Hearers;
 use crate::known::Known;
 use blind_core::{answer, answers};
+use event_schedule::members;
 use group_plan::{Kind, Readings, Tag};
 use mask_stream::Masks;
 use meter_frames::Frame;
 use missing_round::MeterSet;
 use mod_word::Word;
 use std::alloc::AllocError;
-use transcript_log::members;
 
 /// Whether it is an announcement to this meter of the round.
 fn is_announcement_for(tag: Tag, group: u16, round: u32, meter: u8) -> bool

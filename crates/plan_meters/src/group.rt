@@ -12,12 +12,12 @@ ghost use Rattle.meter_frames.specs.declared.Frame.{Frame};
 
 use crate::frames::{add_answers, add_readings};
 use crate::known::Known;
+use event_schedule::members;
 use group_plan::{Kind, Tag};
 use mask_stream::Masks;
 use meter_frames::Frame;
 use missing_round::MeterSet;
 use std::alloc::AllocError;
-use transcript_log::members;
 
 /// Whether it is an announcement of this round.
 fn is_announcement(tag: Tag, group: u16, round: u32) -> bool

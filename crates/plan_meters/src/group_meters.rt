@@ -3,7 +3,7 @@
 ghost use Rattle.std.specs.Prelude.{◌≡◌, ◌+◌, ◌<◌, ℕ, true, IfOk, length, List};
 ghost use Rattle.group_plan.specs.Tables.{PresenceView, presence_of};
 ghost use Rattle.meter_frames.specs.declared.Frame.{Frame as FrameView};
-ghost use Rattle.transcript_log.specs.declared.Event.{Event};
+ghost use Rattle.event_schedule.specs.declared.Event.{Event};
 ghost use Rattle.plan_meters.specs.Meters.{AreOfGroup, CanReadGroup, is_announcement, IsTold};
 ghost use Rattle.plan_meters.specs.GroupMeters.{AreGroupMeters, CanHearIn, KeepsSet};
 

@@ -9,13 +9,13 @@ ghost use Rattle.plan_meters.specs.Hidden.{Hide, HideRounds, HideBlock, CanHide,
 
 use crate::pieces::items_a_piece;
 use blind_core::{masked_group, masked_rounds};
+use event_schedule::members;
 use group_plan::{GroupPlan, Plan, Readings};
 use mask_stream::Masks;
 use mod_word::Word;
 use rayon::prelude::*;
 use std::alloc::{AllocError, Global};
 use std::thread::Threads;
-use transcript_log::members;
 
 /// The word of each reading of a plan, hidden under mask words, and 0 where there is no reading. Each block
 /// has the rows of a group in eight rounds, or in those that are left at the end of the plan. The groups of the first

@@ -3,13 +3,13 @@
 ghost use Rattle.std.specs.Prelude.{◌≡◌, ◌+◌, ◌<◌, IfOk, IsTrue, is_some, length, List};
 ghost use Rattle.group_plan.specs.Plans.{is_place, is_member};
 ghost use Rattle.group_plan.specs.Tables.{presence_of, reading};
-ghost use Rattle.transcript_log.specs.declared.Event.{Event};
+ghost use Rattle.event_schedule.specs.declared.Event.{Event};
 ghost use Rattle.plan_meters.specs.Meters.{AreOfGroup, CanReadGroup, is_answer, is_announcement};
 
+use event_schedule::{floor_of, members};
 use group_plan::{Kind, Readings, Tag};
 use meter_core::{Heard, Meter};
 use std::alloc::{AllocError, Global};
-use transcript_log::{floor_of, members};
 
 /// The meters of a group, before they read or hear anything.
 pub(crate) fn new_group(

@@ -13,7 +13,7 @@ use Rattle.plan_files.specs.Registers.{RegistersView, table}
 use Rattle.plan_meters.specs.Hidden.{HasRow, Hide, words_in}
 use Rattle.plan_meters.specs.declared.hidden.HiddenReadings.{HiddenReadings}
 use Rattle.plan_meters.proofs.HiddenLemmas.{has-row, words-hide}
-use Rattle.transcript_log.specs.Transcripts.{HasPlace}
+use Rattle.event_schedule.specs.Transcripts.{HasPlace}
 use Rattle.register_words.specs.Readings.{AreMade, readings_in}
 use Rattle.register_words.specs.Sides.{register_contents}
 use Rattle.register_words.specs.Words.{register_streams}

@@ -25,11 +25,11 @@ use Rattle.group_plan.proofs.TableLemmas.{set_here, set_there}
 use Rattle.meter_frames.specs.declared.Frame.{Frame}
 use Rattle.missing_round.specs.Words.{word}
 use Rattle.mod_word.specs.Word.{negative}
-use Rattle.transcript_log.specs.declared.Entry.{Entry}
-use Rattle.transcript_log.specs.declared.Line.{Line}
-use Rattle.transcript_log.specs.declared.Line.TheVariants.{Send, Take, Close, End}
-use Rattle.transcript_log.specs.Events.{event_of, frame_of, is_send, is_tag, lines_of, same_kind}
-use Rattle.transcript_log.specs.Transcripts.{FitsLine, IsTranscript, TranscriptView}
+use Rattle.event_schedule.specs.declared.Entry.{Entry}
+use Rattle.event_schedule.specs.declared.Line.{Line}
+use Rattle.event_schedule.specs.declared.Line.TheVariants.{Send, Take, Close, End}
+use Rattle.event_schedule.specs.Events.{event_of, frame_of, is_send, is_tag, lines_of, same_kind}
+use Rattle.event_schedule.specs.Transcripts.{FitsLine, IsTranscript, TranscriptView}
 use Rattle.register_words.specs.declared.row.SideRow.{SideRow}
 use Rattle.register_words.specs.declared.report.Firsts.{Firsts}
 use Rattle.register_words.specs.ReportParts.{AreFirsts, KnowsFirsts, first_row, frame_noted, noted, word_from}

@@ -15,11 +15,11 @@ use Rattle.blind_core.proofs.ShareLemmas.{shares-without}
 use Rattle.pair_keys.specs.Keys.{Keys}
 use Rattle.plan_files.specs.Registers.{RegistersView}
 use Rattle.plan_files.proofs.ReadingLemmas.{drop_at, drop_end}
-use Rattle.transcript_log.specs.declared.Entry.{Entry}
-use Rattle.transcript_log.specs.declared.Line.{Line}
-use Rattle.transcript_log.specs.declared.Line.TheVariants.{Send, Take, Close, End}
-use Rattle.transcript_log.specs.Events.{lines_of}
-use Rattle.transcript_log.specs.Transcripts.{FitsLine, IsTranscript, IsWithin, TranscriptView}
+use Rattle.event_schedule.specs.declared.Entry.{Entry}
+use Rattle.event_schedule.specs.declared.Line.{Line}
+use Rattle.event_schedule.specs.declared.Line.TheVariants.{Send, Take, Close, End}
+use Rattle.event_schedule.specs.Events.{lines_of}
+use Rattle.event_schedule.specs.Transcripts.{FitsLine, IsTranscript, IsWithin, TranscriptView}
 use Rattle.register_words.specs.declared.row.SideRow.{SideRow}
 use Rattle.register_words.specs.Blocks.{is_end}
 use Rattle.register_words.specs.SideParts.{FitsFrame, row_by}

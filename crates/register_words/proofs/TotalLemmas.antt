@@ -9,19 +9,19 @@ use Rattle.group_plan.specs.Plans.{PlanView, size}
 use Rattle.group_plan.specs.Tables.{IsReadingTable, Table, reading}
 use Rattle.missing_round.specs.Words.{frame_total}
 use Rattle.pair_keys.specs.Keys.{Keys}
-use Rattle.transcript_log.specs.declared.Event.{Event}
-use Rattle.transcript_log.specs.declared.Event.TheVariants.{Send, Take, Close, End}
-use Rattle.transcript_log.specs.declared.Line.{Line}
-use Rattle.transcript_log.specs.declared.Line.TheVariants.{Send as SendLine}
-use Rattle.transcript_log.specs.Events.{event_of, is_tag, same_kind}
-use Rattle.transcript_log.specs.Frames.{contents_of_lines, first_word, word_or_zero}
-use Rattle.transcript_log.specs.Journal.{past_of}
-use Rattle.transcript_log.specs.Schedule.{Shape, is_opened, may_send, survivors}
-use Rattle.transcript_log.specs.Tables.{IsBounded, plain_sum}
-use Rattle.transcript_log.specs.Transcript.{lines_after, shape_of_readings, transcript}
-use Rattle.transcript_log.proofs.EventLemmas.{events-lines}
-use Rattle.transcript_log.proofs.JournalLemmas.{total_of_journal}
-use Rattle.transcript_log.proofs.TranscriptLemmas.{shape-same}
+use Rattle.event_schedule.specs.declared.Event.{Event}
+use Rattle.event_schedule.specs.declared.Event.TheVariants.{Send, Take, Close, End}
+use Rattle.event_schedule.specs.declared.Line.{Line}
+use Rattle.event_schedule.specs.declared.Line.TheVariants.{Send as SendLine}
+use Rattle.event_schedule.specs.Events.{event_of, is_tag, same_kind}
+use Rattle.event_schedule.specs.Frames.{contents_of_lines, first_word, word_or_zero}
+use Rattle.event_schedule.specs.Journal.{past_of}
+use Rattle.event_schedule.specs.Schedule.{Shape, is_opened, may_send, survivors}
+use Rattle.event_schedule.specs.Tables.{IsBounded, plain_sum}
+use Rattle.event_schedule.specs.Transcript.{lines_after, shape_of_readings, transcript}
+use Rattle.event_schedule.proofs.EventLemmas.{events-lines}
+use Rattle.event_schedule.proofs.JournalLemmas.{total_of_journal}
+use Rattle.event_schedule.proofs.TranscriptLemmas.{shape-same}
 use Rattle.plan_files.specs.Registers.{RegistersView, table}
 use Rattle.register_words.specs.declared.row.SideRow.{SideRow}
 use Rattle.register_words.specs.SideReports.{first_side_word, first_word_of, row_count, side_total}

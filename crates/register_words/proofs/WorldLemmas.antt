@@ -15,19 +15,19 @@ use Rattle.pair_keys.specs.Keys.{Keys}
 use Rattle.pair_keys.specs.declared.KeyId.TheVariants.{Own, Pair}
 use Rattle.mask_stream.specs.KeyStreams.{streams}
 use Rattle.mask_stream.specs.KeyStreams as first
-use Rattle.transcript_log.specs.declared.Event.{Event}
-use Rattle.transcript_log.specs.declared.Event.TheVariants.{Send, Take, Close, End}
-use Rattle.transcript_log.specs.declared.Line.{Line}
-use Rattle.transcript_log.specs.declared.Line.TheVariants.{Send as SendLine}
-use Rattle.transcript_log.specs.Tables.{Readings, Masks, IsOfPlan, IsBounded}
-use Rattle.transcript_log.specs.Schedule.{Shape, may_send}
-use Rattle.transcript_log.specs.Transcript.{Contents, lines_after, set_sent, shape_of_readings, transcript, word_sent}
-use Rattle.transcript_log.proofs.ScheduleLemmas.{after-reverse}
+use Rattle.event_schedule.specs.declared.Event.{Event}
+use Rattle.event_schedule.specs.declared.Event.TheVariants.{Send, Take, Close, End}
+use Rattle.event_schedule.specs.declared.Line.{Line}
+use Rattle.event_schedule.specs.declared.Line.TheVariants.{Send as SendLine}
+use Rattle.event_schedule.specs.Tables.{Readings, Masks, IsOfPlan, IsBounded}
+use Rattle.event_schedule.specs.Schedule.{Shape, may_send}
+use Rattle.event_schedule.specs.Transcript.{Contents, lines_after, set_sent, shape_of_readings, transcript, word_sent}
+use Rattle.event_schedule.proofs.ScheduleLemmas.{after-reverse}
 use Rattle.ideal_masks.specs.Offsets.{offsets, shift, Agree}
 use Rattle.ideal_masks.proofs.Converse.{converse}
 use Rattle.ideal_masks.proofs.Isolation.{isolated}
 use Rattle.ideal_masks.proofs.TwoWorlds.{shift-unshift, two_worlds, unshift-shift}
-use Rattle.transcript_log.proofs.TranscriptLemmas.{shape-same}
+use Rattle.event_schedule.proofs.TranscriptLemmas.{shape-same}
 use Rattle.plan_files.specs.Registers.{RegistersView, table}
 use Rattle.register_words.specs.declared.row.SideRow.{SideRow}
 use Rattle.register_words.specs.Sides.{and_rows, register_contents, side_frame, side_row, side_rows, side_words, word_for}

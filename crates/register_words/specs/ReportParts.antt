@@ -4,9 +4,9 @@ use Rattle.group_plan.specs.declared.Kind.{Kind}
 use Rattle.group_plan.specs.declared.Kind.TheVariants.{Reading, Answer}
 use Rattle.group_plan.specs.Places.{place_at, places}
 use Rattle.group_plan.specs.Plans.{PlanView, is_place}
-use Rattle.transcript_log.specs.declared.Line.{Line}
+use Rattle.event_schedule.specs.declared.Line.{Line}
 use Rattle.meter_frames.specs.declared.Frame.{Frame}
-use Rattle.transcript_log.specs.Events.{event_of, frame_of, is_send, same_kind}
+use Rattle.event_schedule.specs.Events.{event_of, frame_of, is_send, same_kind}
 use Rattle.register_words.specs.declared.row.SideRow.{SideRow}
 use Rattle.register_words.specs.declared.report.Firsts.{Firsts}
 use Rattle.register_words.specs.SideReports.{first_word_of, row_count}

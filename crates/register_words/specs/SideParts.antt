@@ -3,7 +3,7 @@ use Rattle.std.specs.Prelude.{ℕ, ◌-◌, ◌++◌, List, map, replicate, slic
 use Rattle.std.specs.List.{range_with_len}
 use Rattle.group_plan.specs.Plans.{PlanView, size}
 use Rattle.meter_frames.specs.declared.Frame.{Frame}
-use Rattle.transcript_log.specs.Transcripts.{HasPlace, IsWithin}
+use Rattle.event_schedule.specs.Transcripts.{HasPlace, IsWithin}
 use Rattle.register_words.specs.declared.row.SideRow.{SideRow}
 
 -- the plan has a frame's place, and its missing set is within its group

@@ -6,8 +6,8 @@ use Rattle.missing_round.specs.Words.{frame_total}
 use Rattle.group_plan.specs.declared.Kind.{Kind}
 use Rattle.group_plan.specs.declared.Kind.TheVariants.{Reading, Answer}
 use Rattle.group_plan.specs.Plans.{PlanView, members}
-use Rattle.transcript_log.specs.declared.Line.{Line}
-use Rattle.transcript_log.specs.Events.{event_of, frame_of, is_send}
+use Rattle.event_schedule.specs.declared.Line.{Line}
+use Rattle.event_schedule.specs.Events.{event_of, frame_of, is_send}
 use Rattle.transcript_text.specs.Spelling.{ended}
 use Rattle.totals_report.specs.declared.row.ReportRow.{ReportRow}
 use Rattle.totals_report.specs.declared.row.RowOutcome.{RowOutcome}

@@ -6,11 +6,11 @@ use Rattle.group_plan.specs.declared.Kind.TheVariants.{Reading, Announcement, An
 use Rattle.group_plan.specs.Tables.{reading}
 use Rattle.meter_frames.specs.declared.Frame.{Frame}
 use Rattle.pair_keys.specs.Keys.{Keys}
-use Rattle.transcript_log.specs.declared.Line.{Line}
-use Rattle.transcript_log.specs.declared.Line.TheVariants.{Send}
-use Rattle.transcript_log.specs.Transcript.{Contents, contents_of_tables}
-use Rattle.transcript_log.specs.Transcripts.{TranscriptView}
-use Rattle.transcript_log.specs.Events.{lines_of}
+use Rattle.event_schedule.specs.declared.Line.{Line}
+use Rattle.event_schedule.specs.declared.Line.TheVariants.{Send}
+use Rattle.event_schedule.specs.Transcript.{Contents, contents_of_tables}
+use Rattle.event_schedule.specs.Transcripts.{TranscriptView}
+use Rattle.event_schedule.specs.Events.{lines_of}
 use Rattle.transcript_text.specs.EntryLines.{entry_line}
 use Rattle.plan_files.specs.Registers.{RegistersView, table}
 use Rattle.register_words.specs.declared.row.SideRow.{SideRow}

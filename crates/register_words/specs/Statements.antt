@@ -4,11 +4,11 @@ use Rattle.group_plan.specs.Plans.{Group, size}
 use Rattle.group_plan.specs.Tables.{reading}
 use Rattle.pair_keys.specs.Keys.{Keys}
 use Rattle.mask_stream.specs.KeyStreams.{streams}
-use Rattle.transcript_log.specs.declared.Event.{Event}
-use Rattle.transcript_log.specs.declared.Line.{Line}
-use Rattle.transcript_log.specs.Schedule.{is_opened, survivors}
-use Rattle.transcript_log.specs.Tables.{Readings, Masks, IsOfPlan, IsBounded, IsMasks, plain_sum}
-use Rattle.transcript_log.specs.Transcript.{shape_of_readings, transcript}
+use Rattle.event_schedule.specs.declared.Event.{Event}
+use Rattle.event_schedule.specs.declared.Line.{Line}
+use Rattle.event_schedule.specs.Schedule.{is_opened, survivors}
+use Rattle.event_schedule.specs.Tables.{Readings, Masks, IsOfPlan, IsBounded, IsMasks, plain_sum}
+use Rattle.event_schedule.specs.Transcript.{shape_of_readings, transcript}
 use Rattle.ideal_masks.specs.Isolation.{Isolated}
 use Rattle.ideal_masks.specs.Offsets.{offsets, shift, unshift, Agree}
 use Rattle.plan_files.specs.Registers.{AreRegisters, RegistersView, table}

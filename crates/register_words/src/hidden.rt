@@ -5,18 +5,18 @@ ghost use Rattle.group_plan.specs.Tables.{reading};
 ghost use Rattle.missing_round.specs.Words.{word};
 ghost use Rattle.pair_keys.specs.Keys.{Keys, table_of};
 ghost use Rattle.plan_files.specs.Registers.{RegistersView, table};
-ghost use Rattle.transcript_log.specs.Transcripts.{HasPlace, HasRound};
+ghost use Rattle.event_schedule.specs.Transcripts.{HasPlace, HasRound};
 ghost use Rattle.register_words.specs.Hidden.{AreReadingWords, IsHidden};
 
 use crate::blocks::Blocks;
 use crate::shares::answer_words;
 use crate::sums::hiding_sums;
+use event_schedule::members;
 use group_plan::Tag;
 use missing_round::MeterSet;
 use pair_keys::KeyTable;
 use plan_files::Registers;
 use std::alloc::{AllocError, Global};
-use transcript_log::members;
 
 /// The words of the readings of a group in a round.
 #[derive(Drop)]

@@ -1,7 +1,7 @@
 //! The words of readings in the further registers.
 ghost use Rattle.std.specs.Prelude.{◌≡◌, IfOk, OnOk, length};
 ghost use Rattle.pair_keys.specs.Keys.{table_of};
-ghost use Rattle.transcript_log.specs.Transcripts.{HasPlace};
+ghost use Rattle.event_schedule.specs.Transcripts.{HasPlace};
 ghost use Rattle.register_words.specs.Hidden.{AreFurtherWords};
 ghost use Rattle.register_words.specs.Readings.{AreReady, AreMade};
 

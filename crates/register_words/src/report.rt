@@ -4,9 +4,9 @@ ghost use Rattle.std.specs.List.{list_all, range_with_len};
 ghost use Rattle.group_plan.specs.Places.{place_at, places};
 ghost use Rattle.group_plan.specs.Plans.{is_place};
 ghost use Rattle.missing_round.specs.Words.{word};
-ghost use Rattle.transcript_log.specs.declared.Line.{Line};
-ghost use Rattle.transcript_log.specs.Events.{lines_of, same_kind};
-ghost use Rattle.transcript_log.specs.Transcripts.{HasPlace, HasRound};
+ghost use Rattle.event_schedule.specs.declared.Line.{Line};
+ghost use Rattle.event_schedule.specs.Events.{lines_of, same_kind};
+ghost use Rattle.event_schedule.specs.Transcripts.{HasPlace, HasRound};
 ghost use Rattle.transcript_text.specs.Spelling.{ended};
 ghost use Rattle.register_words.specs.ReportParts.{AreFirsts, KnowsFirsts, Notes, frame_noted, word_from};
 ghost use Rattle.register_words.specs.SideReports.{register_line, register_report, side_total, totals_text, words_in};
@@ -14,6 +14,7 @@ ghost use Rattle.register_words.specs.Sides.{has_words};
 
 use crate::row::{SideRow, SideWords};
 use crate::side::side_frame;
+use event_schedule::members;
 use field_texts::put_number;
 use group_plan::{Kind, Plan};
 use meter_frames::Frame;
@@ -21,7 +22,7 @@ use missing_round::MeterSet;
 use mod_word::Word;
 use std::alloc::{AllocError, Global};
 use totals_report::{Report, ReportRow, RowOutcome, row_text};
-use transcript_log::{Transcript, members};
+use transcript_log::Transcript;
 
 /// For each place, the place of the row of the first reading and of the first answer that was sent.
 #[derive(Drop)]

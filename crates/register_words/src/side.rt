@@ -9,6 +9,7 @@ use crate::blocks::Blocks;
 use crate::readings::ReadingWords;
 use crate::row::{SideRow, SideWords};
 use crate::shares::answer_words;
+use event_schedule::Line;
 use group_plan::Kind;
 use meter_frames::Frame;
 use mod_word::Word;
@@ -16,7 +17,7 @@ use pair_keys::KeyTable;
 use plan_files::Registers;
 use std::alloc::{AllocError, Global};
 use std::thread::Threads;
-use transcript_log::{Line, Transcript};
+use transcript_log::Transcript;
 use transcript_text::entry_line;
 
 // The frame of a line, where it has words of its own in the further registers.

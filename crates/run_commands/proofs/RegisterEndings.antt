@@ -7,7 +7,7 @@ use Rattle.command_words.specs.Words.{RegisterNames}
 use Rattle.command_files.specs.Calls.{IsRead, after_fetches, Unwritable, putting, PutsEnd}
 use Rattle.run_commands.specs.RegisterEnds.{RegistersEnds, registers_fetched, registers_named, registers_put}
 use Rattle.command_texts.specs.Refusals.{RegistersRefuse}
-use Rattle.transcript_log.specs.Transcript.{transcript}
+use Rattle.event_schedule.specs.Transcript.{transcript}
 use Rattle.command_texts.specs.RegisterRuns.{AreRegisterValues, RegisterValues, RegistersMake}
 use Rattle.register_words.specs.SideText.{side_text}
 use Rattle.transcript_text.specs.Spelling.{transcript_text}

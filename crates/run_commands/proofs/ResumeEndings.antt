@@ -12,7 +12,7 @@ use Rattle.command_words.specs.declared.outcome.Outcome.TheVariants.{NoMemory, B
 use Rattle.command_texts.specs.Refusals.{FilesRefused}
 use Rattle.command_texts.specs.Runs.{AreValues, Values}
 use Rattle.std.specs.Borrow.{Bor}
-use Rattle.transcript_log.specs.Transcripts.{TranscriptView}
+use Rattle.event_schedule.specs.Transcripts.{TranscriptView}
 use Rattle.transcript_text.specs.Spelling.{transcript_text}
 use Rattle.cut_resume.specs.declared.errors.ResumeError.{ResumeError}
 use Rattle.cut_resume.specs.declared.errors.ResumeError.TheVariants.{NotThis as IsOff}

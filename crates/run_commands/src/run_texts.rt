@@ -1,7 +1,7 @@
 //! A run whose transcript is written ahead: its texts.
 
 ghost use Rattle.std.specs.Prelude.{◌≡◌, [], IfOk, ℕ, List};
-ghost use Rattle.transcript_log.specs.Transcripts.{TranscriptView};
+ghost use Rattle.event_schedule.specs.Transcripts.{TranscriptView};
 ghost use Rattle.command_files.specs.Ahead.{IsAhead};
 ghost use Rattle.link_lanes.specs.Racks.{HasRoom, posts_of, slots};
 ghost use Rattle.pair_keys.specs.Keys.{table_of};

@@ -2,7 +2,7 @@
 use Rattle.std.proofs.Common.{◌≡◌, ℕ, zero, suc, ◌+◌, ◌<◌, List, [], ◌∷◌, ◌++◌, length, get_or, take, drop, sym, ap, ◌∙◌, subst, ⊎_elim, arith, append-nil}
 use Rattle.std.specs.List.{flat_map, range_with_len, remove}
 use Rattle.std.proofs.lemmas.Grind.{flat_map-append}
-use Rattle.transcript_log.proofs.RoundMembers.{range_last}
+use Rattle.event_schedule.proofs.RoundMembers.{range_last}
 use Rattle.run_course.specs.Lists.{IsIn}
 
 pub range_next : (k : ℕ) → range_with_len 0 (k + 1) ≡ range_with_len 0 k ++ k ∷ []

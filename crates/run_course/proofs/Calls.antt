@@ -7,12 +7,12 @@ use Rattle.group_plan.specs.declared.Kind.{Kind}
 use Rattle.group_plan.specs.declared.Kind.TheVariants.{Reading, Announcement, Answer}
 use Rattle.group_plan.specs.declared.Tag.{Tag}
 use Rattle.group_plan.specs.Plans.{PlanView, IsWithinLimits, size, is_member}
-use Rattle.transcript_log.specs.declared.Event.{Event}
-use Rattle.transcript_log.specs.declared.Entry.{Entry}
-use Rattle.transcript_log.specs.Events.{events_of}
-use Rattle.transcript_log.specs.Schedule.{Shape, members_of, survivors, is_announced, is_reading_taken}
+use Rattle.event_schedule.specs.declared.Event.{Event}
+use Rattle.event_schedule.specs.declared.Entry.{Entry}
+use Rattle.event_schedule.specs.Events.{events_of}
+use Rattle.event_schedule.specs.Schedule.{Shape, members_of, survivors, is_announced, is_reading_taken}
 use Rattle.run_rows.specs.Ticks.{clock_of, tag_of, tags, takes_at, due_of}
-use Rattle.transcript_log.proofs.MemberLemmas.{is_member-below}
+use Rattle.event_schedule.proofs.MemberLemmas.{is_member-below}
 use Rattle.run_course.specs.Beginnings.{shape_where}
 use Rattle.run_course.specs.Lists.{IsIn}
 use Rattle.run_course.specs.Sends.{rank, kind_rank, is_reading, owed_by, owed}

@@ -8,11 +8,11 @@ use Rattle.std.proofs.lemmas.List.Sums.{sum_by-append, sum_by-cons}
 use Rattle.std.proofs.lemmas.List.Elements.{All-head, All-tail}
 use Rattle.group_plan.specs.declared.Tag.{Tag}
 use Rattle.group_plan.specs.Plans.{PlanView}
-use Rattle.transcript_log.specs.declared.Event.{Event}
-use Rattle.transcript_log.specs.declared.Entry.{Entry}
-use Rattle.transcript_log.specs.Events.{event_of, events_of, is_take, is_close}
-use Rattle.transcript_log.specs.Schedule.{is_closed}
-use Rattle.transcript_log.proofs.ScheduleLemmas.{after, once-now, after-reverse, is_closed-more}
+use Rattle.event_schedule.specs.declared.Event.{Event}
+use Rattle.event_schedule.specs.declared.Entry.{Entry}
+use Rattle.event_schedule.specs.Events.{event_of, events_of, is_take, is_close}
+use Rattle.event_schedule.specs.Schedule.{is_closed}
+use Rattle.event_schedule.proofs.ScheduleLemmas.{after, once-now, after-reverse, is_closed-more}
 use Rattle.run_rows.specs.Ticks.{moment, phase, NoneBefore, IsOrdered, takes_at, copies, sent_at, tags_of}
 use Rattle.run_course.specs.declared.waiting.Arrival.{Arrival}
 use Rattle.run_course.specs.Lists.{IsIn}

@@ -10,13 +10,13 @@ use Rattle.group_plan.specs.Plans.{PlanView, IsWithinLimits}
 use Rattle.round_machine.specs.declared.Verdict.TheVariants.{Fresh}
 use Rattle.round_machine.specs.declared.Closing.TheVariants.{Already as AlreadyClosed}
 use Rattle.round_machine.specs.declared.Ending.TheVariants.{Already as AlreadyEnded}
-use Rattle.transcript_log.specs.declared.Event.{Event}
-use Rattle.transcript_log.specs.declared.Event.TheVariants.{Send, Take, Close, End}
-use Rattle.transcript_log.specs.declared.Line.TheVariants.{Send as SendLine, Take as TakeLine, Close as CloseLine, End as EndLine}
-use Rattle.transcript_log.specs.declared.Entry.{Entry}
-use Rattle.transcript_log.specs.Events.{event_of, is_take}
-use Rattle.transcript_log.proofs.EventLemmas.{is_send-true}
-use Rattle.transcript_log.specs.Transcripts.{IsFate}
+use Rattle.event_schedule.specs.declared.Event.{Event}
+use Rattle.event_schedule.specs.declared.Event.TheVariants.{Send, Take, Close, End}
+use Rattle.event_schedule.specs.declared.Line.TheVariants.{Send as SendLine, Take as TakeLine, Close as CloseLine, End as EndLine}
+use Rattle.event_schedule.specs.declared.Entry.{Entry}
+use Rattle.event_schedule.specs.Events.{event_of, is_take}
+use Rattle.event_schedule.proofs.EventLemmas.{is_send-true}
+use Rattle.event_schedule.specs.Transcripts.{IsFate}
 use Rattle.run_rows.specs.Ticks.{clock_of, last_tick, tag_of, takes_at}
 use Rattle.run_course.specs.declared.waiting.Arrival.{Arrival}
 use Rattle.run_course.specs.Beginnings.{is_void_send, IsSomeRun, BeginsRun}

@@ -10,14 +10,14 @@ use Rattle.group_plan.specs.declared.Kind.TheVariants.{Reading, Announcement, An
 use Rattle.group_plan.specs.declared.Tag.{Tag}
 use Rattle.group_plan.specs.Plans.{PlanView, size, is_member, floor_of}
 use Rattle.group_plan.specs.Tables.{Table, ReadingsView, reading, is_same_place}
-use Rattle.transcript_log.specs.declared.Event.{Event}
-use Rattle.transcript_log.specs.declared.Event.TheVariants.{Send, Take}
-use Rattle.transcript_log.specs.declared.Entry.{Entry}
-use Rattle.transcript_log.specs.Events.{once, event_of, events_of, is_tag, same_kind, is_send, is_take, is_close}
-use Rattle.transcript_log.specs.Schedule.{Shape, members_of, survivors, is_announced, is_closed, is_reading_sent, is_reading_taken}
-use Rattle.transcript_log.proofs.EventLemmas.{is_send-true}
-use Rattle.transcript_log.proofs.ListLemmas.{flat_map_same}
-use Rattle.transcript_log.proofs.ScheduleLemmas.{after, once-cons, once-now, once-more, after-reverse, is_reading_taken-closed}
+use Rattle.event_schedule.specs.declared.Event.{Event}
+use Rattle.event_schedule.specs.declared.Event.TheVariants.{Send, Take}
+use Rattle.event_schedule.specs.declared.Entry.{Entry}
+use Rattle.event_schedule.specs.Events.{once, event_of, events_of, is_tag, same_kind, is_send, is_take, is_close}
+use Rattle.event_schedule.specs.Schedule.{Shape, members_of, survivors, is_announced, is_closed, is_reading_sent, is_reading_taken}
+use Rattle.event_schedule.proofs.EventLemmas.{is_send-true}
+use Rattle.event_schedule.proofs.ListLemmas.{flat_map_same}
+use Rattle.event_schedule.proofs.ScheduleLemmas.{after, once-cons, once-now, once-more, after-reverse, is_reading_taken-closed}
 use Rattle.run_rows.specs.Ticks.{moment, phase, tag_of, tags, takes_at, copies}
 use Rattle.run_rows.proofs.TickLemmas.{phase_close}
 use Rattle.run_course.specs.Lists.{IsIn}

@@ -9,11 +9,11 @@ use Rattle.group_plan.specs.declared.Kind.{Kind}
 use Rattle.group_plan.specs.declared.Kind.TheVariants.{Reading, Announcement, Answer}
 use Rattle.group_plan.specs.declared.Tag.{Tag}
 use Rattle.group_plan.specs.Plans.{PlanView, IsWithinLimits, is_member}
-use Rattle.transcript_log.specs.declared.Event.{Event}
-use Rattle.transcript_log.specs.declared.Event.TheVariants.{Send, Take, Close, End}
-use Rattle.transcript_log.specs.declared.Entry.{Entry}
-use Rattle.transcript_log.specs.Events.{event_of, is_tag, same_kind, is_send, is_take}
-use Rattle.transcript_log.specs.Transcripts.{IsFate}
+use Rattle.event_schedule.specs.declared.Event.{Event}
+use Rattle.event_schedule.specs.declared.Event.TheVariants.{Send, Take, Close, End}
+use Rattle.event_schedule.specs.declared.Entry.{Entry}
+use Rattle.event_schedule.specs.Events.{event_of, is_tag, same_kind, is_send, is_take}
+use Rattle.event_schedule.specs.Transcripts.{IsFate}
 use Rattle.run_rows.specs.Ticks.{clock_of, moment, phase, tag_of, takes_at, copies, sent_at, tags_of, due_of, NoneBefore, IsOrdered, StandsOnce}
 use Rattle.run_course.specs.Beginnings.{shape_where, IsSomeRun}
 use Rattle.run_course.specs.Lists.{IsIn}

@@ -7,10 +7,10 @@ use Rattle.std.proofs.lemmas.List.Elements.{All-nil, All-cons}
 use Rattle.std.proofs.lemmas.List.Sums.{sum_by-cons}
 use Rattle.group_plan.specs.declared.Tag.{Tag}
 use Rattle.link_lanes.specs.declared.Post.{Post}
-use Rattle.transcript_log.specs.declared.Entry.{Entry}
-use Rattle.transcript_log.specs.declared.Line.{Line}
-use Rattle.transcript_log.specs.declared.Line.TheVariants.{Send as SendLine, Take as TakeLine, Close as CloseLine, End as EndLine}
-use Rattle.transcript_log.specs.Events.{event_of, lines_of}
+use Rattle.event_schedule.specs.declared.Entry.{Entry}
+use Rattle.event_schedule.specs.declared.Line.{Line}
+use Rattle.event_schedule.specs.declared.Line.TheVariants.{Send as SendLine, Take as TakeLine, Close as CloseLine, End as EndLine}
+use Rattle.event_schedule.specs.Events.{event_of, lines_of}
 use Rattle.run_rows.specs.Summary.{Summary, is_sending}
 use Rattle.run_rows.specs.Ticks.{clock_of, posts_of, tags_of}
 use Rattle.run_rows.proofs.SummaryLemmas.{summaries}

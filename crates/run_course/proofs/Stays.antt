@@ -9,12 +9,12 @@ use Rattle.std.proofs.lemmas.List.Sums.{sum_by-append}
 use Rattle.group_plan.specs.declared.Kind.TheVariants.{Reading, Announcement, Answer}
 use Rattle.group_plan.specs.declared.Tag.{Tag}
 use Rattle.group_plan.specs.Plans.{PlanView}
-use Rattle.transcript_log.specs.declared.Event.{Event}
-use Rattle.transcript_log.specs.declared.Entry.{Entry}
-use Rattle.transcript_log.specs.Events.{once, event_of, events_of, is_send, is_take}
-use Rattle.transcript_log.specs.Schedule.{Shape, members_of, floor_of, survivors, is_announced, is_closed, is_reading_sent, is_reading_taken}
-use Rattle.transcript_log.proofs.ListLemmas.{flat_map_same}
-use Rattle.transcript_log.proofs.ScheduleLemmas.{after, once-cons, after-keeps, after-reverse, survivors-after, is_closed-more, is_reading_sent-from_taken, present-from_taken}
+use Rattle.event_schedule.specs.declared.Event.{Event}
+use Rattle.event_schedule.specs.declared.Entry.{Entry}
+use Rattle.event_schedule.specs.Events.{once, event_of, events_of, is_send, is_take}
+use Rattle.event_schedule.specs.Schedule.{Shape, members_of, floor_of, survivors, is_announced, is_closed, is_reading_sent, is_reading_taken}
+use Rattle.event_schedule.proofs.ListLemmas.{flat_map_same}
+use Rattle.event_schedule.proofs.ScheduleLemmas.{after, once-cons, after-keeps, after-reverse, survivors-after, is_closed-more, is_reading_sent-from_taken, present-from_taken}
 use Rattle.run_rows.specs.Ticks.{tag_of, tags, takes_at}
 use Rattle.run_course.specs.Beginnings.{shape_where}
 use Rattle.run_course.specs.Sends.{all_present, is_read_in, owed_by, owed}

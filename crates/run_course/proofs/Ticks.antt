@@ -6,9 +6,9 @@ use Rattle.std.proofs.lemmas.Bool.{and_right, cases_eq, cases_lt, ne_eqb, eq-eqb
 use Rattle.std.proofs.lemmas.List.Sums.{sum_by-cons}
 use Rattle.group_plan.specs.declared.Tag.{Tag}
 use Rattle.group_plan.specs.Plans.{PlanView}
-use Rattle.transcript_log.specs.declared.Event.{Event}
-use Rattle.transcript_log.specs.declared.Entry.{Entry}
-use Rattle.transcript_log.specs.Events.{is_tag, is_close, is_end}
+use Rattle.event_schedule.specs.declared.Event.{Event}
+use Rattle.event_schedule.specs.declared.Entry.{Entry}
+use Rattle.event_schedule.specs.Events.{is_tag, is_close, is_end}
 use Rattle.run_rows.specs.Ticks.{moment, copies, sent_at}
 use Rattle.run_course.specs.declared.waiting.Arrival.{Arrival}
 use Rattle.run_course.specs.Lists.{IsIn}

@@ -11,11 +11,11 @@ use Rattle.group_plan.specs.declared.Tag.{Tag}
 use Rattle.group_plan.specs.Plans.{PlanView, IsWithinLimits}
 use Rattle.link_lanes.specs.declared.Post.{Post}
 use Rattle.link_lanes.specs.Lanes.{Slot, hangs_at, fates_after}
-use Rattle.transcript_log.specs.declared.Event.{Event}
-use Rattle.transcript_log.specs.declared.Event.TheVariants.{Send, Take, Close, End}
-use Rattle.transcript_log.specs.declared.Entry.{Entry}
-use Rattle.transcript_log.specs.Events.{event_of, is_tag, is_send, is_close, is_end}
-use Rattle.transcript_log.proofs.EventLemmas.{is_send-true, is_send-itself}
+use Rattle.event_schedule.specs.declared.Event.{Event}
+use Rattle.event_schedule.specs.declared.Event.TheVariants.{Send, Take, Close, End}
+use Rattle.event_schedule.specs.declared.Entry.{Entry}
+use Rattle.event_schedule.specs.Events.{event_of, is_tag, is_send, is_close, is_end}
+use Rattle.event_schedule.proofs.EventLemmas.{is_send-true, is_send-itself}
 use Rattle.run_rows.specs.Ticks.{clock_of, last_tick, tag_of, takes_at, sent_at, due_of, posts_of, tags_of, StandsOnce}
 use Rattle.run_course.specs.declared.waiting.Arrival.{Arrival}
 use Rattle.run_course.specs.Beginnings.{shape_where, IsSomeRun}

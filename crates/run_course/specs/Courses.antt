@@ -2,7 +2,7 @@
 use Rattle.std.specs.Prelude.{◌≡◌, ℕ, ◌+◌, ◌*◌, ◌<◌, ◌≤◌, Bool, true, false, ◌⊎◌, List, [], ◌∷◌, ◌++◌, drop, Result, Ok, Err, ⊤}
 use Rattle.group_plan.specs.declared.Tag.{Tag}
 use Rattle.group_plan.specs.Plans.{PlanView, last_tick, is_member}
-use Rattle.transcript_log.specs.declared.Entry.{Entry}
+use Rattle.event_schedule.specs.declared.Entry.{Entry}
 use Rattle.run_rows.specs.Ticks.{moment, NoneBefore}
 use Rattle.run_course.specs.declared.course.Phase.{Phase}
 use Rattle.run_course.specs.declared.course.Phase.TheVariants.{Takes, Rounds, Sends}

@@ -1,6 +1,6 @@
 -- How the judgement of a transcript's plan and times ends.
 use Rattle.std.specs.Prelude.{ℕ, ◌+◌, ◌<◌, length, take, Result, Ok, Err, ⊤}
-use Rattle.transcript_log.specs.Transcripts.{TranscriptView}
+use Rattle.event_schedule.specs.Transcripts.{TranscriptView}
 use Rattle.run_course.specs.declared.errors.CourseError.{CourseError}
 use Rattle.run_course.specs.declared.errors.CourseError.TheVariants as course
 use Rattle.run_course.specs.Beginnings.{IsSomeRun, BeginsRun}

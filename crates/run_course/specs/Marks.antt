@@ -6,9 +6,9 @@ use Rattle.group_plan.specs.declared.Kind.TheVariants.{Reading, Announcement, An
 use Rattle.group_plan.specs.declared.Tag.{Tag}
 use Rattle.group_plan.specs.Plans.{PlanView, size, floor_of, is_member}
 use Rattle.group_plan.specs.Tables.{ReadingsView, reading, is_same_place}
-use Rattle.transcript_log.specs.declared.Entry.{Entry}
-use Rattle.transcript_log.specs.Events.{events_of}
-use Rattle.transcript_log.specs.Schedule.{is_reading_taken}
+use Rattle.event_schedule.specs.declared.Entry.{Entry}
+use Rattle.event_schedule.specs.Events.{events_of}
+use Rattle.event_schedule.specs.Schedule.{is_reading_taken}
 use Rattle.run_rows.specs.Ticks.{tag_of, tags, takes_at}
 use Rattle.run_course.specs.Sends.{all_present}
 

@@ -5,9 +5,9 @@ use Rattle.group_plan.specs.declared.Kind.{Kind}
 use Rattle.group_plan.specs.declared.Kind.TheVariants.{Reading, Announcement, Answer}
 use Rattle.group_plan.specs.declared.Tag.{Tag}
 use Rattle.group_plan.specs.Plans.{PlanView}
-use Rattle.transcript_log.specs.declared.Entry.{Entry}
-use Rattle.transcript_log.specs.Events.{event_of, events_of, is_send}
-use Rattle.transcript_log.specs.Schedule.{Shape, members_of, survivors, is_announced}
+use Rattle.event_schedule.specs.declared.Entry.{Entry}
+use Rattle.event_schedule.specs.Events.{event_of, events_of, is_send}
+use Rattle.event_schedule.specs.Schedule.{Shape, members_of, survivors, is_announced}
 use Rattle.run_rows.specs.Ticks.{tag_of, tags, takes_at}
 use Rattle.run_course.specs.Beginnings.{shape_where}
 

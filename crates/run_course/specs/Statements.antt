@@ -2,9 +2,9 @@
 use Rattle.std.specs.Prelude.{ℕ, Bool, List, All}
 use Rattle.group_plan.specs.Plans.{PlanView}
 use Rattle.link_lanes.specs.Lanes.{Slot}
-use Rattle.transcript_log.specs.declared.Entry.{Entry}
-use Rattle.transcript_log.specs.Transcript.{Contents}
-use Rattle.transcript_log.specs.Transcripts.{IsFate}
+use Rattle.event_schedule.specs.declared.Entry.{Entry}
+use Rattle.event_schedule.specs.Transcript.{Contents}
+use Rattle.event_schedule.specs.Transcripts.{IsFate}
 use Rattle.run_rows.specs.Runs.{IsRun}
 use Rattle.run_rows.specs.Ticks.{clock_of, IsRunPlan}
 use Rattle.run_course.specs.Beginnings.{IsSomeRun, shape_where}

@@ -4,10 +4,10 @@ ghost use Rattle.std.specs.Prelude.{◌≡◌, ◌+◌, ◌<◌, ◌≤◌, ◌^
 ghost use Rattle.group_plan.specs.declared.Kind.TheVariants.{Reading};
 ghost use Rattle.group_plan.specs.declared.Tag.{Tag as TagView};
 ghost use Rattle.group_plan.specs.Plans.{PlanView, is_place, last_tick};
-ghost use Rattle.transcript_log.specs.declared.Entry.{Entry as EntryView};
-ghost use Rattle.transcript_log.specs.declared.Event.TheVariants.{Send as SendEvent, Take as TakeEvent, Close as CloseEvent, End as EndEvent};
-ghost use Rattle.transcript_log.specs.Events.{event_of};
-ghost use Rattle.transcript_log.specs.Transcripts.{Fits};
+ghost use Rattle.event_schedule.specs.declared.Entry.{Entry as EntryView};
+ghost use Rattle.event_schedule.specs.declared.Event.TheVariants.{Send as SendEvent, Take as TakeEvent, Close as CloseEvent, End as EndEvent};
+ghost use Rattle.event_schedule.specs.Events.{event_of};
+ghost use Rattle.event_schedule.specs.Transcripts.{Fits};
 ghost use Rattle.run_course.specs.Beginnings.{is_void_send};
 ghost use Rattle.run_course.specs.Courses.{IsSound, Keeps, IsEntered, IsReached, SendsBegin, TickBegins, Advances, Judges, JudgeEnds, IsReadingNow, IsBelowFirst, MayCall, MaySend, WholeEnds, Decides, stage_of};
 ghost use Rattle.run_course.specs.Sends.{rank};
@@ -18,10 +18,10 @@ use crate::owed::owed;
 use crate::waiting::{
     Arrival, due_at, due_elsewhere, groups_due, is_same, post, remove_copy, remove_group,
 };
+use event_schedule::{Entry, Line};
 use group_plan::{Kind, Plan, Readings, Tag};
 use link_lanes::Fate;
 use std::alloc::{AllocError, Global};
-use transcript_log::{Entry, Line};
 
 /// The phases of a tick: copies are taken, rounds close and end, frames are sent.
 #[derive(Clone, Copy, Drop)]

@@ -2,7 +2,7 @@
 
 ghost use Rattle.std.specs.Prelude.{◌≡◌, ◌≤◌, ◌<◌, ◌^◌, IsTrue};
 ghost use Rattle.group_plan.specs.Plans.{is_place, last_tick};
-ghost use Rattle.transcript_log.specs.Transcripts.{HasRound};
+ghost use Rattle.event_schedule.specs.Transcripts.{HasRound};
 ghost use Rattle.run_course.specs.Marks.{is_noted, marked, Marks, NotesTake};
 
 use group_plan::{Kind, Readings, Tag};

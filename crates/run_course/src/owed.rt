@@ -3,15 +3,15 @@
 
 ghost use Rattle.std.specs.Prelude.{◌≡◌, ◌<◌, ◌++◌, length, IfOk, OnOk};
 ghost use Rattle.std.specs.List.{flat_map, range_with_len};
-ghost use Rattle.transcript_log.specs.Transcripts.{HasRound};
+ghost use Rattle.event_schedule.specs.Transcripts.{HasRound};
 ghost use Rattle.run_rows.specs.Ticks.{tags};
 ghost use Rattle.run_course.specs.Marks.{announced_marks, answered_marks, owed_by_marks, owed_marks};
 
 use crate::marks::marked;
+use event_schedule::floor_of;
 use group_plan::{Kind, Readings, Tag};
 use missing_round::MeterSet;
 use std::alloc::{AllocError, Global};
-use transcript_log::floor_of;
 
 // Adds a Send of this kind for each of these meters.
 fn add(

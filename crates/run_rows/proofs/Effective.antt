@@ -4,10 +4,10 @@ use Rattle.std.proofs.lemmas.Bool.{and_from}
 use Rattle.group_plan.specs.declared.Kind.{Kind}
 use Rattle.group_plan.specs.declared.Kind.TheVariants.{Reading, Announcement, Answer}
 use Rattle.group_plan.specs.declared.Tag.{Tag}
-use Rattle.transcript_log.specs.Schedule.{Shape, is_closed, is_announced, is_reading_taken, may_announce, is_announcement_sent, may_send}
-use Rattle.transcript_log.specs.Events.{is_send, is_take, is_close, events_of, event_of}
+use Rattle.event_schedule.specs.Schedule.{Shape, is_closed, is_announced, is_reading_taken, may_announce, is_announcement_sent, may_send}
+use Rattle.event_schedule.specs.Events.{is_send, is_take, is_close, events_of, event_of}
 use Rattle.run_rows.specs.Ticks.{Clock, phase}
-use Rattle.transcript_log.specs.declared.Entry.{Entry}
+use Rattle.event_schedule.specs.declared.Entry.{Entry}
 use Rattle.run_rows.proofs.TickLemmas.{In, Stands, TickFacts, announced_same, earlier_is_older, once-from, phase_close, phase_send, phase_take, taken_same}
 
 may_announce_at : (s : Shape) (c : Clock) (fate : ℕ → Tag → List ℕ) (xs : List Entry) → TickFacts s c fate xs → (g r i t : ℕ) (st : Stands (is_send g r i Announcement) t xs)

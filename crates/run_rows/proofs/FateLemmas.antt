@@ -8,20 +8,20 @@ use Rattle.std.proofs.lemmas.Bool.{false≢true, and_from, eq-eqb, eqb-true}
 use Rattle.std.proofs.lemmas.List.Sums.{sum_by-cons}
 use Rattle.std.proofs.lemmas.List.Elements.{All-nil, All-cons}
 use Rattle.group_plan.specs.declared.Tag.{Tag}
-use Rattle.transcript_log.specs.declared.Event.{Event}
-use Rattle.transcript_log.specs.declared.Event.TheVariants.{Send, Take, Close, End}
+use Rattle.event_schedule.specs.declared.Event.{Event}
+use Rattle.event_schedule.specs.declared.Event.TheVariants.{Send, Take, Close, End}
 use Rattle.link_lanes.specs.Lanes.{Slot}
 use Rattle.link_lanes.specs.declared.Post.{Post}
-use Rattle.transcript_log.specs.Schedule.{Shape}
-use Rattle.transcript_log.specs.Events.{is_tag, is_send, events_of, event_of}
+use Rattle.event_schedule.specs.Schedule.{Shape}
+use Rattle.event_schedule.specs.Events.{is_tag, is_send, events_of, event_of}
 use Rattle.run_rows.specs.Ticks.{Clock, tags_of, sent_at, due_of, posts_of, HaveDelays, IsTickRun, IsRunPlan}
-use Rattle.transcript_log.specs.declared.Entry.{Entry}
+use Rattle.event_schedule.specs.declared.Entry.{Entry}
 use Rattle.run_rows.specs.Report.{fate_at, row, outcome_row}
 use Rattle.run_rows.proofs.TickRun.{IsRunBy, all_member, member_any, member_flat_map, member_from_flat_map, member_from_map, member_map}
 use Rattle.run_rows.proofs.TickLemmas.{Member}
 use Rattle.run_rows.proofs.Unique.{all_due_le, hit}
 use Rattle.run_rows.proofs.ReportLemmas.{rows_are}
-use Rattle.transcript_log.proofs.ListLemmas.{sum_by-flat_map}
+use Rattle.event_schedule.proofs.ListLemmas.{sum_by-flat_map}
 
 abbrev pub is_post : ℕ → Tag → Post → Bool
 is_post t tag p = (p.tick == t) && is_tag tag.group tag.round tag.meter tag.kind p.tag

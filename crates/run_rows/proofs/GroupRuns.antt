@@ -10,12 +10,12 @@ use Rattle.std.proofs.lemmas.List.Elements.{All-head, All-tail, All-nil, All-con
 use Rattle.group_plan.specs.declared.Kind.TheVariants.{Reading, Announcement, Answer}
 use Rattle.group_plan.specs.declared.Tag.{Tag}
 use Rattle.link_lanes.specs.Lanes.{Slot}
-use Rattle.transcript_log.specs.declared.Event.{Event}
-use Rattle.transcript_log.specs.declared.Entry.{Entry}
-use Rattle.transcript_log.specs.Events.{event_of, events_of, is_take, is_close, is_end}
-use Rattle.transcript_log.specs.Schedule.{Shape, members_of, survivors, is_announced}
-use Rattle.transcript_log.specs.ByGroup.{group_of, events_in}
-use Rattle.transcript_log.proofs.EventsByGroup.{reverse_aux-filter, send-elsewhere, take-elsewhere, close-elsewhere, end-elsewhere, announced-in, survivors-in}
+use Rattle.event_schedule.specs.declared.Event.{Event}
+use Rattle.event_schedule.specs.declared.Entry.{Entry}
+use Rattle.event_schedule.specs.Events.{event_of, events_of, is_take, is_close, is_end}
+use Rattle.event_schedule.specs.Schedule.{Shape, members_of, survivors, is_announced}
+use Rattle.event_schedule.specs.ByGroup.{group_of, events_in}
+use Rattle.event_schedule.proofs.EventsByGroup.{reverse_aux-filter, send-elsewhere, take-elsewhere, close-elsewhere, end-elsewhere, announced-in, survivors-in}
 use Rattle.run_rows.specs.Ticks.{Clock, last_tick, takes_at, copies, StandsOnce, in_plan, tag_of, tags, sent_at, due_of, tags_of, IsTickRun}
 use Rattle.run_rows.specs.ByGroup.{entries_in, AreGroupRuns}
 

@@ -4,7 +4,7 @@ use Rattle.std.proofs.lemmas.List.{get_or_past}
 use Rattle.std.proofs.lemmas.Bool.{false≢true, cases_lt}
 use Rattle.group_plan.specs.Plans.{PlanView, is_member, IsWithinLimits}
 use Rattle.group_plan.specs.Tables.{PresenceView, IsPresenceTable, is_present}
-use Rattle.transcript_log.specs.Schedule.{shape_of_presence}
+use Rattle.event_schedule.specs.Schedule.{shape_of_presence}
 use Rattle.run_rows.specs.Ticks.{clock_of, IsRunPlan}
 
 none_past : (row : List Bool) (i : ℕ) → length row ≤ i → get_or row i false ≡ true → ⊥

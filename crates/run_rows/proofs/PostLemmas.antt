@@ -10,19 +10,19 @@ use Rattle.std.proofs.lemmas.List.Sums.{sum_by-cons}
 use Rattle.std.proofs.lemmas.List.Elements.{All-head, All-tail}
 use Rattle.group_plan.specs.declared.Kind.TheVariants.{Reading, Announcement, Answer}
 use Rattle.group_plan.specs.declared.Tag.{Tag}
-use Rattle.transcript_log.specs.declared.Event.{Event}
-use Rattle.transcript_log.specs.declared.Event.TheVariants.{Send, Take, Close, End}
-use Rattle.transcript_log.specs.Schedule.{Shape, is_closed, is_announced, reaches_floor, survivors, members_of, floor_of}
-use Rattle.transcript_log.specs.Events.{is_tag, is_send, is_close, events_of, event_of}
+use Rattle.event_schedule.specs.declared.Event.{Event}
+use Rattle.event_schedule.specs.declared.Event.TheVariants.{Send, Take, Close, End}
+use Rattle.event_schedule.specs.Schedule.{Shape, is_closed, is_announced, reaches_floor, survivors, members_of, floor_of}
+use Rattle.event_schedule.specs.Events.{is_tag, is_send, is_close, events_of, event_of}
 use Rattle.link_lanes.specs.Lanes.{Slot, fate_after, fates_after}
 use Rattle.link_lanes.specs.declared.Post.{Post}
 use Rattle.run_rows.specs.Ticks.{Clock, phase, tag_of, tags, tags_of, sent_at, takes_at, copies, last_tick, due_of, in_plan, NoneBefore, IsOrdered, posts_of, HaveDelays, IsTickRun, IsRunPlan}
-use Rattle.transcript_log.specs.declared.Entry.{Entry}
+use Rattle.event_schedule.specs.declared.Entry.{Entry}
 use Rattle.run_rows.specs.Report.{fate_at, report_survivors}
 use Rattle.run_rows.proofs.TickRun.{IsRunBy, all_member, events-reverse, member_from_flat_map, member_from_map, once_stands, run_facts}
 use Rattle.run_rows.specs.Posts.{coming, due_by, post_all, posts_before, posts_by_lanes}
 use Rattle.run_rows.proofs.TickLemmas.{Member, Stands, TickFacts, is_reading_taken-ticks, once-from}
-use Rattle.transcript_log.proofs.ListLemmas.{flat_map_same, sum_by-flat_map}
+use Rattle.event_schedule.proofs.ListLemmas.{flat_map_same, sum_by-flat_map}
 use Rattle.run_rows.proofs.FateLemmas.{run_by}
 
 -- ---- posts in the order of ticks

@@ -7,15 +7,15 @@ use Rattle.std.specs.List.{filter, list_all}
 use Rattle.std.proofs.lemmas.Bool.{false≢true, and_from, lt-ltb}
 use Rattle.std.proofs.lemmas.Bool.Decides.{nat_tests}
 use Rattle.group_plan.specs.declared.Tag.{Tag}
-use Rattle.transcript_log.specs.declared.Event.{Event}
-use Rattle.transcript_log.specs.Schedule.{Shape, is_closed, is_ended, reaches_floor, is_announced, all_taken, is_opened, is_published, lacking, Running, EndedThin, Published, Unpublished, is_reading_taken, is_answer_taken, survivors, members_of, floor_of}
-use Rattle.transcript_log.specs.Events.{is_close, is_end, events_of, event_of}
+use Rattle.event_schedule.specs.declared.Event.{Event}
+use Rattle.event_schedule.specs.Schedule.{Shape, is_closed, is_ended, reaches_floor, is_announced, all_taken, is_opened, is_published, lacking, Running, EndedThin, Published, Unpublished, is_reading_taken, is_answer_taken, survivors, members_of, floor_of}
+use Rattle.event_schedule.specs.Events.{is_close, is_end, events_of, event_of}
 use Rattle.run_rows.specs.Ticks.{Clock, in_plan, IsRunPlan}
-use Rattle.transcript_log.specs.declared.Entry.{Entry}
+use Rattle.event_schedule.specs.declared.Entry.{Entry}
 use Rattle.run_rows.specs.Report.{is_answered_in_time, report_survivors, ThinRow, TotalRow, NoneRow, row, row_of, outcome_row}
 use Rattle.run_rows.proofs.TickRun.{IsRunBy, once_stands, run_facts}
 use Rattle.run_rows.proofs.TickLemmas.{In, Stands, TickFacts, earlier_is_older, is_answer_taken-ticks, is_reading_taken-ticks, once-from, phase_close, phase_end}
-use Rattle.transcript_log.proofs.ScheduleLemmas.{is_opened-from_taken}
+use Rattle.event_schedule.proofs.ScheduleLemmas.{is_opened-from_taken}
 
 list_all-filter_same : (t p q : ℕ → Bool) → ((i : ℕ) → t i ≡ true → p i ≡ q i) → (xs : List ℕ) → list_all p (filter t xs) ≡ list_all q (filter t xs)
 list_all-filter_same t p q same [] = refl

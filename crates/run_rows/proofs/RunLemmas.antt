@@ -1,9 +1,9 @@
 -- Whole runs.
 use Rattle.std.proofs.Common.{◌≡◌, List, sym, ap, ◌∙◌}
 use Rattle.link_lanes.specs.Lanes.{Slot}
-use Rattle.transcript_log.specs.declared.Entry.{Entry}
-use Rattle.transcript_log.specs.Schedule.{Shape}
-use Rattle.transcript_log.specs.Transcript.{Contents}
+use Rattle.event_schedule.specs.declared.Entry.{Entry}
+use Rattle.event_schedule.specs.Schedule.{Shape}
+use Rattle.event_schedule.specs.Transcript.{Contents}
 use Rattle.run_rows.specs.Ticks.{Clock, IsRunPlan, posts_of}
 use Rattle.run_rows.specs.Report.{fate_at, row, outcome_row}
 use Rattle.run_rows.specs.Summary.{summary_of_lines, summary_of_posts}

@@ -8,23 +8,23 @@ use Rattle.std.proofs.lemmas.Bool.{and_parts, and_from, eq-eqb, eqb-true}
 use Rattle.std.proofs.lemmas.List.Sums.{sum_by-cons}
 use Rattle.std.proofs.lemmas.List.Concat.{length-flat_map}
 use Rattle.group_plan.specs.declared.Tag.{Tag}
-use Rattle.transcript_log.specs.declared.Event.{Event}
-use Rattle.transcript_log.specs.declared.Event.TheVariants.{Send, Take, Close, End}
-use Rattle.transcript_log.specs.declared.Line.{Line}
+use Rattle.event_schedule.specs.declared.Event.{Event}
+use Rattle.event_schedule.specs.declared.Event.TheVariants.{Send, Take, Close, End}
+use Rattle.event_schedule.specs.declared.Line.{Line}
 use Rattle.link_lanes.specs.Lanes.{Slot}
 use Rattle.link_lanes.specs.declared.Post.{Post}
-use Rattle.transcript_log.specs.Schedule.{Shape, may_send}
-use Rattle.transcript_log.specs.Events.{is_tag, is_send, is_take, event_of, events_of}
-use Rattle.transcript_log.specs.Transcript.{Contents, line, lines_after}
+use Rattle.event_schedule.specs.Schedule.{Shape, may_send}
+use Rattle.event_schedule.specs.Events.{is_tag, is_send, is_take, event_of, events_of}
+use Rattle.event_schedule.specs.Transcript.{Contents, line, lines_after}
 use Rattle.run_rows.specs.Ticks.{Clock, tags_of, takes_at, copies, posts_of, HaveDelays, IsTickRun, IsRunPlan}
 use Rattle.run_rows.specs.Report.{Row, fate_at, row, outcome_row}
-use Rattle.transcript_log.specs.declared.Entry.{Entry}
+use Rattle.event_schedule.specs.declared.Entry.{Entry}
 use Rattle.run_rows.proofs.TickRun.{IsRunBy, events-reverse, run_facts}
 use Rattle.run_rows.specs.Summary.{summary, all_rows, is_sending, is_taking, summary_of_lines, summary_of_posts}
 use Rattle.run_rows.proofs.TickLemmas.{In, TickFacts}
 use Rattle.run_rows.proofs.Effective.{effective}
-use Rattle.transcript_log.proofs.EventLemmas.{events-lines, is_send-itself, is_send-true}
-use Rattle.transcript_log.proofs.ListLemmas.{flat_map_same, sum_by-flat_map, sum_by-map, tabulate_same}
+use Rattle.event_schedule.proofs.EventLemmas.{events-lines, is_send-itself, is_send-true}
+use Rattle.event_schedule.proofs.ListLemmas.{flat_map_same, sum_by-flat_map, sum_by-map, tabulate_same}
 use Rattle.run_rows.proofs.ReportLemmas.{rows_are}
 use Rattle.run_rows.proofs.FateLemmas.{run_by}
 use Rattle.run_rows.proofs.SameCounts.{same_length}

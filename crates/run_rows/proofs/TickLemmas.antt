@@ -7,15 +7,15 @@ use Rattle.std.proofs.lemmas.Bool.{false≢true, both_ways, or_cases, or_left, o
 use Rattle.group_plan.specs.declared.Kind.{Kind}
 use Rattle.group_plan.specs.declared.Kind.TheVariants.{Reading, Announcement, Answer}
 use Rattle.group_plan.specs.declared.Tag.{Tag}
-use Rattle.transcript_log.specs.declared.Event.{Event}
-use Rattle.transcript_log.specs.declared.Event.TheVariants.{Send, Take, Close, End}
-use Rattle.transcript_log.specs.Schedule.{Shape, is_closed, is_ended, is_reading_sent, is_reading_taken, reaches_floor, is_announced, may_announce, is_announcement_sent, is_announcement_taken, is_answer_sent, is_answer_taken, members_of, floor_of}
-use Rattle.transcript_log.specs.Events.{once, is_send, is_take, is_close, is_end, events_of, event_of}
+use Rattle.event_schedule.specs.declared.Event.{Event}
+use Rattle.event_schedule.specs.declared.Event.TheVariants.{Send, Take, Close, End}
+use Rattle.event_schedule.specs.Schedule.{Shape, is_closed, is_ended, is_reading_sent, is_reading_taken, reaches_floor, is_announced, may_announce, is_announcement_sent, is_announcement_taken, is_answer_sent, is_answer_taken, members_of, floor_of}
+use Rattle.event_schedule.specs.Events.{once, is_send, is_take, is_close, is_end, events_of, event_of}
 use Rattle.run_rows.specs.Ticks.{Clock, phase, moment, tag_of}
-use Rattle.transcript_log.specs.declared.Entry.{Entry}
+use Rattle.event_schedule.specs.declared.Entry.{Entry}
 use Rattle.run_rows.specs.Report.{comes_in_time, is_answered_in_time}
-use Rattle.transcript_log.proofs.ListLemmas.{and_first, and_last}
-use Rattle.transcript_log.proofs.ScheduleLemmas.{is_closed-more, is_reading_taken-closed, once-more, once-now}
+use Rattle.event_schedule.proofs.ListLemmas.{and_first, and_last}
+use Rattle.event_schedule.proofs.ScheduleLemmas.{is_closed-more, is_reading_taken-closed, once-more, once-now}
 
 -- an entry of a list, with those that are older
 abbrev pub In : Entry → List Entry → List Entry → Type 0

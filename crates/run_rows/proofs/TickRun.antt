@@ -9,18 +9,18 @@ use Rattle.std.proofs.lemmas.List.Elements.{All-head, All-tail}
 use Rattle.group_plan.specs.declared.Kind.{Kind}
 use Rattle.group_plan.specs.declared.Kind.TheVariants.{Reading, Announcement, Answer}
 use Rattle.group_plan.specs.declared.Tag.{Tag}
-use Rattle.transcript_log.specs.declared.Event.{Event}
-use Rattle.transcript_log.specs.declared.Event.TheVariants.{Send, Take, Close, End}
-use Rattle.transcript_log.specs.Schedule.{Shape, members_of, is_announced, survivors, is_reading_taken}
+use Rattle.event_schedule.specs.declared.Event.{Event}
+use Rattle.event_schedule.specs.declared.Event.TheVariants.{Send, Take, Close, End}
+use Rattle.event_schedule.specs.Schedule.{Shape, members_of, is_announced, survivors, is_reading_taken}
 use Rattle.group_plan.specs.Plans.{size_or, is_member}
-use Rattle.transcript_log.specs.Events.{is_send, is_take, is_close, is_end, events_of, event_of}
+use Rattle.event_schedule.specs.Events.{is_send, is_take, is_close, is_end, events_of, event_of}
 use Rattle.run_rows.specs.Ticks.{last_tick, Clock, IsRunPlan, moment, tag_of, tags, tags_of, sent_at, takes_at, copies, due_of, StandsOnce, in_plan, NoneBefore, IsOrdered}
-use Rattle.transcript_log.specs.declared.Entry.{Entry}
+use Rattle.event_schedule.specs.declared.Entry.{Entry}
 use Rattle.missing_round.specs.Words.{group}
 use Rattle.run_rows.proofs.TickLemmas.{Below, CameFrom, Falling, In, Member, Stands, TickFacts}
-use Rattle.transcript_log.proofs.MemberLemmas.{is_member-below}
-use Rattle.transcript_log.proofs.EventLemmas.{is_send-itself, is_send-true}
-use Rattle.transcript_log.proofs.ScheduleLemmas.{present-from_taken}
+use Rattle.event_schedule.proofs.MemberLemmas.{is_member-below}
+use Rattle.event_schedule.proofs.EventLemmas.{is_send-itself, is_send-true}
+use Rattle.event_schedule.proofs.ScheduleLemmas.{present-from_taken}
 
 -- a tick run where a function gives the delays of each Send
 pub record IsRunBy (s : Shape) (c : Clock) (fate : ℕ → Tag → List ℕ) (entries : List Entry) : Type 0 where

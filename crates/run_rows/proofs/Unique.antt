@@ -10,12 +10,12 @@ use Rattle.group_plan.specs.declared.Kind.{Kind}
 use Rattle.group_plan.specs.declared.Kind.TheVariants.{Reading, Announcement, Answer}
 use Rattle.group_plan.specs.declared.Tag.{Tag}
 use Rattle.missing_round.specs.Words.{group}
-use Rattle.transcript_log.specs.Schedule.{Shape, members_of, is_announced, is_reading_taken, survivors}
+use Rattle.event_schedule.specs.Schedule.{Shape, members_of, is_announced, is_reading_taken, survivors}
 use Rattle.group_plan.specs.Plans.{size_or, is_member}
-use Rattle.transcript_log.specs.Events.{same_kind, is_tag, events_of}
+use Rattle.event_schedule.specs.Events.{same_kind, is_tag, events_of}
 use Rattle.run_rows.specs.Ticks.{Clock, tags, tag_of, takes_at, due_of}
-use Rattle.transcript_log.specs.declared.Entry.{Entry}
-use Rattle.transcript_log.proofs.ListLemmas.{sum_by-flat_map, sum_by-map, sum_none}
+use Rattle.event_schedule.specs.declared.Entry.{Entry}
+use Rattle.event_schedule.proofs.ListLemmas.{sum_by-flat_map, sum_by-map, sum_none}
 
 -- 1 for the tag of this place and kind, and 0 for others
 abbrev pub hit : ℕ → ℕ → ℕ → Kind → Tag → ℕ

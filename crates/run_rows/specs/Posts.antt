@@ -5,8 +5,8 @@ use Rattle.group_plan.specs.declared.Kind.TheVariants.{Reading, Announcement, An
 use Rattle.group_plan.specs.declared.Tag.{Tag}
 use Rattle.link_lanes.specs.declared.Post.{Post}
 use Rattle.link_lanes.specs.Lanes.{Slot, fate_after}
-use Rattle.transcript_log.specs.Events.{is_tag}
-use Rattle.transcript_log.specs.Schedule.{Shape, members_of, floor_of}
+use Rattle.event_schedule.specs.Events.{is_tag}
+use Rattle.event_schedule.specs.Schedule.{Shape, members_of, floor_of}
 use Rattle.run_rows.specs.Ticks.{Clock, tag_of, tags, last_tick}
 use Rattle.run_rows.specs.Report.{fate_at, report_survivors}
 

@@ -4,9 +4,9 @@ use Rattle.std.specs.List.{list_any, list_all}
 use Rattle.group_plan.specs.declared.Kind.TheVariants.{Reading, Announcement, Answer}
 use Rattle.group_plan.specs.declared.Tag.{Tag}
 use Rattle.link_lanes.specs.declared.Post.{Post}
-use Rattle.transcript_log.specs.declared.Event.{Event}
-use Rattle.transcript_log.specs.Events.{is_tag}
-use Rattle.transcript_log.specs.Schedule.{Shape, members_of, floor_of, survivors, Outcome, Running, EndedThin, Published, Unpublished, outcome}
+use Rattle.event_schedule.specs.declared.Event.{Event}
+use Rattle.event_schedule.specs.Events.{is_tag}
+use Rattle.event_schedule.specs.Schedule.{Shape, members_of, floor_of, survivors, Outcome, Running, EndedThin, Published, Unpublished, outcome}
 use Rattle.run_rows.specs.Ticks.{Clock, tag_of}
 
 -- F: the fate of the Send of a tag at tick t

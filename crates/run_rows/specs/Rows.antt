@@ -4,14 +4,14 @@ use Rattle.group_plan.specs.declared.Kind.{Kind}
 use Rattle.group_plan.specs.declared.Kind.TheVariants.{Reading, Announcement, Answer}
 use Rattle.group_plan.specs.Plans.{Rounds, Group}
 use Rattle.link_lanes.specs.Lanes.{Answer as LaneAnswer, Slot}
-use Rattle.transcript_log.specs.declared.Event.{Event}
-use Rattle.transcript_log.specs.declared.Event.TheVariants.{Send, Take, Close, End}
-use Rattle.transcript_log.specs.declared.Entry.{Entry}
-use Rattle.transcript_log.specs.Events.{is_tag}
-use Rattle.transcript_log.specs.Tables.{Readings, plain_sum}
-use Rattle.transcript_log.specs.Schedule.{Shape}
-use Rattle.transcript_log.specs.Transcript.{Contents, line, shape_of_readings, contents_of_tables}
-use Rattle.transcript_log.specs.Rows.{three, readings, readings_of, masks, tag, all}
+use Rattle.event_schedule.specs.declared.Event.{Event}
+use Rattle.event_schedule.specs.declared.Event.TheVariants.{Send, Take, Close, End}
+use Rattle.event_schedule.specs.declared.Entry.{Entry}
+use Rattle.event_schedule.specs.Events.{is_tag}
+use Rattle.event_schedule.specs.Tables.{Readings, plain_sum}
+use Rattle.event_schedule.specs.Schedule.{Shape}
+use Rattle.event_schedule.specs.Transcript.{Contents, line, shape_of_readings, contents_of_tables}
+use Rattle.event_schedule.specs.Rows.{three, readings, readings_of, masks, tag, all}
 use Rattle.run_rows.specs.Ticks.{Clock}
 use Rattle.run_rows.specs.Report.{Row, row, fate_at}
 use Rattle.run_rows.specs.Summary.{Summary, all_rows, summary_of_posts}

@@ -1,10 +1,10 @@
 -- Whole runs: tick runs with the lines of a transcript, and what their report and summary are.
 use Rattle.std.specs.Prelude.{◌≡◌, ℕ, ◌<◌, List, [], length, reverse}
 use Rattle.link_lanes.specs.Lanes.{Slot}
-use Rattle.transcript_log.specs.declared.Entry.{Entry}
-use Rattle.transcript_log.specs.Events.{events_of, lines_of}
-use Rattle.transcript_log.specs.Schedule.{Shape}
-use Rattle.transcript_log.specs.Transcript.{Contents, lines_after}
+use Rattle.event_schedule.specs.declared.Entry.{Entry}
+use Rattle.event_schedule.specs.Events.{events_of, lines_of}
+use Rattle.event_schedule.specs.Schedule.{Shape}
+use Rattle.event_schedule.specs.Transcript.{Contents, lines_after}
 use Rattle.run_rows.specs.Ticks.{Clock, HaveDelays, IsTickRun}
 use Rattle.run_rows.specs.Report.{fate_at, row, outcome_row}
 use Rattle.run_rows.specs.Summary.{summary_of_lines, summary_of_posts}

@@ -3,10 +3,10 @@ use Rattle.std.specs.Prelude.{◌≡◌, ℕ, ◌<◌, List, [], length, reverse
 use Rattle.group_plan.specs.Plans.{IsWithinLimits}
 use Rattle.group_plan.specs.Tables.{PresenceView, IsPresenceTable}
 use Rattle.link_lanes.specs.Lanes.{Slot}
-use Rattle.transcript_log.specs.declared.Entry.{Entry}
-use Rattle.transcript_log.specs.Events.{events_of}
-use Rattle.transcript_log.specs.Schedule.{Shape, shape_of_presence}
-use Rattle.transcript_log.specs.Transcript.{Contents, lines_after}
+use Rattle.event_schedule.specs.declared.Entry.{Entry}
+use Rattle.event_schedule.specs.Events.{events_of}
+use Rattle.event_schedule.specs.Schedule.{Shape, shape_of_presence}
+use Rattle.event_schedule.specs.Transcript.{Contents, lines_after}
 use Rattle.run_rows.specs.Ticks.{Clock, clock_of, HaveDelays, IsRunPlan, IsTickRun, posts_of}
 use Rattle.run_rows.specs.Report.{fate_at, row, outcome_row}
 use Rattle.run_rows.specs.Summary.{summary_of_lines, summary_of_posts}

@@ -2,10 +2,10 @@
 use Rattle.std.specs.Prelude.{ℕ, ◌*◌, Bool, true, false, List, length, map, reverse, sum_by, count_by}
 use Rattle.std.specs.List.{flat_map, range_with_len}
 use Rattle.link_lanes.specs.declared.Post.{Post}
-use Rattle.transcript_log.specs.declared.Line.{Line}
-use Rattle.transcript_log.specs.Events.{event_of}
+use Rattle.event_schedule.specs.declared.Line.{Line}
+use Rattle.event_schedule.specs.Events.{event_of}
 pub use Rattle.transcript_log.specs.Kinds.{is_sending, is_taking}
-use Rattle.transcript_log.specs.Schedule.{Shape}
+use Rattle.event_schedule.specs.Schedule.{Shape}
 use Rattle.run_rows.specs.Ticks.{Clock}
 use Rattle.run_rows.specs.Report.{Row, ThinRow, TotalRow, NoneRow, row, outcome_row, fate_at}
 

@@ -7,11 +7,11 @@ use Rattle.group_plan.specs.declared.Tag.{Tag}
 use Rattle.group_plan.specs.Plans.{PlanView, is_member}
 use Rattle.link_lanes.specs.declared.Post.{Post}
 use Rattle.link_lanes.specs.Lanes.{Slot, fates_after}
-use Rattle.transcript_log.specs.declared.Event.{Event}
-use Rattle.transcript_log.specs.declared.Event.TheVariants.{Send, Take, Close, End}
-use Rattle.transcript_log.specs.declared.Entry.{Entry}
-use Rattle.transcript_log.specs.Events.{event_of, events_of, is_send, is_take, is_close, is_end}
-use Rattle.transcript_log.specs.Schedule.{Shape, members_of, survivors, is_announced}
+use Rattle.event_schedule.specs.declared.Event.{Event}
+use Rattle.event_schedule.specs.declared.Event.TheVariants.{Send, Take, Close, End}
+use Rattle.event_schedule.specs.declared.Entry.{Entry}
+use Rattle.event_schedule.specs.Events.{event_of, events_of, is_send, is_take, is_close, is_end}
+use Rattle.event_schedule.specs.Schedule.{Shape, members_of, survivors, is_announced}
 
 -- the numbers of a plan that ticks depend on: its rounds, and its two windows in ticks
 pub record Clock : Type 0 where

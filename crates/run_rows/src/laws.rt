@@ -3,9 +3,9 @@
 ghost use Rattle.std.specs.Prelude.{◌≡◌, [], ◌∷◌, map, reverse};
 ghost use Rattle.group_plan.specs.declared.Kind.TheVariants.{Reading, Announcement, Answer};
 ghost use Rattle.link_lanes.specs.Lanes.{fates_after};
-ghost use Rattle.transcript_log.specs.Events.{events_of, lines_of};
-ghost use Rattle.transcript_log.specs.Rows.{three, joining, readings, joining_readings, all, first_two};
-ghost use Rattle.transcript_log.specs.Tables.{plain_sum};
+ghost use Rattle.event_schedule.specs.Events.{events_of, lines_of};
+ghost use Rattle.event_schedule.specs.Rows.{three, joining, readings, joining_readings, all, first_two};
+ghost use Rattle.event_schedule.specs.Tables.{plain_sum};
 ghost use Rattle.run_rows.specs.ByGroup.{GroupRunsAreTickRuns};
 ghost use Rattle.run_rows.specs.Posts.{posts_by_lanes};
 ghost use Rattle.run_rows.specs.Report.{ThinRow, TotalRow, NoneRow, outcome_row};
@@ -67,7 +67,7 @@ pub fn several_rounds()
 {}
 
 /// Worked row: a second answer that comes after the End, as a list of entries.
-#[tactic(auto, unfolding(transcript_log::specs::Events::once))]
+#[tactic(auto, unfolding(event_schedule::specs::Events::once))]
 pub fn late_answer_by_ticks()
     ensures outcome { outcome_row north (plain_sum readings) 0 0 (reverse (events_of late_run)) ≡ NoneRow all }
     ensures summary { summary_of_lines north (clock 1 1 2) (plain_sum readings) (lines_of late_run) ≡ counts 1 0 1 0 10 10 }

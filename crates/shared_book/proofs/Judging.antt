@@ -5,10 +5,10 @@ use Rattle.std.proofs.lemmas.Slice.Eq.{bytes_eq-Decides}
 use Rattle.std.specs.Str.{bytes_eq}
 use Rattle.group_plan.specs.declared.Tag.{Tag}
 use Rattle.meter_frames.specs.declared.Frame.{Frame}
-use Rattle.transcript_log.specs.declared.Event.{Event}
-use Rattle.transcript_log.specs.declared.Event.TheVariants.{Send, Take, Close, End}
-use Rattle.transcript_log.specs.Events.{is_tag}
-use Rattle.transcript_log.proofs.EventLemmas.{is_send-itself, is_send-true}
+use Rattle.event_schedule.specs.declared.Event.{Event}
+use Rattle.event_schedule.specs.declared.Event.TheVariants.{Send, Take, Close, End}
+use Rattle.event_schedule.specs.Events.{is_tag}
+use Rattle.event_schedule.proofs.EventLemmas.{is_send-itself, is_send-true}
 use Rattle.group_book.specs.declared.answers.TakeError.TheVariants.{Unknown, Forged}
 use Rattle.group_book.specs.Books.{BookView, knows, posted_of, IsFree}
 use Rattle.shared_book.specs.declared.parcel.Request.TheVariants.{Take as TakeRequest}

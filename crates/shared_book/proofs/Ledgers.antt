@@ -7,15 +7,15 @@ use native.Mathlib.Decide.{ℕ_discrete}
 use Rattle.std.proofs.lemmas.List.{map-append}
 use Rattle.std.proofs.lemmas.List.Elements.{filter-append}
 use Rattle.group_plan.specs.Tables.{PresenceView}
-use Rattle.transcript_log.specs.declared.Line.{Line}
-use Rattle.transcript_log.specs.Events.{event_of}
-use Rattle.transcript_log.specs.Schedule.{Shape, shape_of_presence, is_sent}
-use Rattle.transcript_log.specs.Journal.{past_of}
+use Rattle.event_schedule.specs.declared.Line.{Line}
+use Rattle.event_schedule.specs.Events.{event_of}
+use Rattle.event_schedule.specs.Schedule.{Shape, shape_of_presence, is_sent}
+use Rattle.event_schedule.specs.Journal.{past_of}
 use Rattle.group_book.specs.Books.{BookView, posted}
-use Rattle.transcript_log.specs.ByGroup.{group_of, lines_in}
+use Rattle.event_schedule.specs.ByGroup.{group_of, lines_in}
 use Rattle.group_book.specs.Groups.{GroupView}
 use Rattle.group_book.specs.Replay.{IsJournal, IsLedger}
-use Rattle.transcript_log.proofs.EventsByGroup.{sent-in}
+use Rattle.event_schedule.proofs.EventsByGroup.{sent-in}
 use Rattle.group_book.proofs.LinesByGroup.{past-in, posted-in, journal-part, journal-whole, append-elsewhere}
 use Rattle.group_book.proofs.OwnLines.{groups_stay}
 use Rattle.shared_book.specs.declared.turn.Turn.{Turn}

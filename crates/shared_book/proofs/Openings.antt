@@ -10,9 +10,9 @@ use Rattle.std.proofs.lemmas.List.{append-nil, length-map, length-replicate}
 use Rattle.std.proofs.lemmas.Bool.{cases_lt}
 use Rattle.std.proofs.lemmas.List.Elements.{All-head, All-tail}
 use Rattle.atomic_table.specs.Table.{State, opening, Final, Seen}
-use Rattle.transcript_log.specs.declared.Line.{Line}
+use Rattle.event_schedule.specs.declared.Line.{Line}
 use Rattle.group_book.specs.Books.{BookView}
-use Rattle.transcript_log.specs.ByGroup.{lines_in}
+use Rattle.event_schedule.specs.ByGroup.{lines_in}
 use Rattle.group_book.specs.Groups.{GroupView}
 use Rattle.group_book.specs.Replay.{IsLedger, IsGroup, AreReplayed}
 use Rattle.shared_book.specs.declared.turn.Turn.{Turn}

@@ -10,7 +10,7 @@ use lib.Seq.{set-get_or}
 use Rattle.std.proofs.lemmas.List.{append-nil}
 use Rattle.atomic_table.specs.Table.{State, Act, step, keeps, takes, gives, stepped, Allows, Valid, carried_after}
 use Rattle.atomic_table.proofs.Lists.{set_here, set_else, set_again}
-use Rattle.transcript_log.specs.declared.Line.{Line}
+use Rattle.event_schedule.specs.declared.Line.{Line}
 use Rattle.group_book.specs.Books.{BookView}
 use Rattle.shared_book.specs.declared.turn.Turn.{Turn}
 use Rattle.shared_book.specs.declared.turn.View.{View}

@@ -8,16 +8,16 @@ use Rattle.group_plan.specs.Plans.{is_place}
 use Rattle.group_plan.specs.Tables.{PresenceView}
 use Rattle.group_plan.proofs.Limits.{past}
 use Rattle.meter_frames.specs.declared.Frame.{Frame as FrameView}
-use Rattle.transcript_log.specs.declared.Event.TheVariants.{Send, Take as TakeEvent, Close, End}
-use Rattle.transcript_log.specs.declared.Line.{Line}
-use Rattle.transcript_log.specs.declared.Event.{Event}
-use Rattle.transcript_log.specs.Events.{event_of}
-use Rattle.transcript_log.specs.Journal.{core_line}
+use Rattle.event_schedule.specs.declared.Event.TheVariants.{Send, Take as TakeEvent, Close, End}
+use Rattle.event_schedule.specs.declared.Line.{Line}
+use Rattle.event_schedule.specs.declared.Event.{Event}
+use Rattle.event_schedule.specs.Events.{event_of}
+use Rattle.event_schedule.specs.Journal.{core_line}
 use Rattle.transcript_log.specs.Lines.{LinesView}
-use Rattle.transcript_log.specs.Schedule.{Shape}
+use Rattle.event_schedule.specs.Schedule.{Shape}
 use Rattle.group_book.specs.declared.answers.TakeError.TheVariants.{Unknown}
 use Rattle.group_book.specs.Books.{BookView, shape_of, posted, posted_in}
-use Rattle.transcript_log.specs.ByGroup.{group_of, lines_in}
+use Rattle.event_schedule.specs.ByGroup.{group_of, lines_in}
 use Rattle.group_book.specs.Groups.{GroupView}
 use Rattle.group_book.specs.Replay.{IsGroup}
 use Rattle.group_book.proofs.LinesByGroup.{posted-in, lines_of_groups}

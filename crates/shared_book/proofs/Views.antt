@@ -11,8 +11,8 @@ use Rattle.atomic_table.specs.Table.{State}
 use Rattle.atomic_table.proofs.Lists.{at_set, at_longer, set_here, set_else}
 use Rattle.shared_book.specs.declared.turn.Turn.{Turn}
 use Rattle.group_book.specs.Books.{BookView}
-use Rattle.transcript_log.specs.ByGroup.{lines_in}
-use Rattle.transcript_log.specs.declared.Line.{Line}
+use Rattle.event_schedule.specs.ByGroup.{lines_in}
+use Rattle.event_schedule.specs.declared.Line.{Line}
 use Rattle.shared_book.specs.declared.turn.View.{View}
 use Rattle.shared_book.specs.declared.handed.Handed.{Handed}
 use Rattle.shared_book.specs.Turns.{turns_by, lines_of, journal_after, StartsWith}

@@ -10,17 +10,17 @@ use Rattle.meter_frames.specs.declared.Frame.{Frame}
 use Rattle.round_machine.specs.declared.Verdict.{Verdict}
 use Rattle.round_machine.specs.declared.Closing.{Closing}
 use Rattle.round_machine.specs.declared.Ending.{Ending}
-use Rattle.transcript_log.specs.declared.Event.{Event}
-use Rattle.transcript_log.specs.declared.Event.TheVariants.{Take, Close, End}
-use Rattle.transcript_log.specs.declared.Line.{Line}
-use Rattle.transcript_log.specs.Events.{event_of}
-use Rattle.transcript_log.specs.Journal.{core_line}
+use Rattle.event_schedule.specs.declared.Event.{Event}
+use Rattle.event_schedule.specs.declared.Event.TheVariants.{Take, Close, End}
+use Rattle.event_schedule.specs.declared.Line.{Line}
+use Rattle.event_schedule.specs.Events.{event_of}
+use Rattle.event_schedule.specs.Journal.{core_line}
 use Rattle.transcript_log.specs.Lines.{LinesView}
-use Rattle.transcript_log.specs.Schedule.{shape_of_presence}
+use Rattle.event_schedule.specs.Schedule.{shape_of_presence}
 use Rattle.group_book.specs.declared.answers.TakeError.{TakeError}
 use Rattle.group_book.specs.declared.answers.TakeError.TheVariants.{Unknown, Forged}
 use Rattle.group_book.specs.Books.{BookView, posted_of, TakeEnds, CloseEnds, EndEnds}
-use Rattle.transcript_log.specs.ByGroup.{group_of}
+use Rattle.event_schedule.specs.ByGroup.{group_of}
 use Rattle.group_book.specs.Groups.{GroupView}
 use Rattle.group_book.specs.Replay.{Replays, PagesEnd, book_at}
 use Rattle.shared_book.specs.declared.parcel.Reply.{Reply}

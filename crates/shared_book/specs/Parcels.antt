@@ -6,11 +6,11 @@ use Rattle.meter_frames.specs.declared.Frame.{Frame}
 use Rattle.meter_frames.specs.declared.FrameError.{FrameError}
 use Rattle.meter_frames.specs.declared.FrameError.TheVariants.{Kind as NoKind}
 use Rattle.meter_frames.specs.Frames.{first_broken, kind_of, frame_at}
-use Rattle.transcript_log.specs.declared.Event.{Event}
-use Rattle.transcript_log.specs.declared.Event.TheVariants.{Take, Close, End}
-use Rattle.transcript_log.specs.declared.Line.{Line}
-use Rattle.transcript_log.specs.declared.Line.TheVariants.{Send as SendLine, Take as TakeLine, Close as CloseLine, End as EndLine}
-use Rattle.transcript_log.specs.Events.{is_tag}
+use Rattle.event_schedule.specs.declared.Event.{Event}
+use Rattle.event_schedule.specs.declared.Event.TheVariants.{Take, Close, End}
+use Rattle.event_schedule.specs.declared.Line.{Line}
+use Rattle.event_schedule.specs.declared.Line.TheVariants.{Send as SendLine, Take as TakeLine, Close as CloseLine, End as EndLine}
+use Rattle.event_schedule.specs.Events.{is_tag}
 use Rattle.group_book.specs.declared.answers.TakeError.{TakeError}
 use Rattle.group_book.specs.declared.answers.TakeError.TheVariants.{Unknown, Forged}
 use Rattle.group_book.specs.Books.{BookView, posted_in}

@@ -1,10 +1,10 @@
 -- What a pass knows, and what its calls do to it.
 use Rattle.std.specs.Prelude.{◌≡◌, ◌≢◌, ℕ, ◌+◌, Contains, List, [], ◌∷◌, ◌++◌, Option, Some, None, Result, Ok, Err}
-use Rattle.transcript_log.specs.declared.Event.{Event}
-use Rattle.transcript_log.specs.declared.Line.{Line}
-use Rattle.transcript_log.specs.Journal.{core_line}
+use Rattle.event_schedule.specs.declared.Event.{Event}
+use Rattle.event_schedule.specs.declared.Line.{Line}
+use Rattle.event_schedule.specs.Journal.{core_line}
 use Rattle.group_book.specs.Books.{BookView, shape_of}
-use Rattle.transcript_log.specs.ByGroup.{lines_in}
+use Rattle.event_schedule.specs.ByGroup.{lines_in}
 use Rattle.group_book.specs.Groups.{GroupView}
 use Rattle.meter_frames.specs.declared.FrameError.{FrameError}
 use Rattle.shared_book.specs.declared.parcel.Request.{Request}

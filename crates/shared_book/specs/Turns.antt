@@ -1,6 +1,6 @@
 -- Histories of turns: who made which commit, and the line that was added.
 use Rattle.std.specs.Prelude.{◌≡◌, ℕ, ◌==◌, if◌then◌else◌, List, [], ◌∷◌, ◌++◌, map}
-use Rattle.transcript_log.specs.declared.Line.{Line}
+use Rattle.event_schedule.specs.declared.Line.{Line}
 use Rattle.group_book.specs.Books.{BookView}
 use Rattle.group_book.specs.Replay.{IsLedger}
 use Rattle.shared_book.specs.declared.turn.Turn.{Turn}

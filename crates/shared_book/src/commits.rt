@@ -2,8 +2,8 @@
 //! lines of these.
 
 ghost use Rattle.std.specs.Prelude.{◌≡◌, ◌<◌, ◌≤◌, ◌+◌, ◌++◌, All, Some, None, Ok, true, drop, length};
-ghost use Rattle.transcript_log.specs.Events.{event_of};
-ghost use Rattle.transcript_log.specs.ByGroup.{group_of};
+ghost use Rattle.event_schedule.specs.Events.{event_of};
+ghost use Rattle.event_schedule.specs.ByGroup.{group_of};
 ghost use Rattle.shared_book.specs.Parcels.{group_in, request_of, IsOutside};
 ghost use Rattle.shared_book.specs.Turns.{turns_of};
 ghost use Rattle.shared_book.specs.Law.{Stands};

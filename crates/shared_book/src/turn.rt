@@ -1,8 +1,8 @@
 //! What a commit leaves, and what the rule knows of a pass.
 
+use event_schedule::Line;
 use group_book::Book;
 use std::collections::LinkedList;
-use transcript_log::Line;
 
 /// One commit: the number of the pass that made it, and the line that was added.
 #[derive(Clone, Copy)]

@@ -2,7 +2,7 @@
 
 ghost use Rattle.std.specs.Prelude.{◌≡◌, ◌≤◌, List};
 ghost use Rattle.group_plan.specs.Tables.{PresenceView};
-ghost use Rattle.transcript_log.specs.declared.Line.{Line as LineView};
+ghost use Rattle.event_schedule.specs.declared.Line.{Line as LineView};
 ghost use Rattle.group_book.specs.Replay.{Replays, CanCall};
 ghost use Rattle.shared_book.specs.declared.parcel.Request.TheVariants.{Take as TakeRequest, Close as CloseRequest, End as EndRequest};
 ghost use Rattle.shared_book.specs.Parcels.{group_in};

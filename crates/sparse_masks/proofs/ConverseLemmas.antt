@@ -10,14 +10,14 @@ use Rattle.missing_round.specs.Words.{answer_word}
 use Rattle.missing_round.specs.Sets.{is_member}
 use Rattle.missing_round.proofs.SetLemmas.{is_member-filter, same_filter}
 use Rattle.group_plan.specs.Plans.{Group, size, is_member as is_plan_member, members}
-use Rattle.transcript_log.specs.declared.Event.{Event}
-use Rattle.transcript_log.specs.Events.{once}
-use Rattle.transcript_log.specs.Schedule.{Shape, survivors, answered, missing, is_reading_taken, is_answer_sent}
-use Rattle.transcript_log.specs.Tables.{Readings, Masks, reading_at, IsBounded}
-use Rattle.transcript_log.specs.Transcript.{shape_of_readings, Contents, contents_of_tables, lines_after, transcript}
-use Rattle.transcript_log.proofs.TranscriptLemmas.{shape-same}
-use Rattle.transcript_log.proofs.ScheduleLemmas.{after, is_reading_sent-from_taken}
-use Rattle.transcript_log.proofs.MemberLemmas.{plain_sum_fits}
+use Rattle.event_schedule.specs.declared.Event.{Event}
+use Rattle.event_schedule.specs.Events.{once}
+use Rattle.event_schedule.specs.Schedule.{Shape, survivors, answered, missing, is_reading_taken, is_answer_sent}
+use Rattle.event_schedule.specs.Tables.{Readings, Masks, reading_at, IsBounded}
+use Rattle.event_schedule.specs.Transcript.{shape_of_readings, Contents, contents_of_tables, lines_after, transcript}
+use Rattle.event_schedule.proofs.TranscriptLemmas.{shape-same}
+use Rattle.event_schedule.proofs.ScheduleLemmas.{after, is_reading_sent-from_taken}
+use Rattle.event_schedule.proofs.MemberLemmas.{plain_sum_fits}
 use Rattle.ideal_masks.proofs.Converse.{Told, told_after}
 use Rattle.mask_graphs.specs.Graphs.{Graph, IsGraph, IsPart, IsBare, sees}
 use Rattle.mask_graphs.specs.Moves.{left_out}

@@ -11,12 +11,12 @@ use Rattle.missing_round.specs.Words.{word, minus, group}
 use Rattle.group_plan.specs.Plans.{PlanView, size}
 use Rattle.group_plan.specs.Tables.{ReadingsView, reading, IsReadingTable}
 use Rattle.pair_keys.specs.declared.KeyId.TheVariants.{Pair}
-use Rattle.transcript_log.specs.declared.Event.{Event}
-use Rattle.transcript_log.specs.Schedule.{Shape}
-use Rattle.transcript_log.specs.Tables.{Masks, reading_at}
-use Rattle.transcript_log.specs.Transcript.{shape_of_readings}
-use Rattle.transcript_log.proofs.MemberLemmas.{is_member-below}
-use Rattle.transcript_log.proofs.RoundMembers.{range_last}
+use Rattle.event_schedule.specs.declared.Event.{Event}
+use Rattle.event_schedule.specs.Schedule.{Shape}
+use Rattle.event_schedule.specs.Tables.{Masks, reading_at}
+use Rattle.event_schedule.specs.Transcript.{shape_of_readings}
+use Rattle.event_schedule.proofs.MemberLemmas.{is_member-below}
+use Rattle.event_schedule.proofs.RoundMembers.{range_last}
 use Rattle.group_book.specs.Books.{BookView, shape_of, past}
 use Rattle.ideal_masks.specs.declared.Offset.{Offset}
 use Rattle.ideal_masks.specs.Moves.{moved, pair_list, offset_list}

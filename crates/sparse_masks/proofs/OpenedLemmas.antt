@@ -6,9 +6,9 @@ use Rattle.std.proofs.lemmas.Bool.{and_parts, both_ways, false_from_ne_true, leb
 use Rattle.missing_round.specs.Sets.{is_member}
 use Rattle.group_plan.specs.Plans.{PlanView, size, IsWithinLimits}
 use Rattle.group_plan.specs.Tables.{ReadingsView, reading}
-use Rattle.transcript_log.specs.declared.Event.{Event}
-use Rattle.transcript_log.specs.Schedule.{Shape, survivors, is_announced}
-use Rattle.transcript_log.specs.Transcript.{shape_of_readings}
+use Rattle.event_schedule.specs.declared.Event.{Event}
+use Rattle.event_schedule.specs.Schedule.{Shape, survivors, is_announced}
+use Rattle.event_schedule.specs.Transcript.{shape_of_readings}
 use Rattle.group_book.specs.Books.{BookView, shape_of, past}
 use Rattle.ideal_masks.specs.Replaying.{HasEvents}
 use Rattle.ideal_masks.proofs.WorldLemmas.{shape-of_events}

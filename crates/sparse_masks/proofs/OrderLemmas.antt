@@ -7,9 +7,9 @@ use Rattle.std.proofs.lemmas.Bool.Decides.{nat_tests}
 use Rattle.std.proofs.lemmas.Option.{slice_get_past}
 use Rattle.missing_round.specs.Sets.{is_member}
 use Rattle.group_plan.specs.Plans.{Group, PlanView, size, size_or, span_or, is_member as is_plan_member, is_member_of, IsWithinLimits}
-use Rattle.transcript_log.specs.declared.Event.{Event}
-use Rattle.transcript_log.specs.Schedule.{Shape, survivors}
-use Rattle.transcript_log.proofs.MemberLemmas.{is_member-below}
+use Rattle.event_schedule.specs.declared.Event.{Event}
+use Rattle.event_schedule.specs.Schedule.{Shape, survivors}
+use Rattle.event_schedule.proofs.MemberLemmas.{is_member-below}
 use Rattle.ideal_masks.specs.OffsetEnds.{is_earlier}
 use Rattle.sparse_masks.specs.Opened.{Before}
 use Rattle.sparse_masks.proofs.ReachLemmas.{of_filter}

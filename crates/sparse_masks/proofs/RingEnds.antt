@@ -3,9 +3,9 @@ use Rattle.std.proofs.Common.{◌≡◌, ℕ, List, sym, subst, ◌∙◌}
 use Rattle.std.specs.Prelude.{reverse, Result, Ok, Err, IfOk, IfErr}
 use Rattle.group_plan.specs.Plans.{IsWithinLimits}
 use Rattle.group_plan.specs.Tables.{ReadingsView, reading, IsReadingTable}
-use Rattle.transcript_log.specs.declared.Event.{Event}
-use Rattle.transcript_log.specs.Transcript.{transcript}
-use Rattle.transcript_log.proofs.ScheduleLemmas.{after-reverse}
+use Rattle.event_schedule.specs.declared.Event.{Event}
+use Rattle.event_schedule.specs.Transcript.{transcript}
+use Rattle.event_schedule.proofs.ScheduleLemmas.{after-reverse}
 use Rattle.ideal_masks.specs.declared.Offset.{Offset}
 use Rattle.ideal_masks.specs.Offsets.{shift}
 use Rattle.ideal_masks.proofs.AgreementLemmas.{bounded}

@@ -8,7 +8,7 @@ use Rattle.std.proofs.lemmas.List.FromFn.{length-range_with_len, get_or-range_wi
 use Rattle.missing_round.specs.Words.{group}
 use Rattle.missing_round.specs.Sets.{IsSet, is_member, less, without}
 use Rattle.missing_round.proofs.SetLemmas.{less-filter, same_filter}
-use Rattle.transcript_log.proofs.RoundMembers.{range_last}
+use Rattle.event_schedule.proofs.RoundMembers.{range_last}
 use Rattle.mask_graphs.specs.Graphs.{Graph}
 use Rattle.mask_graphs.proofs.ListFacts.{member_head, member_later}
 use Rattle.sparse_masks.specs.declared.round.Round.{Round}

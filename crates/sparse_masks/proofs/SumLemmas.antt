@@ -6,10 +6,10 @@ use Rattle.missing_round.specs.Words.{word}
 use Rattle.missing_round.specs.Sets.{is_member}
 use Rattle.group_plan.specs.Plans.{PlanView, size, IsWithinLimits}
 use Rattle.group_plan.specs.Tables.{Table, reading, IsReadingTable}
-use Rattle.transcript_log.specs.declared.Event.{Event}
-use Rattle.transcript_log.specs.Schedule.{Shape, is_announced}
-use Rattle.transcript_log.specs.Tables.{Readings, reading_at, plain_sum, IsBounded}
-use Rattle.transcript_log.proofs.MemberLemmas.{plain_sum_fits}
+use Rattle.event_schedule.specs.declared.Event.{Event}
+use Rattle.event_schedule.specs.Schedule.{Shape, is_announced}
+use Rattle.event_schedule.specs.Tables.{Readings, reading_at, plain_sum, IsBounded}
+use Rattle.event_schedule.proofs.MemberLemmas.{plain_sum_fits}
 use Rattle.ideal_masks.proofs.AgreementLemmas.{bounded}
 use Rattle.sparse_masks.specs.declared.round.Round.{Round}
 use Rattle.sparse_masks.specs.Trees.{component, is_component_opened}

@@ -9,13 +9,13 @@ use Rattle.missing_round.specs.Sets.{is_member}
 use Rattle.missing_round.proofs.WordLemmas.{word-add_same}
 use Rattle.missing_round.proofs.SetLemmas.{is_member-filter, is_member-picked}
 use Rattle.group_plan.specs.Plans.{Group, size, is_member as is_plan_member, members}
-use Rattle.transcript_log.specs.declared.Event.{Event}
-use Rattle.transcript_log.specs.Schedule.{Shape, members_of, survivors, answered, missing, is_announced, is_reading_taken, is_answer_sent}
-use Rattle.transcript_log.specs.Tables.{Readings, Masks, reading_at, IsOfPlan, IsBounded}
-use Rattle.transcript_log.specs.Transcript.{shape_of_readings, Contents, contents_of_tables, lines_after, transcript}
-use Rattle.transcript_log.proofs.TranscriptLemmas.{Alike, lines_after-same, shape-same}
-use Rattle.transcript_log.proofs.ScheduleLemmas.{after, is_announced-from_answer, is_reading_taken-from_answer, present-from_taken}
-use Rattle.transcript_log.proofs.MemberLemmas.{is_member-below, plain_sum_fits}
+use Rattle.event_schedule.specs.declared.Event.{Event}
+use Rattle.event_schedule.specs.Schedule.{Shape, members_of, survivors, answered, missing, is_announced, is_reading_taken, is_answer_sent}
+use Rattle.event_schedule.specs.Tables.{Readings, Masks, reading_at, IsOfPlan, IsBounded}
+use Rattle.event_schedule.specs.Transcript.{shape_of_readings, Contents, contents_of_tables, lines_after, transcript}
+use Rattle.event_schedule.proofs.TranscriptLemmas.{Alike, lines_after-same, shape-same}
+use Rattle.event_schedule.proofs.ScheduleLemmas.{after, is_announced-from_answer, is_reading_taken-from_answer, present-from_taken}
+use Rattle.event_schedule.proofs.MemberLemmas.{is_member-below, plain_sum_fits}
 use Rattle.ideal_masks.specs.Pools.{nobody}
 use Rattle.ideal_masks.specs.Offsets.{delta, shift}
 use Rattle.ideal_masks.proofs.OffsetLemmas.{reading_word-shifted, answer_word-shifted, sum_deltas, sum_share-none, word-delta}

@@ -2,10 +2,10 @@
 use Rattle.std.specs.Prelude.{◌≡◌, ℕ, true, List, reverse, Result, Ok, Err}
 use Rattle.missing_round.specs.Sets.{is_member}
 use Rattle.group_plan.specs.Tables.{ReadingsView, reading}
-use Rattle.transcript_log.specs.declared.Event.{Event}
-use Rattle.transcript_log.specs.Tables.{Readings, Masks, plain_sum}
-use Rattle.transcript_log.specs.Schedule.{Shape, survivors, is_announced}
-use Rattle.transcript_log.specs.Transcript.{shape_of_readings, transcript}
+use Rattle.event_schedule.specs.declared.Event.{Event}
+use Rattle.event_schedule.specs.Tables.{Readings, Masks, plain_sum}
+use Rattle.event_schedule.specs.Schedule.{Shape, survivors, is_announced}
+use Rattle.event_schedule.specs.Transcript.{shape_of_readings, transcript}
 use Rattle.group_book.specs.Books.{BookView}
 use Rattle.ideal_masks.specs.declared.Offset.{Offset}
 use Rattle.ideal_masks.specs.Moves.{offset_list}

@@ -3,10 +3,10 @@
 use Rattle.std.specs.Prelude.{◌≡◌, ℕ, Bool, true, List, is_some, if◌then◌else◌}
 use Rattle.missing_round.specs.Sets.{is_member}
 use Rattle.group_plan.specs.Plans.{Group, size}
-use Rattle.transcript_log.specs.declared.Event.{Event}
-use Rattle.transcript_log.specs.Tables.{Readings, Masks, plain_sum}
-use Rattle.transcript_log.specs.Schedule.{Shape, survivors, answered, is_announced}
-use Rattle.transcript_log.specs.Transcript.{shape_of_readings}
+use Rattle.event_schedule.specs.declared.Event.{Event}
+use Rattle.event_schedule.specs.Tables.{Readings, Masks, plain_sum}
+use Rattle.event_schedule.specs.Schedule.{Shape, survivors, answered, is_announced}
+use Rattle.event_schedule.specs.Transcript.{shape_of_readings}
 use Rattle.ideal_masks.specs.Offsets.{delta}
 use Rattle.mask_graphs.specs.Graphs.{Graph}
 use Rattle.sparse_masks.specs.Neighbours.{are_neighbours}

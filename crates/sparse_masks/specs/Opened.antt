@@ -1,8 +1,8 @@
 -- The opened components of a ring, and the fewest members of any.
 use Rattle.std.specs.Prelude.{◌≡◌, ℕ, ◌≤◌, ◌⊎◌, true, false, ◌&&◌, Bool, List, length, Option, Some, None, nat_le, if◌then◌else◌}
 use Rattle.missing_round.specs.Sets.{is_member}
-use Rattle.transcript_log.specs.declared.Event.{Event}
-use Rattle.transcript_log.specs.Schedule.{Shape, survivors, is_announced}
+use Rattle.event_schedule.specs.declared.Event.{Event}
+use Rattle.event_schedule.specs.Schedule.{Shape, survivors, is_announced}
 use Rattle.ideal_masks.specs.OffsetEnds.{is_earlier}
 use Rattle.sparse_masks.specs.declared.round.Round.{Round}
 use Rattle.sparse_masks.specs.Trees.{component}

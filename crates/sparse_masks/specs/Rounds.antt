@@ -3,8 +3,8 @@ use Rattle.std.specs.Prelude.{◌≡◌, ℕ, ◌<◌, ◌≤◌, nat_lt, true, 
 use Rattle.std.specs.List.{list_all}
 use Rattle.missing_round.specs.Words.{group}
 use Rattle.group_plan.specs.Plans.{size}
-use Rattle.transcript_log.specs.declared.Event.{Event}
-use Rattle.transcript_log.specs.Schedule.{Shape, survivors, answered, is_announced}
+use Rattle.event_schedule.specs.declared.Event.{Event}
+use Rattle.event_schedule.specs.Schedule.{Shape, survivors, answered, is_announced}
 use Rattle.mask_graphs.specs.Graphs.{Graph}
 use Rattle.sparse_masks.specs.declared.round.Round.{Round}
 use Rattle.sparse_masks.specs.Trees.{joined_to, component}

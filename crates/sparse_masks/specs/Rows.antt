@@ -2,11 +2,11 @@
 use Rattle.std.specs.Prelude.{ℕ, zero, suc, List, [], ◌∷◌, ◌++◌, Some, None, codes, reverse}
 use Rattle.group_plan.specs.declared.Kind.TheVariants.{Reading, Announcement, Answer}
 use Rattle.group_plan.specs.Plans.{Rounds, Group, PlanView}
-use Rattle.transcript_log.specs.declared.Event.{Event}
-use Rattle.transcript_log.specs.declared.Event.TheVariants.{Close, End}
-use Rattle.transcript_log.specs.Rows.{sends, takes, all}
-use Rattle.transcript_log.specs.Tables.{Readings}
-use Rattle.transcript_log.specs.Transcript.{shape_of_readings}
+use Rattle.event_schedule.specs.declared.Event.{Event}
+use Rattle.event_schedule.specs.declared.Event.TheVariants.{Close, End}
+use Rattle.event_schedule.specs.Rows.{sends, takes, all}
+use Rattle.event_schedule.specs.Tables.{Readings}
+use Rattle.event_schedule.specs.Transcript.{shape_of_readings}
 use Rattle.mask_graphs.specs.Graphs.{Graph}
 use Rattle.sparse_masks.specs.Offsets.{ring_graph}
 

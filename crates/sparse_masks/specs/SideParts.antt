@@ -2,7 +2,7 @@
 use Rattle.std.specs.Prelude.{◌≡◌, ℕ, ◌<◌, List, length}
 use Rattle.group_plan.specs.Plans.{size}
 use Rattle.group_plan.specs.Tables.{ReadingsView, reading}
-use Rattle.transcript_log.specs.Tables.{Masks}
+use Rattle.event_schedule.specs.Tables.{Masks}
 use Rattle.group_book.specs.Books.{BookView, shape_of, past}
 use Rattle.ideal_masks.specs.declared.Offset.{Offset}
 use Rattle.ideal_masks.specs.Offsets.{delta}

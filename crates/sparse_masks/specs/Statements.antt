@@ -2,9 +2,9 @@
 use Rattle.std.specs.Prelude.{◌≡◌, ℕ, ◌+◌, ◌-◌, ◌%◌, ◌<◌, ◌==◌, nat_le, Bool, true, not, ◌&&◌, ◌||◌, List, reverse, is_some}
 use Rattle.missing_round.specs.Sets.{is_member}
 use Rattle.group_plan.specs.Plans.{Group}
-use Rattle.transcript_log.specs.declared.Event.{Event}
-use Rattle.transcript_log.specs.Tables.{Readings, Masks, IsOfPlan, IsBounded}
-use Rattle.transcript_log.specs.Transcript.{transcript}
+use Rattle.event_schedule.specs.declared.Event.{Event}
+use Rattle.event_schedule.specs.Tables.{Readings, Masks, IsOfPlan, IsBounded}
+use Rattle.event_schedule.specs.Transcript.{transcript}
 use Rattle.ideal_masks.specs.Offsets.{shift}
 use Rattle.mask_graphs.specs.Graphs.{Graph}
 use Rattle.sparse_masks.specs.Neighbours.{are_neighbours, ring}

@@ -1,8 +1,8 @@
 //! What masks between neighbours alone keep, for every width, plan, table and schedule. Each law is a contract with an empty body.
 
 ghost use Rattle.std.specs.Prelude.{◌≡◌, ◌-◌, ◌^◌, true, [], ◌∷◌, Some, None};
-ghost use Rattle.transcript_log.specs.Rows.{all};
-ghost use Rattle.transcript_log.specs.Tables.{plain_sum};
+ghost use Rattle.event_schedule.specs.Rows.{all};
+ghost use Rattle.event_schedule.specs.Tables.{plain_sum};
 ghost use Rattle.ideal_masks.specs.Moves.{offset_list};
 ghost use Rattle.ideal_masks.specs.Rows.{pair_by};
 ghost use Rattle.ideal_masks.specs.Statements.{Undone};
@@ -28,7 +28,7 @@ pub fn isolated()
 
 /// Worked rows of a ring of four meters and width 1. Where the last meter has no reading, the three others are one component, and one
 /// pair word moves. Where each second one has none, each reading is a component of its own, and opened.
-#[tactic(auto, unfolding(transcript_log::specs::Events::once))]
+#[tactic(auto, unfolding(event_schedule::specs::Events::once))]
 pub fn rounds()
     ensures three { component three_round 2 ≡ all }
     ensures three_opened { is_component_opened three_round 2 ≡ true }

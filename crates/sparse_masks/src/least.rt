@@ -1,7 +1,7 @@
 //! The fewest members of an opened component.
 ghost use Rattle.std.specs.Prelude.{◌≡◌, ◌+◌, ◌<◌, ◌&&◌, Some, IsTrue, IfOk, length, reverse, if◌then◌else◌};
-ghost use Rattle.transcript_log.specs.Events.{events_of, lines_of};
-ghost use Rattle.transcript_log.specs.Frames.{shape_of_lines};
+ghost use Rattle.event_schedule.specs.Events.{events_of, lines_of};
+ghost use Rattle.event_schedule.specs.Frames.{shape_of_lines};
 ghost use Rattle.missing_round.specs.Sets.{is_member};
 ghost use Rattle.group_book.specs.Books.{shape_of, past, has_round};
 ghost use Rattle.sparse_masks.specs.Trees.{component, is_component_opened};

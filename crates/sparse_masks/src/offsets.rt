@@ -2,8 +2,8 @@
 ghost use Rattle.std.specs.Prelude.{◌≡◌, ◌+◌, ◌-◌, ◌<◌, ◌++◌, false, IfOk, IfErr, OnOk, length};
 ghost use Rattle.std.specs.List.{flat_map, range_with_len};
 ghost use Rattle.group_plan.specs.Plans.{size};
-ghost use Rattle.transcript_log.specs.Events.{events_of};
-ghost use Rattle.transcript_log.specs.Schedule.{is_announced};
+ghost use Rattle.event_schedule.specs.Events.{events_of};
+ghost use Rattle.event_schedule.specs.Schedule.{is_announced};
 ghost use Rattle.pair_keys.specs.declared.KeyId.TheVariants.{Own, Pair};
 ghost use Rattle.group_book.specs.Books.{shape_of, past};
 ghost use Rattle.ideal_masks.specs.Moves.{moved, own_list, pair_list, offset_list};

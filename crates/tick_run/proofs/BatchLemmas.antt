@@ -12,10 +12,10 @@ use Rattle.group_plan.specs.declared.Kind.{Kind}
 use Rattle.group_plan.specs.declared.Tag.{Tag}
 use Rattle.link_lanes.specs.declared.Post.{Post}
 use Rattle.link_lanes.specs.Lanes.{Slot, fate_after, fates_after}
-use Rattle.transcript_log.specs.declared.Event.{Event}
-use Rattle.transcript_log.specs.declared.Event.TheVariants.{Send, Take, Close, End}
-use Rattle.transcript_log.specs.declared.Entry.{Entry}
-use Rattle.transcript_log.specs.Events.{is_take, is_send, is_close, is_end, event_of}
+use Rattle.event_schedule.specs.declared.Event.{Event}
+use Rattle.event_schedule.specs.declared.Event.TheVariants.{Send, Take, Close, End}
+use Rattle.event_schedule.specs.declared.Entry.{Entry}
+use Rattle.event_schedule.specs.Events.{is_take, is_send, is_close, is_end, event_of}
 use Rattle.run_rows.specs.Ticks.{phase, moment, takes_at, copies, tags_of, sent_at, posts_of, StandsOnce}
 use Rattle.tick_run.specs.Progress.{IsBatch}
 

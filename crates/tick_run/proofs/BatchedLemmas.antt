@@ -5,10 +5,10 @@ use Rattle.missing_round.specs.Masks.{Masks}
 use Rattle.group_plan.specs.Tables.{ReadingsView}
 use Rattle.group_plan.specs.declared.Tag.{Tag}
 use Rattle.lossy_link.specs.Arrivals.{Arrival}
-use Rattle.transcript_log.specs.declared.Event.TheVariants.{Take}
-use Rattle.transcript_log.specs.declared.Entry.{Entry}
+use Rattle.event_schedule.specs.declared.Event.TheVariants.{Take}
+use Rattle.event_schedule.specs.declared.Entry.{Entry}
 use Rattle.run_rows.specs.Ticks.{clock_of}
-use Rattle.transcript_log.specs.Transcripts.{TranscriptView}
+use Rattle.event_schedule.specs.Transcripts.{TranscriptView}
 use Rattle.group_book.specs.Books.{BookView}
 use Rattle.tick_run.specs.Running.{emptied, taken, closed, AreRunning, HaveCome, KeepCopies, quiet, calls_due}
 use Rattle.plan_meters.specs.Came.{frames_in, tags_of}

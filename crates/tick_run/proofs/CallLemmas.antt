@@ -5,10 +5,10 @@ use Rattle.std.specs.List.{sum_by, count_by, list_any}
 use mathlib.Core.Path.{fun_ext}
 use Rattle.std.proofs.lemmas.Bool.Decides.{nat_tests}
 use Rattle.std.proofs.lemmas.List.Sums.{sum_by-cons, sum_by-append}
-use Rattle.transcript_log.specs.declared.Event.{Event}
-use Rattle.transcript_log.specs.declared.Event.TheVariants.{Close, End}
-use Rattle.transcript_log.specs.Events.{is_close, is_end}
-use Rattle.transcript_log.proofs.ListLemmas.{sum_by-flat_map}
+use Rattle.event_schedule.specs.declared.Event.{Event}
+use Rattle.event_schedule.specs.declared.Event.TheVariants.{Close, End}
+use Rattle.event_schedule.specs.Events.{is_close, is_end}
+use Rattle.event_schedule.proofs.ListLemmas.{sum_by-flat_map}
 use Rattle.run_rows.specs.Ticks.{Clock}
 use Rattle.tick_run.specs.Running.{is_due, calls_of, calls_due}
 

@@ -4,11 +4,11 @@ use Rattle.std.specs.List.{All}
 use Rattle.std.proofs.lemmas.List.{map-append}
 use Rattle.missing_round.specs.Masks.{Masks}
 use Rattle.group_plan.specs.Tables.{ReadingsView, PresenceView, presence_of}
-use Rattle.transcript_log.specs.declared.Line.{Line}
-use Rattle.transcript_log.specs.declared.Entry.{Entry}
-use Rattle.transcript_log.specs.Events.{event_of, lines_of}
+use Rattle.event_schedule.specs.declared.Line.{Line}
+use Rattle.event_schedule.specs.declared.Entry.{Entry}
+use Rattle.event_schedule.specs.Events.{event_of, lines_of}
 use Rattle.group_book.specs.Books.{BookView}
-use Rattle.transcript_log.specs.ByGroup.{group_of, lines_in}
+use Rattle.event_schedule.specs.ByGroup.{group_of, lines_in}
 use Rattle.group_book.specs.Groups.{GroupView}
 use Rattle.group_book.specs.Replay.{IsLedger, Replays}
 use Rattle.group_book.proofs.OwnLines.{groups_stay}

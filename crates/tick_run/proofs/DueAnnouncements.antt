@@ -7,8 +7,8 @@ use Rattle.std.proofs.lemmas.Bool.{ne_eqb, cases_eq}
 use Rattle.std.proofs.lemmas.Bool.Decides.{nat_tests}
 use Rattle.missing_round.specs.Sets.{less}
 use Rattle.missing_round.proofs.SetLemmas.{less-filter}
-use Rattle.transcript_log.specs.declared.Event.{Event}
-use Rattle.transcript_log.specs.Schedule.{Shape, members_of, is_announced, is_reading_taken, survivors, missing}
+use Rattle.event_schedule.specs.declared.Event.{Event}
+use Rattle.event_schedule.specs.Schedule.{Shape, members_of, is_announced, is_reading_taken, survivors, missing}
 use Rattle.tick_run.specs.TickFrames.{announcement_frame, announcements_at}
 use Rattle.plan_meters.proofs.GroupLemmas.{flat_none}
 

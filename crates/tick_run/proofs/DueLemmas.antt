@@ -11,11 +11,11 @@ use Rattle.group_plan.specs.Plans.{size, is_member}
 use Rattle.group_plan.specs.declared.Kind.TheVariants.{Reading, Announcement, Answer}
 use Rattle.group_plan.specs.declared.Tag.{Tag}
 use Rattle.meter_frames.specs.declared.Frame.{Frame}
-use Rattle.transcript_log.specs.declared.Event.{Event}
-use Rattle.transcript_log.specs.declared.Entry.{Entry}
-use Rattle.transcript_log.specs.Tables.{Readings}
-use Rattle.transcript_log.specs.Schedule.{Shape, members_of, is_announced, is_reading_taken, survivors, missing, may_send}
-use Rattle.transcript_log.specs.Transcript.{Contents, contents_of_tables, set_sent, word_sent, frame}
+use Rattle.event_schedule.specs.declared.Event.{Event}
+use Rattle.event_schedule.specs.declared.Entry.{Entry}
+use Rattle.event_schedule.specs.Tables.{Readings}
+use Rattle.event_schedule.specs.Schedule.{Shape, members_of, is_announced, is_reading_taken, survivors, missing, may_send}
+use Rattle.event_schedule.specs.Transcript.{Contents, contents_of_tables, set_sent, word_sent, frame}
 use Rattle.run_rows.specs.Ticks.{Clock, tag_of, tags, takes_at, due_of}
 use Rattle.tick_run.specs.Progress.{past_of_entries}
 use Rattle.plan_meters.specs.TickFrames.{was_taken, reading_frame, answer_frame, AreHeard}

@@ -9,11 +9,11 @@ use Rattle.std.proofs.lemmas.List.Elements.{All-weaker}
 use Rattle.group_plan.specs.declared.Kind.{Kind}
 use Rattle.group_plan.specs.declared.Kind.TheVariants.{Reading, Announcement, Answer}
 use Rattle.group_plan.specs.declared.Tag.{Tag}
-use Rattle.transcript_log.specs.declared.Entry.{Entry}
-use Rattle.transcript_log.specs.Events.{is_send, event_of}
-use Rattle.transcript_log.specs.Schedule.{Shape, is_announced, survivors, members_of}
-use Rattle.transcript_log.proofs.EventLemmas.{is_send-true}
-use Rattle.transcript_log.proofs.ListLemmas.{flat_map_same}
+use Rattle.event_schedule.specs.declared.Entry.{Entry}
+use Rattle.event_schedule.specs.Events.{is_send, event_of}
+use Rattle.event_schedule.specs.Schedule.{Shape, is_announced, survivors, members_of}
+use Rattle.event_schedule.proofs.EventLemmas.{is_send-true}
+use Rattle.event_schedule.proofs.ListLemmas.{flat_map_same}
 use Rattle.run_rows.specs.Ticks.{Clock, last_tick, tag_of, tags, takes_at, copies, due_of, HaveDelays}
 use Rattle.run_rows.proofs.TickLemmas.{Member}
 use Rattle.run_rows.proofs.TickRun.{all_member}

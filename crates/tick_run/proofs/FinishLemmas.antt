@@ -6,13 +6,13 @@ use Rattle.group_plan.specs.Plans.{PlanView, IsWithinLimits}
 use Rattle.group_plan.specs.Tables.{ReadingsView, IsReadingTable, reading}
 use Rattle.link_lanes.specs.declared.Post.{Post}
 use Rattle.link_lanes.specs.Lanes.{Slot}
-use Rattle.transcript_log.specs.declared.Entry.{Entry}
-use Rattle.transcript_log.specs.Events.{events_of, lines_of}
-use Rattle.transcript_log.specs.Tables.{IsBounded}
-use Rattle.transcript_log.specs.Transcript.{transcript, lines_after, contents_of_tables}
-use Rattle.transcript_log.specs.Journal.{IsJournalAfter, HasFramesOf}
-use Rattle.transcript_log.proofs.JournalLemmas.{journal_is}
-use Rattle.transcript_log.specs.Transcripts.{TranscriptView, no_entries}
+use Rattle.event_schedule.specs.declared.Entry.{Entry}
+use Rattle.event_schedule.specs.Events.{events_of, lines_of}
+use Rattle.event_schedule.specs.Tables.{IsBounded}
+use Rattle.event_schedule.specs.Transcript.{transcript, lines_after, contents_of_tables}
+use Rattle.event_schedule.specs.Journal.{IsJournalAfter, HasFramesOf}
+use Rattle.event_schedule.proofs.JournalLemmas.{journal_is}
+use Rattle.event_schedule.specs.Transcripts.{TranscriptView, no_entries}
 use Rattle.tick_run.specs.Running.{run_contents}
 use Rattle.plan_meters.specs.TickFrames.{run_shape}
 use Rattle.tick_run.specs.Sending.{KeptFates}

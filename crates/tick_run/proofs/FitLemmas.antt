@@ -8,16 +8,16 @@ use Rattle.group_plan.specs.Plans.{PlanView, is_place, size}
 use Rattle.round_machine.specs.declared.Closing.TheVariants as closings
 use Rattle.round_machine.specs.declared.Ending.TheVariants as endings
 use Rattle.meter_frames.specs.declared.Frame.{Frame}
-use Rattle.transcript_log.specs.declared.Event.{Event}
-use Rattle.transcript_log.specs.declared.Event.TheVariants.{Send, Take, Close, End}
-use Rattle.transcript_log.specs.declared.Line.{Line}
-use Rattle.transcript_log.specs.declared.Line.TheVariants.{Send as SendLine, Take as TakeLine, Close as CloseLine, End as EndLine}
-use Rattle.transcript_log.specs.Events.{event_of, frame_of}
-use Rattle.transcript_log.specs.Schedule.{Shape, is_closed, is_ended, is_announced, reaches_floor, is_answer_taken, all_taken, survivors, missing, lacking, closing}
-use Rattle.transcript_log.specs.Transcript.{Contents, ending}
-use Rattle.transcript_log.specs.Frames.{contents_of_lines}
-use Rattle.transcript_log.specs.Journal.{past_of, core_line, IsJournalAfter}
-use Rattle.transcript_log.specs.Transcripts.{HasRound, FitsClosing, FitsEnding, FitsLine}
+use Rattle.event_schedule.specs.declared.Event.{Event}
+use Rattle.event_schedule.specs.declared.Event.TheVariants.{Send, Take, Close, End}
+use Rattle.event_schedule.specs.declared.Line.{Line}
+use Rattle.event_schedule.specs.declared.Line.TheVariants.{Send as SendLine, Take as TakeLine, Close as CloseLine, End as EndLine}
+use Rattle.event_schedule.specs.Events.{event_of, frame_of}
+use Rattle.event_schedule.specs.Schedule.{Shape, is_closed, is_ended, is_announced, reaches_floor, is_answer_taken, all_taken, survivors, missing, lacking, closing}
+use Rattle.event_schedule.specs.Transcript.{Contents, ending}
+use Rattle.event_schedule.specs.Frames.{contents_of_lines}
+use Rattle.event_schedule.specs.Journal.{past_of, core_line, IsJournalAfter}
+use Rattle.event_schedule.specs.Transcripts.{HasRound, FitsClosing, FitsEnding, FitsLine}
 use Rattle.group_book.specs.Places.{is_round}
 use Rattle.run_rows.specs.Ticks.{Clock}
 use Rattle.tick_run.specs.GroupRuns.{takes_of}

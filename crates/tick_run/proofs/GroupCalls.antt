@@ -12,18 +12,18 @@ use Rattle.lossy_link.specs.Arrivals.{Arrival, posted}
 use Rattle.round_machine.specs.declared.Verdict.{Verdict}
 use Rattle.round_machine.specs.declared.Closing.{Closing}
 use Rattle.round_machine.specs.declared.Ending.{Ending}
-use Rattle.transcript_log.specs.declared.Event.{Event}
-use Rattle.transcript_log.specs.declared.Event.TheVariants.{Take, Close, End}
-use Rattle.transcript_log.specs.declared.Line.{Line}
-use Rattle.transcript_log.specs.declared.Line.TheVariants.{Send as SendLine, Take as TakeLine, Close as CloseLine, End as EndLine}
-use Rattle.transcript_log.specs.Events.{event_of}
+use Rattle.event_schedule.specs.declared.Event.{Event}
+use Rattle.event_schedule.specs.declared.Event.TheVariants.{Take, Close, End}
+use Rattle.event_schedule.specs.declared.Line.{Line}
+use Rattle.event_schedule.specs.declared.Line.TheVariants.{Send as SendLine, Take as TakeLine, Close as CloseLine, End as EndLine}
+use Rattle.event_schedule.specs.Events.{event_of}
 use Rattle.transcript_log.specs.Lines.{LinesView}
 use Rattle.run_rows.specs.Ticks.{Clock}
 use Rattle.group_book.specs.declared.answers.SendAnswer.{SendAnswer}
 use Rattle.group_book.specs.declared.answers.TakeError.{TakeError}
 use Rattle.group_book.specs.declared.answers.TakeError.TheVariants as refused
 use Rattle.group_book.specs.Books.{SendEnds, TakeEnds, CloseEnds, EndEnds, is_plain}
-use Rattle.transcript_log.specs.ByGroup.{group_of}
+use Rattle.event_schedule.specs.ByGroup.{group_of}
 use Rattle.group_book.specs.Groups.{GroupView}
 use Rattle.group_book.specs.Replay.{Replays, PagesEnd, book_at}
 use Rattle.group_book.proofs.PlainLines.{posted_in-added}

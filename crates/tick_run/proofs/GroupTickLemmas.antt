@@ -15,24 +15,24 @@ use Rattle.lossy_link.specs.Arrivals.{Arrival, due_at, due_elsewhere}
 use Rattle.meter_core.specs.Meters.{MeterView}
 use Rattle.meter_frames.specs.declared.Frame.{Frame}
 use Rattle.meter_frames.specs.Frames.{IsFrame, FitsKind}
-use Rattle.transcript_log.specs.declared.Event.{Event}
-use Rattle.transcript_log.specs.declared.Event.TheVariants.{Take}
-use Rattle.transcript_log.specs.declared.Line.{Line}
-use Rattle.transcript_log.specs.declared.Line.TheVariants.{Send as SendLine, Take as TakeLine, Close as CloseLine, End as EndLine}
-use Rattle.transcript_log.specs.declared.Entry.{Entry}
+use Rattle.event_schedule.specs.declared.Event.{Event}
+use Rattle.event_schedule.specs.declared.Event.TheVariants.{Take}
+use Rattle.event_schedule.specs.declared.Line.{Line}
+use Rattle.event_schedule.specs.declared.Line.TheVariants.{Send as SendLine, Take as TakeLine, Close as CloseLine, End as EndLine}
+use Rattle.event_schedule.specs.declared.Entry.{Entry}
 use Rattle.transcript_log.specs.Drafts.{quiet}
-use Rattle.transcript_log.specs.Events.{event_of, lines_of}
-use Rattle.transcript_log.specs.Journal.{past_of, HasFramesOf}
-use Rattle.transcript_log.specs.Lines.{LinesView, HasOwnTag}
+use Rattle.event_schedule.specs.Events.{event_of, lines_of}
+use Rattle.event_schedule.specs.Journal.{past_of, HasFramesOf}
+use Rattle.transcript_log.specs.Lines.{LinesView}
 use Rattle.group_plan.specs.declared.Kind.TheVariants.{Announcement}
-use Rattle.transcript_log.specs.Schedule.{Shape, members_of, is_announced, survivors, missing}
-use Rattle.transcript_log.specs.Transcript.{Contents, frame}
-use Rattle.transcript_log.specs.Transcripts.{TranscriptView, FitsLine}
-use Rattle.transcript_log.proofs.EventLemmas.{is_send-true}
-use Rattle.transcript_log.proofs.ListLemmas.{sum_by-map}
+use Rattle.event_schedule.specs.Schedule.{Shape, members_of, is_announced, survivors, missing}
+use Rattle.event_schedule.specs.Transcript.{Contents, frame}
+use Rattle.event_schedule.specs.Transcripts.{TranscriptView, FitsLine}
+use Rattle.event_schedule.proofs.EventLemmas.{is_send-true}
+use Rattle.event_schedule.proofs.ListLemmas.{sum_by-map}
 use Rattle.run_rows.specs.Ticks.{clock_of, phase, tag_of}
 use Rattle.group_book.specs.Books.{BookView, past}
-use Rattle.transcript_log.specs.ByGroup.{group_of}
+use Rattle.event_schedule.specs.ByGroup.{group_of}
 use Rattle.group_book.specs.Groups.{GroupView}
 use Rattle.group_book.specs.Replay.{Replays, book_at}
 use Rattle.plan_meters.specs.Came.{frame_in, tag_in, frames_in, tags_of}
@@ -360,21 +360,6 @@ cut-parts xs ys zs work lines from to =
       sends_are = ap (λ n. drop n work.lines.items) to ∙ ap (drop (length (xs ++ ys))) lines ∙ drop-append_seam (xs ++ ys) zs;
     }
 
--- a line that is no Send has no frame
-own_tag : (k : ℕ) (l : Line) → k < 2 → phase (event_of l) ≡ k → HasOwnTag l
-own_tag k (SendLine tag None) small is = tt
-own_tag k (SendLine tag (Some f)) small is = absurd (omega arith)
-own_tag k (TakeLine tag w) small is = tt
-own_tag k (CloseLine g r w) small is = tt
-own_tag k (EndLine g r w) small is = tt
-
-own_tags : (k : ℕ) (ls : List Line) → k < 2 → All (λ l. phase (event_of l) ≡ k) ls → All HasOwnTag ls
-own_tags k ls small all = All-weaker (λ l. phase (event_of l) ≡ k) HasOwnTag (λ l is. own_tag k l small is) ls all
-
-sent_tags : (frames : List Frame) → All HasOwnTag (map send_line frames)
-sent_tags [] = All-nil HasOwnTag
-sent_tags (f ∷ frames) = All-cons HasOwnTag (send_line f) (map send_line frames) refl (sent_tags frames)
-
 -- what the calls of a tick have made is its tick
 pub group-ticks : (readings : ReadingsView) (m : Masks) (t g : ℕ) (entries : List Entry) (waiting : List Arrival) (copies : List (List ℕ)) (came heard : List Frame) (kept : GroupView) (after : GroupWork)
     → (taken_before taken_after closed_before closed_after sent_before sent_after : LinesView) (v w : GroupView)
@@ -409,9 +394,6 @@ group-ticks readings m t g entries waiting copies came heard kept after taken_be
       parts = record {
         closed = cut.order;
         sent = cut.within;
-        own = subst (All HasOwnTag) (sym lines_are)
-            (All-append HasOwnTag (takes.added ++ closes.added) sent_lines
-            (All-append HasOwnTag takes.added closes.added (own_tags 0 takes.added (omega arith) take_phases) (own_tags 1 closes.added (omega arith) close_phases)) (sent_tags after.frames.items));
       };
       takes = subst (All (λ l. phase (event_of l) ≡ 0)) (sym cut.taken_are) take_phases;
       closes = subst (All (λ l. phase (event_of l) ≡ 1)) (sym cut.closed_are) close_phases;
@@ -521,7 +503,7 @@ pub ticks-noted : (readings : ReadingsView) (m : Masks) (t : ℕ) (entries : Lis
     → GroupTicks readings m t entries g kept work → GroupTicks readings m t entries g kept (record work { fates = met; failed = failed })
 ticks-noted readings m t entries g kept work met failed tick = record {
   group = tick.group;
-  parts = record { closed = tick.parts.closed; sent = tick.parts.sent; own = tick.parts.own };
+  parts = record { closed = tick.parts.closed; sent = tick.parts.sent };
   takes = tick.takes;
   closes = tick.closes;
   sends = tick.sends;

@@ -6,11 +6,11 @@ use Rattle.std.proofs.lemmas.List.Elements.{All-nil, All-cons, All-head, All-tai
 use Rattle.std.proofs.lemmas.List.FromFn.{length-range_with_len, get_or-range_with_len}
 use mathlib.Core.Logic.{dite}
 use native.Mathlib.Decide.{ℕ_discrete}
-use Rattle.transcript_log.specs.declared.Line.{Line}
-use Rattle.transcript_log.specs.Events.{event_of}
+use Rattle.event_schedule.specs.declared.Line.{Line}
+use Rattle.event_schedule.specs.Events.{event_of}
 use Rattle.group_book.specs.declared.book.Parts.{Parts}
 use Rattle.group_book.specs.Books.{BookView}
-use Rattle.transcript_log.specs.ByGroup.{group_of, lines_in}
+use Rattle.event_schedule.specs.ByGroup.{group_of, lines_in}
 use Rattle.group_book.specs.Replay.{AreReplayed}
 use Rattle.group_book.proofs.OwnLines.{groups_stay}
 use Rattle.shared_book.specs.declared.parts.SharedBook.{SharedBook}

@@ -6,12 +6,12 @@ use Rattle.std.proofs.lemmas.List.{drop_more, map-append}
 use Rattle.std.proofs.lemmas.List.Elements.{All-head, All-tail, All-nil, All-append}
 use Rattle.group_plan.specs.Plans.{PlanView}
 use Rattle.meter_frames.specs.declared.Frame.{Frame}
-use Rattle.transcript_log.specs.declared.Line.{Line}
-use Rattle.transcript_log.specs.declared.Line.TheVariants.{Send as SendLine}
-use Rattle.transcript_log.specs.declared.Entry.{Entry}
+use Rattle.event_schedule.specs.declared.Line.{Line}
+use Rattle.event_schedule.specs.declared.Line.TheVariants.{Send as SendLine}
+use Rattle.event_schedule.specs.declared.Entry.{Entry}
 use Rattle.transcript_log.specs.Drafts.{quiet, Begins}
-use Rattle.transcript_log.specs.Events.{lines_of}
-use Rattle.transcript_log.specs.Transcripts.{TranscriptView, FitsLine, last_tick_from}
+use Rattle.event_schedule.specs.Events.{lines_of}
+use Rattle.event_schedule.specs.Transcripts.{TranscriptView, FitsLine, last_tick_from}
 use Rattle.tick_run.specs.declared.running.Group.{Group}
 use Rattle.tick_run.specs.ByGroups.{taken_by, closed_by, sends_by, sent_by, quiet_then, whole_then, Fated, IsButFates}
 use Rattle.tick_run.specs.GroupRuns.{send_line, taken_in, closed_in, sends_in, sent_with}
@@ -56,12 +56,6 @@ last_quiet t from (x ∷ xs) ls le = last_quiet t x.tick xs ls le
 
 item_of : {X : Type 0} (k : ℕ) (xs : List X) (x : X) → x ≡ get_or xs k x → k < length xs → drop k xs ≡ x ∷ drop (k + 1) xs
 item_of k xs x at lt = drop_more xs k x lt ∙ ap (λ y. y ∷ drop (k + 1) xs) (sym at)
-
--- a part of a list begins with its first line
-pub part-next : (xs : List Line) (at to : ℕ) (x : Line) → at < to → to ≤ length xs → x ≡ get_or xs at x → take (to - at) (drop at xs) ≡ x ∷ take (to - (at + 1)) (drop (at + 1) xs)
-part-next xs at to x lt within is =
-    let more : to - at ≡ suc (to - (at + 1)) = omega arith in
-    ap (λ n. take n (drop at xs)) more ∙ ap (take (suc (to - (at + 1)))) (item_of at xs x is (omega arith))
 
 -- of a group, the first k Sends have their entries
 pub record Stamping (t k : ℕ) (frames : List Frame) (fates : List (List ℕ)) (script now : TranscriptView) : Type 0 where

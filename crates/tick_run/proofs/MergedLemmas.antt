@@ -8,8 +8,8 @@ use Rattle.group_plan.specs.Plans.{size, members}
 use Rattle.group_plan.specs.Tables.{PresenceView, ReadingsView, reading, presence_of}
 use Rattle.group_plan.specs.declared.Kind.TheVariants.{Announcement}
 use Rattle.meter_frames.specs.declared.Frame.{Frame}
-use Rattle.transcript_log.specs.declared.Event.{Event}
-use Rattle.transcript_log.specs.Schedule.{Shape, shape_of_presence, members_of, missing}
+use Rattle.event_schedule.specs.declared.Event.{Event}
+use Rattle.event_schedule.specs.Schedule.{Shape, shape_of_presence, members_of, missing}
 use Rattle.run_rows.specs.Ticks.{clock_of, tag_of}
 use Rattle.plan_meters.specs.Came.{tags_of}
 use Rattle.group_book.specs.Books.{BookView, past}

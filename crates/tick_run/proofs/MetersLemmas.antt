@@ -1,8 +1,8 @@
 -- Announcements that were taken, as the head end goes on.
 use Rattle.std.proofs.Common.{◌≡◌, true, List}
-use Rattle.transcript_log.specs.declared.Event.{Event}
-use Rattle.transcript_log.specs.Schedule.{Shape, is_announced}
-use Rattle.transcript_log.proofs.ScheduleLemmas.{is_announced-from_sent, is_announcement_sent-from_taken}
+use Rattle.event_schedule.specs.declared.Event.{Event}
+use Rattle.event_schedule.specs.Schedule.{Shape, is_announced}
+use Rattle.event_schedule.proofs.ScheduleLemmas.{is_announced-from_sent, is_announcement_sent-from_taken}
 use Rattle.tick_run.specs.Progress.{KeepSets}
 use Rattle.plan_meters.proofs.MeterLemmas.{KeepTold}
 

@@ -2,7 +2,7 @@
 use Rattle.std.proofs.Common.{◌≡◌, ℕ, ◌+◌, ◌<◌, ◌≤◌, List, [], ◌∷◌, ◌++◌, arith}
 use Rattle.std.specs.List.{All}
 use Rattle.std.proofs.lemmas.List.Elements.{All-head, All-tail}
-use Rattle.transcript_log.specs.declared.Entry.{Entry}
+use Rattle.event_schedule.specs.declared.Entry.{Entry}
 use Rattle.run_rows.specs.Ticks.{moment, IsOrdered, NoneBefore}
 
 none_before : (m k : ℕ) (ys : List Entry) → m ≤ k → All (λ e. moment e ≡ k) ys → NoneBefore m ys

@@ -8,7 +8,7 @@ use Rattle.std.proofs.lemmas.List.Elements.{All-nil, All-push, All-append, All-t
 use Rattle.link_lanes.specs.declared.Post.{Post}
 use Rattle.link_lanes.specs.Lanes.{Slot, after_post}
 use Rattle.meter_frames.specs.declared.Frame.{Frame}
-use Rattle.transcript_log.specs.declared.Entry.{Entry}
+use Rattle.event_schedule.specs.declared.Entry.{Entry}
 use Rattle.tick_run.specs.declared.running.Group.{Group}
 use Rattle.tick_run.specs.ByGroups.{hung_after, fates_met, Passes, PassesBehind, frames_by, fates_by, Fated, IsButFates}
 use Rattle.tick_run.specs.GroupRuns.{sent_with}

@@ -10,13 +10,13 @@ use Rattle.std.proofs.lemmas.List.Sums.{sum_by-cons, sum_by-append}
 use Rattle.group_plan.specs.declared.Kind.{Kind}
 use Rattle.group_plan.specs.declared.Kind.TheVariants.{Reading, Announcement, Answer}
 use Rattle.group_plan.specs.declared.Tag.{Tag}
-use Rattle.transcript_log.specs.declared.Event.{Event}
-use Rattle.transcript_log.specs.declared.Event.TheVariants.{Send, Take, Close, End}
-use Rattle.transcript_log.specs.declared.Entry.{Entry}
-use Rattle.transcript_log.specs.Events.{is_take, event_of, events_of}
-use Rattle.transcript_log.specs.Schedule.{Shape, is_closed, is_sent, is_announced, reaches_floor, survivors, members_of, floor_of, is_announcement_sent, is_announcement_taken}
-use Rattle.transcript_log.proofs.ScheduleLemmas.{after, after-keeps, after-reverse_aux, once-more, once-now, is_closed-more, is_announced-more, survivors-after, missing-after}
-use Rattle.transcript_log.proofs.ListLemmas.{flat_map_same}
+use Rattle.event_schedule.specs.declared.Event.{Event}
+use Rattle.event_schedule.specs.declared.Event.TheVariants.{Send, Take, Close, End}
+use Rattle.event_schedule.specs.declared.Entry.{Entry}
+use Rattle.event_schedule.specs.Events.{is_take, event_of, events_of}
+use Rattle.event_schedule.specs.Schedule.{Shape, is_closed, is_sent, is_announced, reaches_floor, survivors, members_of, floor_of, is_announcement_sent, is_announcement_taken}
+use Rattle.event_schedule.proofs.ScheduleLemmas.{after, after-keeps, after-reverse_aux, once-more, once-now, is_closed-more, is_announced-more, survivors-after, missing-after}
+use Rattle.event_schedule.proofs.ListLemmas.{flat_map_same}
 use Rattle.run_rows.specs.Ticks.{Clock, tag_of, tags, takes_at, due_of}
 use Rattle.tick_run.specs.Progress.{HadEffect, KeepSets, past_of_entries}
 

@@ -9,16 +9,16 @@ use Rattle.group_plan.specs.declared.Kind.TheVariants.{Reading, Announcement, An
 use Rattle.group_plan.specs.declared.Tag.{Tag}
 use Rattle.meter_frames.specs.declared.Frame.{Frame}
 use Rattle.meter_frames.specs.Frames.{FitsKind}
-use Rattle.transcript_log.specs.declared.Event.{Event}
-use Rattle.transcript_log.specs.declared.Event.TheVariants.{Send}
-use Rattle.transcript_log.specs.declared.Line.{Line}
-use Rattle.transcript_log.specs.declared.Line.TheVariants.{Send as SendLine, Take as TakeLine, Close as CloseLine, End as EndLine}
-use Rattle.transcript_log.specs.Events.{is_send, event_of, frame_of}
-use Rattle.transcript_log.specs.Schedule.{Shape, may_send}
-use Rattle.transcript_log.specs.Transcript.{Contents, set_sent, word_sent, frame}
-use Rattle.transcript_log.specs.Journal.{past_of, core_line, HasFramesOf}
-use Rattle.transcript_log.proofs.EventLemmas.{is_send-true}
-use Rattle.transcript_log.proofs.ScheduleLemmas.{after, after-keeps, after-reverse_aux}
+use Rattle.event_schedule.specs.declared.Event.{Event}
+use Rattle.event_schedule.specs.declared.Event.TheVariants.{Send}
+use Rattle.event_schedule.specs.declared.Line.{Line}
+use Rattle.event_schedule.specs.declared.Line.TheVariants.{Send as SendLine, Take as TakeLine, Close as CloseLine, End as EndLine}
+use Rattle.event_schedule.specs.Events.{is_send, event_of, frame_of}
+use Rattle.event_schedule.specs.Schedule.{Shape, may_send}
+use Rattle.event_schedule.specs.Transcript.{Contents, set_sent, word_sent, frame}
+use Rattle.event_schedule.specs.Journal.{past_of, core_line, HasFramesOf}
+use Rattle.event_schedule.proofs.EventLemmas.{is_send-true}
+use Rattle.event_schedule.proofs.ScheduleLemmas.{after, after-keeps, after-reverse_aux}
 use Rattle.run_rows.specs.Ticks.{tag_of}
 use Rattle.group_book.specs.declared.answers.SendAnswer.{SendAnswer}
 use Rattle.group_book.specs.declared.answers.SendAnswer.TheVariants.{Unknown, NotAllowed, WrongSet, Differs, Sent}

@@ -6,9 +6,9 @@ use Rattle.group_plan.specs.Plans.{IsWithinLimits, last_tick}
 use Rattle.group_plan.specs.Tables.{ReadingsView, PresenceView, IsReadingTable, IsPresenceTable}
 use Rattle.link_lanes.specs.declared.Post.{Post}
 use Rattle.link_lanes.specs.Lanes.{Slot}
-use Rattle.transcript_log.specs.declared.Entry.{Entry}
+use Rattle.event_schedule.specs.declared.Entry.{Entry}
 use Rattle.run_rows.specs.Ticks.{clock_of, last_tick as last_of}
-use Rattle.transcript_log.specs.Transcripts.{TranscriptView}
+use Rattle.event_schedule.specs.Transcripts.{TranscriptView}
 use Rattle.group_book.specs.Books.{BookView}
 use Rattle.shared_book.specs.Ends.{opening}
 use Rattle.tick_run.specs.declared.finished.Finished.{Finished}

@@ -10,13 +10,13 @@ use Rattle.group_plan.specs.declared.Kind.{Kind}
 use Rattle.group_plan.specs.declared.Kind.TheVariants.{Reading, Announcement, Answer}
 use Rattle.group_plan.specs.declared.Tag.{Tag}
 use Rattle.meter_frames.specs.declared.Frame.{Frame}
-use Rattle.transcript_log.specs.declared.Event.{Event}
-use Rattle.transcript_log.specs.declared.Event.TheVariants.{Send}
-use Rattle.transcript_log.specs.declared.Entry.{Entry}
-use Rattle.transcript_log.specs.Events.{is_send, is_close, is_end, event_of}
-use Rattle.transcript_log.specs.Schedule.{Shape, is_sent, may_send}
-use Rattle.transcript_log.proofs.EventLemmas.{is_send-itself}
-use Rattle.transcript_log.proofs.ScheduleLemmas.{after, once-now}
+use Rattle.event_schedule.specs.declared.Event.{Event}
+use Rattle.event_schedule.specs.declared.Event.TheVariants.{Send}
+use Rattle.event_schedule.specs.declared.Entry.{Entry}
+use Rattle.event_schedule.specs.Events.{is_send, is_close, is_end, event_of}
+use Rattle.event_schedule.specs.Schedule.{Shape, is_sent, may_send}
+use Rattle.event_schedule.proofs.EventLemmas.{is_send-itself}
+use Rattle.event_schedule.proofs.ScheduleLemmas.{after, once-now}
 use Rattle.run_rows.specs.Ticks.{Clock, phase, moment, tag_of, takes_at, copies, tags_of, sent_at, due_of, posts_of}
 use Rattle.tick_run.specs.Progress.{IsDelay, IsInTime, HadEffect, past_of_entries, is_round_of, RunsTo, sending}
 use Rattle.tick_run.proofs.OrderLemmas.{ordered-append}

@@ -11,12 +11,12 @@ use Rattle.link_lanes.specs.Lanes.{Slot, after_post, after_posts, lasts, fates_a
 use Rattle.lossy_link.specs.Arrivals.{Arrival, posted}
 use Rattle.meter_frames.specs.declared.Frame.{Frame}
 use Rattle.meter_frames.specs.Frames.{spelling, IsFrame}
-use Rattle.transcript_log.specs.declared.Line.TheVariants.{Send as SendLine}
-use Rattle.transcript_log.specs.declared.Entry.{Entry}
-use Rattle.transcript_log.specs.Schedule.{Shape}
-use Rattle.transcript_log.specs.Transcript.{Contents}
+use Rattle.event_schedule.specs.declared.Line.TheVariants.{Send as SendLine}
+use Rattle.event_schedule.specs.declared.Entry.{Entry}
+use Rattle.event_schedule.specs.Schedule.{Shape}
+use Rattle.event_schedule.specs.Transcript.{Contents}
 use Rattle.run_rows.specs.Ticks.{Clock, clock_of, sent_at}
-use Rattle.transcript_log.specs.Transcripts.{TranscriptView}
+use Rattle.event_schedule.specs.Transcripts.{TranscriptView}
 use Rattle.group_book.specs.Books.{BookView}
 use Rattle.tick_run.specs.Progress.{IsDelay, past_of_entries, sending}
 use Rattle.tick_run.specs.TickFrames.{IsDue}

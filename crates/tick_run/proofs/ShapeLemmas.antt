@@ -2,8 +2,8 @@
 use Rattle.std.proofs.Common.{◌≡◌, ℕ, Bool, ap}
 use mathlib.Core.Path.{fun_ext}
 use Rattle.group_plan.specs.Tables.{ReadingsView, reading}
-use Rattle.transcript_log.specs.Schedule.{Shape}
-use Rattle.transcript_log.specs.Transcript.{shape_of_readings}
+use Rattle.event_schedule.specs.Schedule.{Shape}
+use Rattle.event_schedule.specs.Transcript.{shape_of_readings}
 use Rattle.plan_meters.specs.TickFrames.{run_shape}
 use Rattle.plan_meters.proofs.ShapeLemmas.{present_is}
 

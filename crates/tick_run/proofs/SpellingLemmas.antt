@@ -6,11 +6,11 @@ use Rattle.std.proofs.lemmas.List.{map-append}
 use Rattle.group_plan.specs.declared.Tag.{Tag}
 use Rattle.meter_frames.specs.declared.Frame.{Frame}
 use Rattle.meter_frames.specs.Frames.{spelling, IsFrame}
-use Rattle.transcript_log.specs.declared.Line.{Line}
-use Rattle.transcript_log.specs.declared.Line.TheVariants.{Send as SendLine}
-use Rattle.transcript_log.specs.declared.Entry.{Entry}
-use Rattle.transcript_log.specs.Events.{is_send, event_of, frame_of, lines_of}
-use Rattle.transcript_log.proofs.EventLemmas.{is_send-itself}
+use Rattle.event_schedule.specs.declared.Line.{Line}
+use Rattle.event_schedule.specs.declared.Line.TheVariants.{Send as SendLine}
+use Rattle.event_schedule.specs.declared.Entry.{Entry}
+use Rattle.event_schedule.specs.Events.{is_send, event_of, frame_of, lines_of}
+use Rattle.event_schedule.proofs.EventLemmas.{is_send-itself}
 use Rattle.group_book.specs.Books.{posted, posted_in, IsFree}
 use Rattle.tick_run.specs.OnTheWay.{IsOfSend}
 

@@ -14,18 +14,18 @@ use Rattle.group_plan.specs.declared.Tag.{Tag}
 use Rattle.lossy_link.specs.Arrivals.{Arrival, posted, due_at, due_elsewhere}
 use Rattle.meter_frames.specs.declared.Frame.{Frame}
 use Rattle.meter_frames.specs.Frames.{spelling, IsFrame}
-use Rattle.transcript_log.specs.declared.Event.{Event}
-use Rattle.transcript_log.specs.declared.Event.TheVariants.{Take, Close, End}
-use Rattle.transcript_log.specs.declared.Line.{Line}
-use Rattle.transcript_log.specs.declared.Line.TheVariants.{Send as SendLine}
-use Rattle.transcript_log.specs.declared.Entry.{Entry}
-use Rattle.transcript_log.specs.Events.{is_take, is_close, is_end, event_of, lines_of}
-use Rattle.transcript_log.specs.Schedule.{Shape}
-use Rattle.transcript_log.specs.Transcript.{Contents, frame}
-use Rattle.transcript_log.specs.Journal.{HasFramesOf}
-use Rattle.transcript_log.proofs.ListLemmas.{sum_by-map}
+use Rattle.event_schedule.specs.declared.Event.{Event}
+use Rattle.event_schedule.specs.declared.Event.TheVariants.{Take, Close, End}
+use Rattle.event_schedule.specs.declared.Line.{Line}
+use Rattle.event_schedule.specs.declared.Line.TheVariants.{Send as SendLine}
+use Rattle.event_schedule.specs.declared.Entry.{Entry}
+use Rattle.event_schedule.specs.Events.{is_take, is_close, is_end, event_of, lines_of}
+use Rattle.event_schedule.specs.Schedule.{Shape}
+use Rattle.event_schedule.specs.Transcript.{Contents, frame}
+use Rattle.event_schedule.specs.Journal.{HasFramesOf}
+use Rattle.event_schedule.proofs.ListLemmas.{sum_by-map}
 use Rattle.run_rows.specs.Ticks.{Clock, clock_of, phase, tag_of, takes_at, copies, sent_at, due_of}
-use Rattle.transcript_log.specs.Transcripts.{TranscriptView, no_entries}
+use Rattle.event_schedule.specs.Transcripts.{TranscriptView, no_entries}
 use Rattle.group_book.specs.Books.{BookView}
 use Rattle.plan_meters.specs.Came.{same_tag, tag_in, frames_in, tags_of}
 use Rattle.tick_run.specs.OnTheWay.{is_copy, IsOfSend}

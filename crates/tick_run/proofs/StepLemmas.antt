@@ -7,12 +7,12 @@ use Rattle.std.proofs.lemmas.List.Elements.{All-head, All-tail, All-weaker, All-
 use Rattle.std.proofs.lemmas.List.Sums.{sum_by-cons, sum_by-append}
 use Rattle.group_plan.specs.declared.Kind.TheVariants.{Announcement}
 use Rattle.group_plan.specs.declared.Tag.{Tag}
-use Rattle.transcript_log.specs.declared.Event.{Event}
-use Rattle.transcript_log.specs.declared.Event.TheVariants.{Send, Take, Close, End}
-use Rattle.transcript_log.specs.declared.Entry.{Entry}
-use Rattle.transcript_log.specs.Events.{is_take, is_send, is_close, is_end, event_of}
-use Rattle.transcript_log.specs.Schedule.{Shape, is_closed, is_sent, is_announcement_taken}
-use Rattle.transcript_log.proofs.EventLemmas.{is_send-true}
+use Rattle.event_schedule.specs.declared.Event.{Event}
+use Rattle.event_schedule.specs.declared.Event.TheVariants.{Send, Take, Close, End}
+use Rattle.event_schedule.specs.declared.Entry.{Entry}
+use Rattle.event_schedule.specs.Events.{is_take, is_send, is_close, is_end, event_of}
+use Rattle.event_schedule.specs.Schedule.{Shape, is_closed, is_sent, is_announcement_taken}
+use Rattle.event_schedule.proofs.EventLemmas.{is_send-true}
 use Rattle.run_rows.specs.Ticks.{Clock, phase, moment, tag_of, takes_at, copies, tags_of, sent_at, due_of}
 use Rattle.run_rows.proofs.TickLemmas.{Member, Stands, once-from}
 use Rattle.run_rows.proofs.TickRun.{once_stands, events-reverse, all_member}

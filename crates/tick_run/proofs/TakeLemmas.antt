@@ -10,17 +10,17 @@ use Rattle.group_plan.specs.Plans.{size}
 use Rattle.group_plan.specs.Tables.{ReadingsView}
 use Rattle.group_plan.specs.declared.Tag.{Tag}
 use Rattle.lossy_link.specs.Arrivals.{Arrival}
-use Rattle.transcript_log.specs.declared.Entry.{Entry}
-use Rattle.transcript_log.specs.declared.Event.{Event}
-use Rattle.transcript_log.specs.Events.{same_kind, lines_of}
-use Rattle.transcript_log.specs.Schedule.{Shape, missing}
-use Rattle.transcript_log.specs.Transcript.{Contents, set_sent, frame}
-use Rattle.transcript_log.specs.Journal.{past_of}
+use Rattle.event_schedule.specs.declared.Entry.{Entry}
+use Rattle.event_schedule.specs.declared.Event.{Event}
+use Rattle.event_schedule.specs.Events.{same_kind, lines_of}
+use Rattle.event_schedule.specs.Schedule.{Shape, missing}
+use Rattle.event_schedule.specs.Transcript.{Contents, set_sent, frame}
+use Rattle.event_schedule.specs.Journal.{past_of}
 use Rattle.group_plan.specs.declared.Kind.{Kind}
 use Rattle.group_plan.specs.declared.Kind.TheVariants.{Reading, Announcement, Answer}
-use Rattle.transcript_log.proofs.EventLemmas.{is_send-itself}
+use Rattle.event_schedule.proofs.EventLemmas.{is_send-itself}
 use Rattle.run_rows.specs.Ticks.{Clock, clock_of, copies}
-use Rattle.transcript_log.specs.Transcripts.{TranscriptView}
+use Rattle.event_schedule.specs.Transcripts.{TranscriptView}
 use Rattle.group_book.specs.Books.{BookView, knows, past, posted_in}
 use Rattle.plan_meters.specs.Came.{same_tag, frame_in, tag_in, frames_in, tags_of, IsSpelling}
 use Rattle.tick_run.specs.OnTheWay.{IsOfSend}

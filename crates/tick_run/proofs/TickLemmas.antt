@@ -9,11 +9,11 @@ use Rattle.group_plan.specs.Tables.{ReadingsView}
 use Rattle.link_lanes.specs.declared.Post.{Post}
 use Rattle.link_lanes.specs.Lanes.{Slot}
 use Rattle.meter_frames.specs.declared.Frame.{Frame}
-use Rattle.transcript_log.specs.declared.Line.{Line}
-use Rattle.transcript_log.specs.declared.Entry.{Entry}
+use Rattle.event_schedule.specs.declared.Line.{Line}
+use Rattle.event_schedule.specs.declared.Entry.{Entry}
 use Rattle.transcript_log.specs.Drafts.{quiet}
-use Rattle.transcript_log.specs.Events.{event_of, lines_of}
-use Rattle.transcript_log.specs.Transcripts.{TranscriptView, last_tick_from}
+use Rattle.event_schedule.specs.Events.{event_of, lines_of}
+use Rattle.event_schedule.specs.Transcripts.{TranscriptView, last_tick_from}
 use Rattle.run_rows.specs.ByGroup.{entries_in}
 use Rattle.run_rows.specs.Ticks.{moment, phase, posts_of}
 use Rattle.plan_meters.proofs.RangeLemmas.{range_long}

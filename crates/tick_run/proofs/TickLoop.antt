@@ -12,11 +12,11 @@ use Rattle.group_plan.specs.Tables.{ReadingsView, reading}
 use Rattle.group_plan.specs.declared.Tag.{Tag}
 use Rattle.lossy_link.specs.Arrivals.{Arrival}
 use Rattle.meter_frames.specs.declared.Frame.{Frame}
-use Rattle.transcript_log.specs.declared.Event.{Event}
-use Rattle.transcript_log.specs.Schedule.{Shape}
-use Rattle.transcript_log.specs.Journal.{past_of}
+use Rattle.event_schedule.specs.declared.Event.{Event}
+use Rattle.event_schedule.specs.Schedule.{Shape}
+use Rattle.event_schedule.specs.Journal.{past_of}
 use Rattle.run_rows.specs.Ticks.{Clock, clock_of, sent_at}
-use Rattle.transcript_log.specs.Transcripts.{TranscriptView}
+use Rattle.event_schedule.specs.Transcripts.{TranscriptView}
 use Rattle.group_book.specs.Books.{BookView, past}
 use Rattle.tick_run.specs.Progress.{past_of_entries}
 use Rattle.tick_run.specs.TickFrames.{frames_due, IsDue}

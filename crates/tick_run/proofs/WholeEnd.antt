@@ -7,14 +7,14 @@ use Rattle.group_plan.specs.Plans.{IsWithinLimits}
 use Rattle.group_plan.specs.Tables.{ReadingsView, PresenceView, IsReadingTable, IsPresenceTable, presence_of}
 use Rattle.link_lanes.specs.declared.Post.{Post}
 use Rattle.link_lanes.specs.Lanes.{Slot, fates_after}
-use Rattle.transcript_log.specs.declared.Entry.{Entry}
-use Rattle.transcript_log.specs.declared.Line.{Line}
-use Rattle.transcript_log.specs.Events.{lines_of}
-use Rattle.transcript_log.specs.Journal.{HasFramesOf}
-use Rattle.transcript_log.specs.Schedule.{Shape}
-use Rattle.transcript_log.specs.Transcripts.{TranscriptView}
+use Rattle.event_schedule.specs.declared.Entry.{Entry}
+use Rattle.event_schedule.specs.declared.Line.{Line}
+use Rattle.event_schedule.specs.Events.{lines_of}
+use Rattle.event_schedule.specs.Journal.{HasFramesOf}
+use Rattle.event_schedule.specs.Schedule.{Shape}
+use Rattle.event_schedule.specs.Transcripts.{TranscriptView}
 use Rattle.group_book.specs.Books.{BookView}
-use Rattle.transcript_log.specs.ByGroup.{lines_in}
+use Rattle.event_schedule.specs.ByGroup.{lines_in}
 use Rattle.group_book.specs.Replay.{IsLedger}
 use Rattle.run_rows.specs.ByGroup.{entries_in}
 use Rattle.run_rows.specs.Ticks.{Clock, clock_of, last_tick}

@@ -9,18 +9,18 @@ use Rattle.group_plan.specs.Tables.{PresenceView, IsPresenceTable}
 use Rattle.group_plan.specs.declared.Kind.{Kind}
 use Rattle.group_plan.specs.declared.Kind.TheVariants.{Reading, Announcement, Answer}
 use Rattle.group_plan.specs.declared.Tag.{Tag}
-use Rattle.transcript_log.specs.declared.Event.{Event}
-use Rattle.transcript_log.specs.declared.Line.{Line}
-use Rattle.transcript_log.specs.declared.Line.TheVariants.{Send as SendLine, Take as TakeLine, Close as CloseLine, End as EndLine}
-use Rattle.transcript_log.specs.declared.Entry.{Entry}
-use Rattle.transcript_log.specs.Events.{once, event_of, lines_of}
-use Rattle.transcript_log.specs.Journal.{past_of, HasFramesOf}
-use Rattle.transcript_log.specs.Schedule.{Shape, may_send, shape_of_presence, is_sent}
-use Rattle.transcript_log.specs.Transcript.{Contents, set_sent, word_sent, frame}
+use Rattle.event_schedule.specs.declared.Event.{Event}
+use Rattle.event_schedule.specs.declared.Line.{Line}
+use Rattle.event_schedule.specs.declared.Line.TheVariants.{Send as SendLine, Take as TakeLine, Close as CloseLine, End as EndLine}
+use Rattle.event_schedule.specs.declared.Entry.{Entry}
+use Rattle.event_schedule.specs.Events.{once, event_of, lines_of}
+use Rattle.event_schedule.specs.Journal.{past_of, HasFramesOf}
+use Rattle.event_schedule.specs.Schedule.{Shape, may_send, shape_of_presence, is_sent}
+use Rattle.event_schedule.specs.Transcript.{Contents, set_sent, word_sent, frame}
 use Rattle.group_book.specs.Books.{posted}
-use Rattle.transcript_log.specs.ByGroup.{group_of, events_in, lines_in}
+use Rattle.event_schedule.specs.ByGroup.{group_of, events_in, lines_in}
 use Rattle.group_book.specs.Replay.{IsLedger}
-use Rattle.transcript_log.proofs.EventsByGroup.{may_send-in, set_sent-in, missing-in, sent-in}
+use Rattle.event_schedule.proofs.EventsByGroup.{may_send-in, set_sent-in, missing-in, sent-in}
 use Rattle.group_book.proofs.LinesByGroup.{past-in, posted-in, push-here, push-elsewhere, journal-whole}
 use Rattle.run_rows.specs.ByGroup.{entries_in, IsGroupRun}
 use Rattle.run_rows.specs.Ticks.{Clock, last_tick}

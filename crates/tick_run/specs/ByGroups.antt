@@ -3,11 +3,11 @@ use Rattle.std.specs.Prelude.{◌≡◌, ℕ, ◌*◌, ◌<◌, List, [], ◌∷
 use Rattle.std.specs.List.{AllZip, flat_map, range_with_len}
 use Rattle.missing_round.specs.Masks.{Masks}
 use Rattle.group_plan.specs.Tables.{ReadingsView}
-use Rattle.transcript_log.specs.declared.Line.{Line}
-use Rattle.transcript_log.specs.declared.Entry.{Entry}
+use Rattle.event_schedule.specs.declared.Line.{Line}
+use Rattle.event_schedule.specs.declared.Entry.{Entry}
 use Rattle.transcript_log.specs.Drafts.{quiet}
-use Rattle.transcript_log.specs.Events.{event_of, lines_of}
-use Rattle.transcript_log.specs.ByGroup.{group_of}
+use Rattle.event_schedule.specs.Events.{event_of, lines_of}
+use Rattle.event_schedule.specs.ByGroup.{group_of}
 use Rattle.group_book.specs.Groups.{GroupView}
 use Rattle.run_rows.specs.ByGroup.{entries_in}
 use Rattle.run_rows.specs.Ticks.{moment, sent_at, IsOrdered}

@@ -6,14 +6,14 @@ use Rattle.missing_round.specs.Masks.{Masks}
 use Rattle.pair_keys.specs.Keys.{Keys}
 use Rattle.mask_stream.specs.KeyStreams.{streams}
 use Rattle.link_lanes.specs.Lanes.{Slot}
-use Rattle.transcript_log.specs.declared.Entry.{Entry}
-use Rattle.transcript_log.specs.Events.{events_of, lines_of}
-use Rattle.transcript_log.specs.Frames.{contents_of_lines}
-use Rattle.transcript_log.specs.Schedule.{shape_of_presence}
-use Rattle.transcript_log.specs.Transcript.{transcript}
+use Rattle.event_schedule.specs.declared.Entry.{Entry}
+use Rattle.event_schedule.specs.Events.{events_of, lines_of}
+use Rattle.event_schedule.specs.Frames.{contents_of_lines}
+use Rattle.event_schedule.specs.Schedule.{shape_of_presence}
+use Rattle.event_schedule.specs.Transcript.{transcript}
 use Rattle.run_rows.specs.Report.{fate_at, outcome_row, row}
 use Rattle.run_rows.specs.Ticks.{clock_of, HaveDelays, IsTickRun, posts_of}
-use Rattle.transcript_log.specs.Transcripts.{TranscriptView}
+use Rattle.event_schedule.specs.Transcripts.{TranscriptView}
 use Rattle.group_book.specs.Books.{BookView, has_round, past, shape_of}
 
 -- the entries are a tick run whose lines are the transcript of its events under these mask words; the book has these lines

@@ -7,21 +7,21 @@ use Rattle.lossy_link.specs.Arrivals.{Arrival, posted}
 use Rattle.meter_core.specs.Meters.{MeterView}
 use Rattle.meter_frames.specs.declared.Frame.{Frame}
 use Rattle.meter_frames.specs.Frames.{spelling, IsFrame, FitsKind}
-use Rattle.transcript_log.specs.declared.Event.{Event}
-use Rattle.transcript_log.specs.declared.Event.TheVariants.{Send, Take, Close, End}
-use Rattle.transcript_log.specs.declared.Line.{Line}
-use Rattle.transcript_log.specs.declared.Line.TheVariants.{Send as SendLine}
-use Rattle.transcript_log.specs.declared.Entry.{Entry}
+use Rattle.event_schedule.specs.declared.Event.{Event}
+use Rattle.event_schedule.specs.declared.Event.TheVariants.{Send, Take, Close, End}
+use Rattle.event_schedule.specs.declared.Line.{Line}
+use Rattle.event_schedule.specs.declared.Line.TheVariants.{Send as SendLine}
+use Rattle.event_schedule.specs.declared.Entry.{Entry}
 use Rattle.transcript_log.specs.Drafts.{quiet}
-use Rattle.transcript_log.specs.Events.{event_of, lines_of}
-use Rattle.transcript_log.specs.Journal.{past_of, core_line}
-use Rattle.transcript_log.specs.Lines.{LinesView, HasOwnTag}
-use Rattle.transcript_log.specs.Schedule.{shape_of_presence}
-use Rattle.transcript_log.specs.Transcripts.{TranscriptView, FitsLine}
+use Rattle.event_schedule.specs.Events.{event_of, lines_of}
+use Rattle.event_schedule.specs.Journal.{past_of, core_line}
+use Rattle.transcript_log.specs.Lines.{LinesView}
+use Rattle.event_schedule.specs.Schedule.{shape_of_presence}
+use Rattle.event_schedule.specs.Transcripts.{TranscriptView, FitsLine}
 use Rattle.group_book.specs.declared.answers.SendAnswer.{SendAnswer}
 use Rattle.run_rows.specs.Ticks.{phase}
 use Rattle.group_book.specs.Books.{BookView, Adds, SendEnds, posted_in}
-use Rattle.transcript_log.specs.ByGroup.{group_of}
+use Rattle.event_schedule.specs.ByGroup.{group_of}
 use Rattle.group_book.specs.Groups.{GroupView}
 use Rattle.group_book.specs.Replay.{IsLedger, Replays, book_at}
 use Rattle.plan_meters.specs.GroupMeters.{AreGroupMeters}
@@ -143,11 +143,10 @@ closed_in work = take (work.sent_from - work.closed_from) (drop work.closed_from
 abbrev pub sends_in : GroupWork → List Line
 sends_in work = drop work.sent_from work.lines.items
 
--- these parts are one after another, and each frame in them has its line's tag
+-- these parts are one after another
 pub record IsInParts (work : GroupWork) : Type 0 where
   pub closed : work.closed_from ≤ work.sent_from
   pub sent : work.sent_from ≤ length work.lines.items
-  pub own : All HasOwnTag work.lines.items
 
 -- a group before tick t. Its entries are a run of the group up to there; its pages, its meters and its copies are those of these entries. The frames
 -- of the tick before have met these fates, and their copies are not on their way yet

@@ -6,8 +6,8 @@ use Rattle.link_lanes.specs.declared.Post.{Post}
 use Rattle.lossy_link.specs.Arrivals.{Arrival}
 use Rattle.meter_frames.specs.declared.Frame.{Frame}
 use Rattle.meter_frames.specs.Frames.{spelling, IsFrame}
-use Rattle.transcript_log.specs.declared.Entry.{Entry}
-use Rattle.transcript_log.specs.Events.{lines_of}
+use Rattle.event_schedule.specs.declared.Entry.{Entry}
+use Rattle.event_schedule.specs.Events.{lines_of}
 use Rattle.run_rows.specs.Ticks.{copies}
 use Rattle.group_book.specs.Books.{posted_in}
 use Rattle.plan_meters.specs.Came.{same_tag, tag_in}

@@ -5,13 +5,13 @@ use Rattle.group_plan.specs.declared.Kind.{Kind}
 use Rattle.group_plan.specs.declared.Kind.TheVariants.{Reading, Announcement, Answer}
 use Rattle.group_plan.specs.declared.Tag.{Tag}
 use Rattle.group_plan.specs.Plans.{size}
-use Rattle.transcript_log.specs.declared.Event.{Event}
-use Rattle.transcript_log.specs.declared.Event.TheVariants.{Send}
+use Rattle.event_schedule.specs.declared.Event.{Event}
+use Rattle.event_schedule.specs.declared.Event.TheVariants.{Send}
 use Rattle.meter_frames.specs.declared.Frame.{Frame}
-use Rattle.transcript_log.specs.declared.Line.TheVariants.{Send as SendLine}
-use Rattle.transcript_log.specs.declared.Entry.{Entry}
-use Rattle.transcript_log.specs.Events.{event_of, events_of, is_close, is_end}
-use Rattle.transcript_log.specs.Schedule.{Shape, is_sent, is_announced, missing, is_announcement_taken}
+use Rattle.event_schedule.specs.declared.Line.TheVariants.{Send as SendLine}
+use Rattle.event_schedule.specs.declared.Entry.{Entry}
+use Rattle.event_schedule.specs.Events.{event_of, events_of, is_close, is_end}
+use Rattle.event_schedule.specs.Schedule.{Shape, is_sent, is_announced, missing, is_announcement_taken}
 use Rattle.run_rows.specs.Ticks.{Clock, phase, moment, IsOrdered, takes_at, copies, StandsOnce, tags_of, tag_of, sent_at, due_of}
 
 -- a delay of a copy, in ticks

@@ -5,15 +5,15 @@ use Rattle.missing_round.specs.Masks.{Masks}
 use Rattle.group_plan.specs.Tables.{ReadingsView, reading, presence_of}
 use Rattle.group_plan.specs.declared.Tag.{Tag}
 use Rattle.lossy_link.specs.Arrivals.{Arrival}
-use Rattle.transcript_log.specs.declared.Event.{Event}
-use Rattle.transcript_log.specs.declared.Event.TheVariants.{Close, End}
-use Rattle.transcript_log.specs.declared.Line.{Line}
-use Rattle.transcript_log.specs.declared.Entry.{Entry}
-use Rattle.transcript_log.specs.Events.{event_of, lines_of}
-use Rattle.transcript_log.specs.Transcript.{Contents, contents_of_tables}
-use Rattle.transcript_log.specs.Journal.{HasFramesOf}
+use Rattle.event_schedule.specs.declared.Event.{Event}
+use Rattle.event_schedule.specs.declared.Event.TheVariants.{Close, End}
+use Rattle.event_schedule.specs.declared.Line.{Line}
+use Rattle.event_schedule.specs.declared.Entry.{Entry}
+use Rattle.event_schedule.specs.Events.{event_of, lines_of}
+use Rattle.event_schedule.specs.Transcript.{Contents, contents_of_tables}
+use Rattle.event_schedule.specs.Journal.{HasFramesOf}
 use Rattle.run_rows.specs.Ticks.{Clock, clock_of, copies}
-use Rattle.transcript_log.specs.Transcripts.{TranscriptView}
+use Rattle.event_schedule.specs.Transcripts.{TranscriptView}
 pub use Rattle.transcript_log.specs.Drafts.{quiet}
 use Rattle.group_book.specs.Books.{BookView}
 use Rattle.plan_meters.specs.Came.{same_tag, frames_in, tags_of}

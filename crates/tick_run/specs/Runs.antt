@@ -5,8 +5,8 @@ use Rattle.group_plan.specs.Plans.{PlanView, last_tick}
 use Rattle.group_plan.specs.Tables.{ReadingsView}
 use Rattle.link_lanes.specs.declared.Post.{Post}
 use Rattle.link_lanes.specs.Lanes.{Slot}
-use Rattle.transcript_log.specs.declared.Entry.{Entry}
-use Rattle.transcript_log.specs.Transcripts.{TranscriptView}
+use Rattle.event_schedule.specs.declared.Entry.{Entry}
+use Rattle.event_schedule.specs.Transcripts.{TranscriptView}
 use Rattle.plan_meters.specs.Hidden.{IsOfOnePlan}
 use Rattle.tick_run.specs.declared.context.Context.{Context}
 use Rattle.tick_run.specs.declared.running.Running.{Running}

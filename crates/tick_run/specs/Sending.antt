@@ -10,9 +10,9 @@ use Rattle.link_lanes.specs.Lanes.{Slot, after_post, after_posts, lasts, fate_th
 use Rattle.lossy_link.specs.Arrivals.{Arrival}
 use Rattle.meter_frames.specs.declared.Frame.{Frame}
 use Rattle.meter_frames.specs.Frames.{FitsKind}
-use Rattle.transcript_log.specs.declared.Entry.{Entry}
+use Rattle.event_schedule.specs.declared.Entry.{Entry}
 use Rattle.run_rows.specs.Ticks.{clock_of, sent_at, due_of, posts_of}
-use Rattle.transcript_log.specs.Transcripts.{TranscriptView}
+use Rattle.event_schedule.specs.Transcripts.{TranscriptView}
 use Rattle.group_book.specs.Books.{BookView}
 use Rattle.tick_run.specs.OnTheWay.{AreLanesAt}
 use Rattle.tick_run.specs.Progress.{KeepSets, past_of_entries}

@@ -1,8 +1,8 @@
 -- The shared book of a run: its first pass, and the pass of each group.
 use Rattle.std.specs.Prelude.{◌≡◌, ℕ, ◌+◌, ◌<◌, List, [], length, slice_index_or, None}
 use Rattle.std.specs.List.{range_with_len}
-use Rattle.transcript_log.specs.declared.Line.{Line}
-use Rattle.transcript_log.specs.ByGroup.{lines_in}
+use Rattle.event_schedule.specs.declared.Line.{Line}
+use Rattle.event_schedule.specs.ByGroup.{lines_in}
 use Rattle.group_book.specs.Replay.{IsLedger}
 use Rattle.shared_book.specs.declared.parts.SharedBook.{SharedBook}
 use Rattle.shared_book.specs.declared.parts.Pass.{Pass}

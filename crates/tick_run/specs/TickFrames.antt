@@ -7,11 +7,11 @@ use Rattle.group_plan.specs.declared.Kind.TheVariants.{Reading, Announcement, An
 use Rattle.group_plan.specs.declared.Tag.{Tag}
 use Rattle.meter_frames.specs.declared.Frame.{Frame}
 use Rattle.meter_frames.specs.Frames.{FitsKind}
-use Rattle.transcript_log.specs.declared.Event.{Event}
-use Rattle.transcript_log.specs.declared.Event.TheVariants.{Send}
-use Rattle.transcript_log.specs.Tables.{Readings}
-use Rattle.transcript_log.specs.Schedule.{Shape, members_of, is_announced, survivors, missing}
-use Rattle.transcript_log.specs.Transcript.{Contents, frame}
+use Rattle.event_schedule.specs.declared.Event.{Event}
+use Rattle.event_schedule.specs.declared.Event.TheVariants.{Send}
+use Rattle.event_schedule.specs.Tables.{Readings}
+use Rattle.event_schedule.specs.Schedule.{Shape, members_of, is_announced, survivors, missing}
+use Rattle.event_schedule.specs.Transcript.{Contents, frame}
 use Rattle.run_rows.specs.Ticks.{Clock, tag_of, tags}
 use Rattle.tick_run.specs.Progress.{IsInTime}
 use Rattle.plan_meters.specs.TickFrames.{answer_frame, reading_frame, was_taken}

@@ -3,9 +3,9 @@ use Rattle.std.specs.Prelude.{◌≡◌, ℕ, ◌+◌, List, [], ◌++◌, lengt
 use Rattle.missing_round.specs.Masks.{Masks}
 use Rattle.group_plan.specs.Tables.{ReadingsView, presence_of}
 use Rattle.plan_meters.specs.Meters.{AreOfGroup}
-use Rattle.transcript_log.specs.declared.Entry.{Entry}
-use Rattle.transcript_log.specs.Events.{lines_of}
-use Rattle.transcript_log.specs.Transcripts.{TranscriptView}
+use Rattle.event_schedule.specs.declared.Entry.{Entry}
+use Rattle.event_schedule.specs.Events.{lines_of}
+use Rattle.event_schedule.specs.Transcripts.{TranscriptView}
 use Rattle.tick_run.specs.declared.running.Group.{Group}
 use Rattle.tick_run.specs.declared.running.Running.{Running}
 use Rattle.shared_book.specs.declared.parts.SharedBook.{SharedBook}

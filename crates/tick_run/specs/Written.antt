@@ -1,7 +1,7 @@
 -- What a group made of a tick, as it is written down.
 use Rattle.std.specs.Prelude.{◌≡◌, [], map, All}
 use Rattle.group_plan.specs.Plans.{PlanView}
-use Rattle.transcript_log.specs.Transcripts.{FitsLine}
+use Rattle.event_schedule.specs.Transcripts.{FitsLine}
 use Rattle.tick_run.specs.declared.running.Group.{Group}
 use Rattle.tick_run.specs.GroupRuns.{send_line, IsInParts, taken_in, closed_in, sends_in}
 use Rattle.tick_run.specs.Sending.{IsOfPlan}

@@ -4,7 +4,7 @@ ghost use Rattle.std.specs.Prelude.{◌≡◌, ◌+◌, ◌<◌, ◌≤◌, ◌^
 ghost use Rattle.std.specs.List.{AllZip, list_any};
 ghost use Rattle.group_plan.specs.Tables.{presence_of};
 ghost use Rattle.link_lanes.specs.Racks.{slots, posts_of, spare_of, HasRoom};
-ghost use Rattle.transcript_log.specs.declared.Entry.{Entry as EntryView};
+ghost use Rattle.event_schedule.specs.declared.Entry.{Entry as EntryView};
 ghost use Rattle.plan_meters.specs.Hidden.{IsOfOnePlan};
 ghost use Rattle.shared_book.specs.Ends.{opening};
 ghost use Rattle.tick_run.specs.Progress.{IsDelay};

@@ -4,7 +4,7 @@ ghost use Rattle.std.specs.Prelude.{◌≡◌, ◌<◌, ◌+◌, [], length, IfO
 ghost use Rattle.std.specs.List.{AllZip, range_with_len};
 ghost use Rattle.group_plan.specs.Tables.{presence_of};
 ghost use Rattle.missing_round.specs.Masks.{Masks as MaskTable};
-ghost use Rattle.transcript_log.specs.Transcripts.{no_entries};
+ghost use Rattle.event_schedule.specs.Transcripts.{no_entries};
 ghost use Rattle.shared_book.specs.Ends.{opening, view, IsPassOf};
 ghost use Rattle.tick_run.specs.Sharing.{leading};
 ghost use Rattle.tick_run.specs.Whole.{RunsAt, IsFirst};

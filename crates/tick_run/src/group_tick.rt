@@ -4,9 +4,9 @@ ghost use Rattle.std.specs.Prelude.{◌≡◌, ◌+◌, ◌<◌, ◌≤◌, ◌-
 ghost use Rattle.missing_round.specs.Sets.{IsSet};
 ghost use Rattle.group_plan.specs.Tables.{PresenceView, presence_of};
 ghost use Rattle.meter_frames.specs.Frames.{FitsKind, IsFrame};
-ghost use Rattle.transcript_log.specs.declared.Entry.{Entry as EntryView};
-ghost use Rattle.transcript_log.specs.declared.Event.{Event};
-ghost use Rattle.transcript_log.specs.declared.Line.{Line as LineView};
+ghost use Rattle.event_schedule.specs.declared.Entry.{Entry as EntryView};
+ghost use Rattle.event_schedule.specs.declared.Event.{Event};
+ghost use Rattle.event_schedule.specs.declared.Line.{Line as LineView};
 ghost use Rattle.group_book.specs.Replay.{Replays, CanCall, book_at};
 ghost use Rattle.run_rows.specs.Ticks.{clock_of};
 ghost use Rattle.plan_meters.specs.Came.{frame_in, frames_in, IsSpelling};
@@ -20,6 +20,7 @@ ghost use Rattle.tick_run.specs.Running.{is_due, calls_of};
 ghost use Rattle.tick_run.specs.GroupRuns.{Calls, IsTakeable, takes_of, CanTakeAll, close_of, end_of, AreSendable, CanSendFrames, SendsAll, CanHearFrames, posted_all, IsGroupAt, CanTick, GroupTicks};
 
 use crate::announcements::add_announcements;
+use event_schedule::members;
 use group_book::GroupPages;
 use group_plan::{Plan, Presence};
 use link_lanes::Fate;
@@ -29,7 +30,7 @@ use meter_frames::{Frame, decode, encode};
 use missing_round::MeterSet;
 use plan_meters::{GroupMeters, Known, add_answer_frames, add_reading_frames};
 use std::alloc::{AllocError, Global};
-use transcript_log::{Lines, members};
+use transcript_log::Lines;
 
 /// What a group has between ticks beside its pages of the book: its meters, its copies on their way, the frames that it sent last with
 /// the fates that they met, and the lines of its last tick.

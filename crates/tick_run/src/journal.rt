@@ -1,11 +1,10 @@
 //! What all groups made of a tick, in the journal and in the transcript: their Takes, then their Closes and Ends, then their Sends.
 
 ghost use Rattle.std.specs.Prelude.{◌≡◌, ◌+◌, ◌-◌, ◌≤◌, ◌++◌, ◌∷◌, [], All, Some, length, take, drop, OnOk};
-ghost use Rattle.transcript_log.specs.declared.Line.TheVariants.{Send};
+ghost use Rattle.event_schedule.specs.declared.Line.TheVariants.{Send};
 ghost use Rattle.transcript_log.specs.Drafts.{Begins};
-ghost use Rattle.transcript_log.specs.Events.{lines_of};
-ghost use Rattle.transcript_log.specs.Lines.{HasOwnTag};
-ghost use Rattle.transcript_log.specs.Transcripts.{last_tick_from};
+ghost use Rattle.event_schedule.specs.Events.{lines_of};
+ghost use Rattle.event_schedule.specs.Transcripts.{last_tick_from};
 ghost use Rattle.tick_run.specs.ByGroups.{AllInParts, taken_by, closed_by, sends_by, sent_by, quiet_then, Fated};
 ghost use Rattle.tick_run.specs.GroupRuns.{sent_with};
 ghost use Rattle.tick_run.specs.Progress.{sending};
@@ -13,24 +12,11 @@ ghost use Rattle.tick_run.specs.Sending.{IsOfPlan};
 ghost use Rattle.tick_run.specs.Written.{Fits};
 
 use crate::running::Group;
+use event_schedule::{Entry, Line};
 use link_lanes::Fate;
 use meter_frames::Frame;
 use std::alloc::AllocError;
-use transcript_log::{Draft, Entry, Line, Lines};
-
-/// Adds some lines of a list to the journal: those from a place on, up to another.
-fn append_part(lines: &Lines, from: usize, to: usize, journal: &mut Lines) -> Result<(), AllocError>
-    requires order { from ≤ to }
-    requires within { to ≤ length lines.now.items }
-    requires own { All HasOwnTag lines.now.items }
-    ensures { OnOk result (journal.new.items ≡ journal.old.items ++ take (to - from) (drop from lines.now.items)) }
-{
-    journal.reserve((to - from) as u64)?;
-    for at in from..to {
-        journal.push_reserved(&lines.at(at));
-    }
-    Ok(())
-}
+use transcript_log::{Draft, Lines};
 
 /// Adds the Takes of all groups to the journal.
 fn add_taken(groups: &[Group], journal: &mut Lines) -> Result<(), AllocError>
@@ -39,7 +25,7 @@ fn add_taken(groups: &[Group], journal: &mut Lines) -> Result<(), AllocError>
 {
     for group in groups {
         let work = &group.work;
-        append_part(&work.lines, 0, work.closed_from, journal)?;
+        journal.append_part(&work.lines, 0, work.closed_from)?;
     }
     Ok(())
 }
@@ -51,7 +37,7 @@ fn add_closed(groups: &[Group], journal: &mut Lines) -> Result<(), AllocError>
 {
     for group in groups {
         let work = &group.work;
-        append_part(&work.lines, work.closed_from, work.sent_from, journal)?;
+        journal.append_part(&work.lines, work.closed_from, work.sent_from)?;
     }
     Ok(())
 }
@@ -63,7 +49,7 @@ fn add_sent(groups: &[Group], journal: &mut Lines) -> Result<(), AllocError>
 {
     for group in groups {
         let work = &group.work;
-        append_part(&work.lines, work.sent_from, work.lines.len(), journal)?;
+        journal.append_part(&work.lines, work.sent_from, work.lines.len())?;
     }
     Ok(())
 }

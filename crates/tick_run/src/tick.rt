@@ -3,8 +3,8 @@
 ghost use Rattle.std.specs.Prelude.{◌≡◌, ◌+◌, ◌++◌, ◌<◌, ◌≤◌, ◌^◌, List, length, All, OnOk};
 ghost use Rattle.link_lanes.specs.Lanes.{Slot};
 ghost use Rattle.link_lanes.specs.Racks.{slots, posts_of, spare_of, HasRoom};
-ghost use Rattle.transcript_log.specs.Events.{lines_of};
-ghost use Rattle.transcript_log.specs.Transcripts.{last_tick_from};
+ghost use Rattle.event_schedule.specs.Events.{lines_of};
+ghost use Rattle.event_schedule.specs.Transcripts.{last_tick_from};
 ghost use Rattle.tick_run.specs.ByGroups.{frames_by, sends_by, quiet_then, Passes};
 ghost use Rattle.tick_run.specs.Runs.{IsOfRun};
 ghost use Rattle.tick_run.specs.Sending.{KeptFates};

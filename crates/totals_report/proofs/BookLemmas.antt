@@ -7,7 +7,7 @@ use Rattle.std.proofs.lemmas.List.FromFn.{map-range_with_len_more}
 use Rattle.group_plan.specs.Plans.{Group, name_of}
 use Rattle.group_plan.specs.NewPlans.{stated}
 use Rattle.group_plan.specs.declared.plan.GroupPlan.{GroupPlan}
-use Rattle.transcript_log.specs.Schedule.{Outcome, Running, EndedThin, Published, Unpublished}
+use Rattle.event_schedule.specs.Schedule.{Outcome, Running, EndedThin, Published, Unpublished}
 use Rattle.group_book.specs.Books.{BookView, outcome_of, state_of}
 use Rattle.run_rows.specs.Report.{row_of}
 use Rattle.run_rows.specs.Summary.{Summary, is_sending, is_taking}

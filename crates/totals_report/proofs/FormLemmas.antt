@@ -8,7 +8,7 @@ use Rattle.std.proofs.lemmas.List.Sums.{count_by-le-length, length-filter}
 use Rattle.missing_round.specs.Sets.{IsSet, less}
 use Rattle.missing_round.proofs.SetLemmas.{filter-picked, less-filter, set-picked}
 use Rattle.group_plan.specs.Plans.{IsWithinLimits, is_member, members, size}
-use Rattle.transcript_log.specs.Schedule.{Running, EndedThin, Published, Unpublished, is_reading_taken}
+use Rattle.event_schedule.specs.Schedule.{Running, EndedThin, Published, Unpublished, is_reading_taken}
 use Rattle.group_book.specs.Books.{BookView, past, shape_of}
 use Rattle.run_rows.specs.Report.{row_of}
 use Rattle.totals_report.specs.declared.row.ReportRow.{ReportRow}

@@ -1,6 +1,6 @@
 -- The report and the summary of a book.
 use Rattle.std.specs.Prelude.{ℕ}
-use Rattle.transcript_log.specs.Frames.{contents_of_lines}
+use Rattle.event_schedule.specs.Frames.{contents_of_lines}
 use Rattle.run_rows.specs.Ticks.{clock_of}
 use Rattle.run_rows.specs.Report.{Row, outcome_row}
 use Rattle.run_rows.specs.Summary.{Summary, summary_of_lines}

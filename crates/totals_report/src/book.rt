@@ -10,10 +10,10 @@ ghost use Rattle.totals_report.specs.Reports.{group_rows, report_row, report_row
 use crate::counts::{Counts, count_lines, count_outcomes};
 use crate::row::{Report, ReportRow, RowOutcome};
 use crate::writing::{rows_text, summary_line};
+use event_schedule::members;
 use group_book::{Book, Outcome, OutcomeState};
 use group_plan::Plan;
 use std::alloc::{AllocError, Global};
-use transcript_log::members;
 
 /// How a round stands in a report. A report does not say whose answers were lacking.
 fn outcome_of_state(state: OutcomeState) -> RowOutcome

@@ -4,11 +4,11 @@ use Rattle.std.proofs.lemmas.List.{length-map, length-replicate}
 use Rattle.std.proofs.lemmas.List.Elements.{All-append, All-drop, All-map, All-weaker}
 use Rattle.std.proofs.Math.Seq.{drop-append_seam}
 use Rattle.group_plan.specs.Plans.{PlanView}
-use Rattle.transcript_log.specs.declared.Entry.{Entry}
-use Rattle.transcript_log.specs.declared.Line.{Line}
+use Rattle.event_schedule.specs.declared.Entry.{Entry}
+use Rattle.event_schedule.specs.declared.Line.{Line}
 use Rattle.transcript_log.specs.declared.transcript.Stamp.{Stamp}
-use Rattle.transcript_log.specs.Events.{lines_of}
-use Rattle.transcript_log.specs.Transcripts.{TranscriptView, Fits, FitsLine, IsEntry, IsFate, IsLine, IsTranscript, NeverFalls, last_tick_from}
+use Rattle.event_schedule.specs.Events.{lines_of}
+use Rattle.event_schedule.specs.Transcripts.{TranscriptView, Fits, FitsLine, IsEntry, IsFate, IsLine, IsTranscript, NeverFalls, last_tick_from}
 use Rattle.transcript_log.specs.Stamps.{entries_of, IsStamped}
 use Rattle.transcript_log.specs.Drafts.{Begins, IsDrafted, quiet}
 use Rattle.transcript_log.proofs.Pushing.{one_more}

@@ -5,14 +5,14 @@ use Rattle.std.proofs.lemmas.List.Elements.{All-head, All-tail, All-push, All-we
 use Rattle.group_plan.specs.declared.Kind.TheVariants.{Reading, Announcement, Answer}
 use Rattle.round_machine.specs.declared.Closing.TheVariants as closing
 use Rattle.round_machine.specs.declared.Ending.TheVariants as ending
-use Rattle.transcript_log.specs.declared.Line.{Line}
-use Rattle.transcript_log.specs.declared.Line.TheVariants.{Close, End}
+use Rattle.event_schedule.specs.declared.Line.{Line}
+use Rattle.event_schedule.specs.declared.Line.TheVariants.{Close, End}
 use Rattle.transcript_log.specs.declared.extras.Extra.{Extra}
 use Rattle.transcript_log.specs.declared.small.SmallLine.{SmallLine}
 use Rattle.transcript_log.specs.declared.small.SmallLine.TheVariants as small
 use Rattle.transcript_log.specs.Extras.{extra_at, Grows}
 use Rattle.transcript_log.specs.SmallLines.{sent, line_in, IsPlaced, IsKept, AreKept}
-use Rattle.transcript_log.specs.Transcripts.{IsLine}
+use Rattle.event_schedule.specs.Transcripts.{IsLine}
 
 -- ---- a longer list gives the same line, where the line's place is one of the shorter list
 

@@ -3,12 +3,12 @@ use Rattle.std.proofs.Common.{◌≡◌, ◌≤◌, ◌+◌, ◌++◌, ◌∷◌
 use Rattle.std.specs.Prelude.{OnOk, OnErr}
 use Rattle.std.proofs.lemmas.List.Elements.{All-push}
 use Rattle.group_plan.specs.Plans.{PlanView}
-use Rattle.transcript_log.specs.declared.Entry.{Entry}
-use Rattle.transcript_log.specs.declared.Line.{Line}
-use Rattle.transcript_log.specs.declared.Line.TheVariants.{Send, Take, Close, End}
+use Rattle.event_schedule.specs.declared.Entry.{Entry}
+use Rattle.event_schedule.specs.declared.Line.{Line}
+use Rattle.event_schedule.specs.declared.Line.TheVariants.{Send, Take, Close, End}
 use Rattle.transcript_log.specs.declared.transcript.Stamp.{Stamp}
 use Rattle.transcript_log.specs.Lines.{HasOwnTag}
-use Rattle.transcript_log.specs.Transcripts.{TranscriptView, Fits, FitsLine, IsEntry, IsTranscript, NeverFalls, Pushes, last_tick_from}
+use Rattle.event_schedule.specs.Transcripts.{TranscriptView, Fits, FitsLine, IsEntry, IsTranscript, NeverFalls, Pushes, last_tick_from}
 use Rattle.transcript_log.specs.Stamps.{entries_of, IsStamped}
 use Rattle.transcript_log.proofs.StampLemmas.{entries_of-push}
 

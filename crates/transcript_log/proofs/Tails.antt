@@ -3,11 +3,11 @@ use Rattle.std.proofs.Common.{◌≡◌, ℕ, zero, suc, ◌≤◌, ◌-◌, Lis
 use Rattle.std.proofs.lemmas.List.{length-drop}
 use Rattle.std.proofs.lemmas.List.Elements.{All-drop}
 use Rattle.group_plan.specs.Plans.{PlanView}
-use Rattle.transcript_log.specs.declared.Entry.{Entry}
-use Rattle.transcript_log.specs.declared.Line.{Line}
+use Rattle.event_schedule.specs.declared.Entry.{Entry}
+use Rattle.event_schedule.specs.declared.Line.{Line}
 use Rattle.transcript_log.specs.declared.transcript.Stamp.{Stamp}
-use Rattle.transcript_log.specs.Events.{lines_of}
-use Rattle.transcript_log.specs.Transcripts.{TranscriptView, Fits, IsEntry, IsTranscript, NeverFalls}
+use Rattle.event_schedule.specs.Events.{lines_of}
+use Rattle.event_schedule.specs.Transcripts.{TranscriptView, Fits, IsEntry, IsTranscript, NeverFalls}
 use Rattle.transcript_log.specs.Stamps.{entries_of, IsStamped}
 use Rattle.transcript_log.specs.Drafts.{IsDrafted}
 use Rattle.transcript_log.proofs.Drafting.{stamped, finished}

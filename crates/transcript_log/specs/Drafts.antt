@@ -1,10 +1,10 @@
 -- How a draft is kept: a stamp for each entry, and a journal that begins with their lines.
 use Rattle.std.specs.Prelude.{◌≡◌, ℕ, ◌≤◌, List, [], ◌++◌, length}
 use Rattle.group_plan.specs.Plans.{PlanView}
-use Rattle.transcript_log.specs.declared.Line.{Line}
-use Rattle.transcript_log.specs.declared.Entry.{Entry}
+use Rattle.event_schedule.specs.declared.Line.{Line}
+use Rattle.event_schedule.specs.declared.Entry.{Entry}
 use Rattle.transcript_log.specs.declared.transcript.Stamp.{Stamp}
-use Rattle.transcript_log.specs.Transcripts.{IsTranscript}
+use Rattle.event_schedule.specs.Transcripts.{IsTranscript}
 use Rattle.transcript_log.specs.Stamps.{entries_of}
 
 -- the journal begins with these lines

@@ -1,7 +1,7 @@
 -- What kind of line a line is.
 use Rattle.std.specs.Prelude.{Bool, true, false, Some}
-use Rattle.transcript_log.specs.declared.Line.{Line}
-use Rattle.transcript_log.specs.declared.Line.TheVariants.{Send, Take}
+use Rattle.event_schedule.specs.declared.Line.{Line}
+use Rattle.event_schedule.specs.declared.Line.TheVariants.{Send, Take}
 
 -- a Send with a frame
 abbrev pub is_sending : Line → Bool

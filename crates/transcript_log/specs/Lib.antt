@@ -1,17 +1,7 @@
-pub mod Events
-pub mod Tables
-pub mod Schedule
-pub mod Transcript
-pub mod Frames
-pub mod Journal
-pub mod ByGroup
-pub mod Statements
-pub mod Rows
 pub mod Lines
 pub mod Kinds
 pub mod Extras
 pub mod SmallLines
-pub mod Transcripts
 pub mod Stamps
 pub mod Stretches
 pub mod Drafts

@@ -1,7 +1,7 @@
 -- A list of lines that is kept small, as its callers see it.
 use Rattle.std.specs.Prelude.{◌≡◌, ℕ, List, Some}
-use Rattle.transcript_log.specs.declared.Line.{Line}
-use Rattle.transcript_log.specs.declared.Line.TheVariants.{Send}
+use Rattle.event_schedule.specs.declared.Line.{Line}
+use Rattle.event_schedule.specs.declared.Line.TheVariants.{Send}
 
 -- the lines, and for how many more there is room
 pub record LinesView : Type 0 where

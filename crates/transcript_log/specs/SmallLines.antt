@@ -6,9 +6,9 @@ use Rattle.round_machine.specs.declared.Closing.{Closing}
 use Rattle.round_machine.specs.declared.Closing.TheVariants as closing
 use Rattle.round_machine.specs.declared.Ending.{Ending}
 use Rattle.round_machine.specs.declared.Ending.TheVariants as ending
-use Rattle.transcript_log.specs.declared.Line.{Line}
-use Rattle.transcript_log.specs.declared.Line.TheVariants.{Send, Take, Close, End}
-use Rattle.transcript_log.specs.Transcripts.{IsLine}
+use Rattle.event_schedule.specs.declared.Line.{Line}
+use Rattle.event_schedule.specs.declared.Line.TheVariants.{Send, Take, Close, End}
+use Rattle.event_schedule.specs.Transcripts.{IsLine}
 use Rattle.transcript_log.specs.Extras.{extra_at}
 use Rattle.transcript_log.specs.declared.extras.Extra.{Extra}
 use Rattle.transcript_log.specs.declared.small.SmallLine.{SmallLine}

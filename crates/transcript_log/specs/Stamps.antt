@@ -1,10 +1,10 @@
 -- How a transcript is kept: its lines, and a stamp for each.
 use Rattle.std.specs.Prelude.{◌≡◌, List, [], ◌∷◌, length}
 use Rattle.group_plan.specs.Plans.{PlanView}
-use Rattle.transcript_log.specs.declared.Line.{Line}
-use Rattle.transcript_log.specs.declared.Entry.{Entry}
+use Rattle.event_schedule.specs.declared.Line.{Line}
+use Rattle.event_schedule.specs.declared.Entry.{Entry}
 use Rattle.transcript_log.specs.declared.transcript.Stamp.{Stamp}
-use Rattle.transcript_log.specs.Transcripts.{IsTranscript}
+use Rattle.event_schedule.specs.Transcripts.{IsTranscript}
 
 -- the entries: each stamp with its line
 abbrev pub entries_of : List Stamp → List Line → List Entry

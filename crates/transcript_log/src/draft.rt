@@ -2,12 +2,13 @@
 
 ghost use Rattle.std.specs.Prelude.{◌≡◌, ◌≤◌, ◌-◌, [], ◌∷◌, ◌++◌, IfOk, OnOk, OnErr, All, length, map, drop, replicate};
 ghost use Rattle.transcript_log.specs.Drafts.{Begins, quiet};
-ghost use Rattle.transcript_log.specs.Events.{lines_of};
-ghost use Rattle.transcript_log.specs.Transcripts.{Fits, FitsLine, Pushes, last_tick_from, no_entries};
+ghost use Rattle.event_schedule.specs.Events.{lines_of};
+ghost use Rattle.event_schedule.specs.Transcripts.{Fits, FitsLine, Pushes, last_tick_from, no_entries};
 
 use crate::stretches::Stretches;
 use crate::transcript::{Stamp, entry_is, fate_is, tick_is};
-use crate::{Entry, Lines, Transcript};
+use crate::{Lines, Transcript};
+use event_schedule::Entry;
 use group_plan::Plan;
 use link_lanes::Fate;
 use std::alloc::{AllocError, Global};
@@ -27,7 +28,7 @@ pub struct Draft {
 }
 
 impl Model for Draft {
-    ghost use Rattle.transcript_log.specs.Transcripts.{TranscriptView};
+    ghost use Rattle.event_schedule.specs.Transcripts.{TranscriptView};
 
     ghost Value = { TranscriptView };
 

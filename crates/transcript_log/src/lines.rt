@@ -1,19 +1,19 @@
 //! A list of lines that is kept small: 12 bytes a line, and 12 more where it has a set of meters or a word, beside the sets.
 
-ghost use Rattle.std.specs.Prelude.{◌≡◌, ◌^◌, ◌+◌, ◌<◌, ◌≤◌, ◌++◌, [], ◌∷◌, IfOk, OnOk, OnErr, All, drop, length, slice_index_or};
-ghost use Rattle.transcript_log.specs.declared.Line.{Line};
+ghost use Rattle.std.specs.Prelude.{◌≡◌, ◌^◌, ◌+◌, ◌-◌, ◌<◌, ◌≤◌, ◌++◌, [], ◌∷◌, IfOk, OnOk, OnErr, All, take, drop, length, slice_index_or};
+ghost use Rattle.event_schedule.specs.declared.Line.{Line};
 ghost use Rattle.transcript_log.specs.Extras.{Grows};
 ghost use Rattle.transcript_log.specs.Kinds.{is_sending, is_taking};
 ghost use Rattle.transcript_log.specs.Lines.{HasOwnTag};
 ghost use Rattle.transcript_log.specs.SmallLines.{StandsAt};
-ghost use Rattle.transcript_log.specs.Transcripts.{IsLine};
+ghost use Rattle.event_schedule.specs.Transcripts.{IsLine};
 
-use crate::Line;
 use crate::extras::{Extra, Extras};
 use crate::small::{
     SmallLine, extra_of, is_sending, is_taking, line_in, moved, named_in, small_line,
 };
 use crate::transcript::line_is;
+use event_schedule::Line;
 use std::alloc::{AllocError, Global};
 use std::marker::Model;
 
@@ -164,14 +164,15 @@ impl Lines {
         self.lines.push_reserved(moved(line, place));
     }
 
-    /// Adds the lines of another list, in their order.
-    pub fn append(&mut self, others: &Lines) -> Result<(), AllocError>
-        ensures ok { OnOk result (self.new.items ≡ self.old.items ++ others.now.items) }
+    /// Adds some lines of another list, in their order: those from a place on, up to another.
+    pub fn append_part(&mut self, others: &Lines, from: usize, to: usize) -> Result<(), AllocError>
+        requires order { from ≤ to }
+        requires within { to ≤ length others.now.items }
+        ensures ok { OnOk result (self.new.items ≡ self.old.items ++ take (to - from) (drop from others.now.items)) }
         ensures err { OnErr result (self.new.items ≡ self.old.items) }
     {
-        let len = others.len();
-        self.reserve(len as u64)?;
-        for at in 0..len {
+        self.reserve((to - from) as u64)?;
+        for at in from..to {
             self.push_from(others, at);
         }
         Ok(())
@@ -190,12 +191,8 @@ impl Lines {
         requires { from ≤ length self.now.items }
         ensures { IfOk result (λ tail. tail.items ≡ drop from self.now.items) }
     {
-        let len = self.len();
         let mut tail = Lines::new(*self.lines.allocator());
-        tail.reserve((len - from) as u64)?;
-        for at in from..len {
-            tail.push_from(self, at);
-        }
+        tail.append_part(self, from, self.len())?;
         Ok(tail)
     }
 

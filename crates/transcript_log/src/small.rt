@@ -2,15 +2,15 @@
 
 ghost use Rattle.std.specs.Prelude.{◌≡◌, ◌<◌, List, [], ℕ, Some, length};
 ghost use Rattle.round_machine.specs.declared.Closing.TheVariants as closing;
-ghost use Rattle.transcript_log.specs.declared.Line.TheVariants.{Send, Close, End};
+ghost use Rattle.event_schedule.specs.declared.Line.TheVariants.{Send, Close, End};
 ghost use Rattle.transcript_log.specs.declared.extras.Extra.{Extra};
 ghost use Rattle.transcript_log.specs.Extras.{extra_at};
 ghost use Rattle.transcript_log.specs.Kinds.{is_sending, is_taking};
 ghost use Rattle.transcript_log.specs.Lines.{HasOwnTag};
 ghost use Rattle.transcript_log.specs.SmallLines.{sent, line_in, named_in, IsPlaced, extra_of_closing, extra_of_ending, extra_of, StandsAt, IsKept};
 
-use crate::Line;
 use crate::extras::{Extra, Extras};
+use event_schedule::Line;
 use group_plan::{Kind, Tag};
 use meter_frames::Frame;
 use missing_round::MeterSet;

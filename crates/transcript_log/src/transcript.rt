@@ -2,11 +2,12 @@
 
 ghost use Rattle.std.specs.Prelude.{◌≡◌, ◌≤◌, ◌^◌, ◌<◌, [], ◌∷◌, ◌++◌, length, slice_index_or, IfOk, OnOk, OnErr};
 ghost use Rattle.missing_round.specs.Sets.{IsSet};
-ghost use Rattle.transcript_log.specs.declared.Line.TheVariants.{Send, Close, End};
+ghost use Rattle.event_schedule.specs.declared.Line.TheVariants.{Send, Close, End};
 ghost use Rattle.transcript_log.specs.Lines.{HasOwnTag};
-ghost use Rattle.transcript_log.specs.Transcripts.{IsEntry, IsFate, IsLine, IsTranscript, Fits, Pushes, last_tick_from, no_entries};
+ghost use Rattle.event_schedule.specs.Transcripts.{IsEntry, IsFate, IsLine, IsTranscript, Fits, Pushes, last_tick_from, no_entries};
 
-use crate::{Entry, Line, Lines};
+use crate::Lines;
+use event_schedule::{Entry, Line};
 use group_plan::{Plan, Tag};
 use link_lanes::Fate;
 use meter_frames::Frame;
@@ -31,7 +32,7 @@ pub struct Transcript {
 }
 
 impl Model for Transcript {
-    ghost use Rattle.transcript_log.specs.Transcripts.{TranscriptView};
+    ghost use Rattle.event_schedule.specs.Transcripts.{TranscriptView};
 
     ghost Value = { TranscriptView };
 

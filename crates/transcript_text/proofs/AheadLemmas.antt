@@ -7,8 +7,8 @@ use Rattle.std.specs.declared.alloc.Global.{Global}
 use Rattle.std.proofs.lemmas.List.{drop_all, take_all}
 use Rattle.std.proofs.lemmas.List.Elements.{All-cons, All-head, All-nil, All-tail}
 use Rattle.group_plan.specs.Plans.{PlanView, IsWithinLimits}
-use Rattle.transcript_log.specs.declared.Entry.{Entry}
-use Rattle.transcript_log.specs.Transcripts.{Fits, IsEntry, NeverFalls, last_tick_from}
+use Rattle.event_schedule.specs.declared.Entry.{Entry}
+use Rattle.event_schedule.specs.Transcripts.{Fits, IsEntry, NeverFalls, last_tick_from}
 use Rattle.field_texts.specs.Parts.{parts}
 use Rattle.field_texts.proofs.Cutting.{parts_some}
 use Rattle.transcript_text.specs.declared.version.Version.{Version}

@@ -4,11 +4,11 @@ use Rattle.std.specs.Prelude.{codes}
 use Rattle.std.proofs.lemmas.Bool.Decides.{nat_tests}
 use Rattle.std.proofs.lemmas.List.Elements.{All-head, All-tail}
 use Rattle.group_plan.specs.Plans.{PlanView}
-use Rattle.transcript_log.specs.declared.Entry.{Entry}
+use Rattle.event_schedule.specs.declared.Entry.{Entry}
 use Rattle.transcript_text.specs.declared.version.Version.{Version}
 use Rattle.transcript_text.specs.declared.fault.Row.TheVariants as row
 use Rattle.field_texts.specs.Parts.{parts}
-use Rattle.transcript_log.specs.Transcripts.{Fits, IsEntry, NeverFalls}
+use Rattle.event_schedule.specs.Transcripts.{Fits, IsEntry, NeverFalls}
 use Rattle.transcript_text.specs.Spelling.{ended, entries_text, entry_text, fields_of}
 use Rattle.transcript_text.specs.Reading.{after_row, before, entries_from, row_of}
 use Rattle.transcript_text.specs.ReadBack.{HasHead}

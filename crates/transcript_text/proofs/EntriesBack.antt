@@ -6,7 +6,7 @@ use Rattle.std.specs.List.{join_with_byte, flat_map}
 use Rattle.std.proofs.lemmas.Bool.Decides.{nat_tests}
 use Rattle.std.proofs.lemmas.List.Elements.{All-cons, All-nil}
 use Rattle.group_plan.specs.Plans.{PlanView, size}
-use Rattle.transcript_log.specs.declared.Entry.{Entry}
+use Rattle.event_schedule.specs.declared.Entry.{Entry}
 use Rattle.transcript_text.specs.declared.version.Version.{Version}
 use Rattle.transcript_text.specs.declared.fault.Row.{Row}
 use Rattle.transcript_text.specs.declared.fault.Row.TheVariants as row
@@ -14,7 +14,7 @@ use Rattle.transcript_text.specs.declared.fault.RowFault.{RowFault}
 use Rattle.transcript_text.specs.declared.fault.ReadError.{ReadError}
 use Rattle.transcript_text.specs.declared.fault.ReadError.TheVariants as fault
 use Rattle.field_texts.specs.Parts.{parts}
-use Rattle.transcript_log.specs.Transcripts.{Fits, IsEntry, NeverFalls}
+use Rattle.event_schedule.specs.Transcripts.{Fits, IsEntry, NeverFalls}
 use Rattle.transcript_text.specs.Spelling.{ended, entries_text, entry_text, fields_of}
 use Rattle.transcript_text.specs.Reading.{after_row, before, entries_from, is_done, row_of}
 use Rattle.transcript_text.specs.Ahead.{Follow}

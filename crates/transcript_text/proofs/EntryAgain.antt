@@ -13,11 +13,11 @@ use Rattle.round_machine.specs.declared.Verdict.{Verdict}
 use Rattle.round_machine.specs.declared.Verdict.TheVariants.{Fresh, Again, Late, Void}
 use Rattle.round_machine.specs.declared.Closing.{Closing}
 use Rattle.round_machine.specs.declared.Closing.TheVariants as closing
-use Rattle.transcript_log.specs.declared.Line.TheVariants.{Send, Take, Close}
+use Rattle.event_schedule.specs.declared.Line.TheVariants.{Send, Take, Close}
 use Rattle.transcript_text.specs.declared.version.Version.{Version}
 use Rattle.transcript_text.specs.declared.fault.Row.TheVariants as row
 use Rattle.field_texts.specs.Numbers.{number_of, within}
-use Rattle.transcript_log.specs.Transcripts.{FitsClosing, HasPlace, IsFate, IsLine, IsPlan}
+use Rattle.event_schedule.specs.Transcripts.{FitsClosing, HasPlace, IsFate, IsLine, IsPlan}
 use Rattle.field_texts.specs.Sets.{numbers_text}
 use Rattle.transcript_text.specs.Spelling.{closing_fields, fields_of, frame_bytes, kind_text, verdict_text}
 use Rattle.transcript_text.specs.Reading.{closing_of, fate_of, kind_of, row_of, send_of, sent_of, tag_of, take_of, verdict_of}

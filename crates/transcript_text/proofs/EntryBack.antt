@@ -17,16 +17,16 @@ use Rattle.round_machine.specs.declared.Closing.{Closing}
 use Rattle.round_machine.specs.declared.Closing.TheVariants as closing
 use Rattle.round_machine.specs.declared.Ending.{Ending}
 use Rattle.round_machine.specs.declared.Ending.TheVariants as ending
-use Rattle.transcript_log.specs.declared.Line.TheVariants.{Send, Take, Close, End}
-use Rattle.transcript_log.specs.declared.Entry.{Entry}
-use Rattle.transcript_log.specs.Events.{is_tag, same_kind}
+use Rattle.event_schedule.specs.declared.Line.TheVariants.{Send, Take, Close, End}
+use Rattle.event_schedule.specs.declared.Entry.{Entry}
+use Rattle.event_schedule.specs.Events.{is_tag, same_kind}
 use Rattle.transcript_text.specs.declared.version.Version.{Version}
 use Rattle.transcript_text.specs.declared.fault.Row.TheVariants as row
 use Rattle.transcript_text.specs.declared.fault.RowFault.{RowFault}
 use Rattle.transcript_text.specs.declared.fault.RowFault.TheVariants.{Field}
 use Rattle.field_texts.specs.Numbers.{number_of, within}
 use Rattle.transcript_text.specs.Parts.{at}
-use Rattle.transcript_log.specs.Transcripts.{Fits, FitsClosing, FitsEnding, FitsLine, HasPlace, IsEntry, IsFate, IsLine, IsWithin}
+use Rattle.event_schedule.specs.Transcripts.{Fits, FitsClosing, FitsEnding, FitsLine, HasPlace, IsEntry, IsFate, IsLine, IsWithin}
 use Rattle.field_texts.specs.Sets.{numbers_text}
 use Rattle.transcript_text.specs.Spelling.{closing_fields, ending_fields, fields_of, frame_bytes, kind_text, sent_fields, verdict_text}
 use Rattle.field_texts.specs.Sets.{set_of}

@@ -1,13 +1,13 @@
 -- The lines after the head, one after the other.
 use Rattle.std.proofs.Common.{◌≡◌, ◌<◌, ◌+◌, ℕ, suc, Bool, true, false, List, [], ◌∷◌, ◌++◌, length, drop, drop-cons, get_or, refl, ap, arith, sym, ◌∙◌, None, Result, Ok, Err, append_assoc, append-nil, cond}
 use Rattle.std.specs.List.{onto_first}
-use Rattle.transcript_log.specs.declared.Entry.{Entry}
+use Rattle.event_schedule.specs.declared.Entry.{Entry}
 use Rattle.group_plan.specs.Plans.{PlanView}
 use Rattle.transcript_text.specs.declared.version.Version.{Version}
 use Rattle.transcript_text.specs.declared.fault.ReadError.{ReadError}
 use Rattle.field_texts.specs.Parts.{parts}
 use Rattle.transcript_text.specs.Reading.{after_row, before, entries_from, is_done, row_of}
-use Rattle.transcript_log.specs.Transcripts.{last_tick_from}
+use Rattle.event_schedule.specs.Transcripts.{last_tick_from}
 
 pub last-push : (last : ℕ) (es : List Entry) (e : Entry) → last_tick_from last (es ++ e ∷ []) ≡ e.tick
 last-push last [] e = refl

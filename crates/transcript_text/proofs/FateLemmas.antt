@@ -5,7 +5,7 @@ use Rattle.link_lanes.specs.declared.FateError.TheVariants.{Copies, Delay, Order
 use Rattle.link_lanes.specs.Fates.{MakesFate}
 use Rattle.field_texts.specs.Numbers.{number_of, within}
 use Rattle.field_texts.specs.Parts.{parts}
-use Rattle.transcript_log.specs.Transcripts.{IsFate}
+use Rattle.event_schedule.specs.Transcripts.{IsFate}
 use Rattle.field_texts.specs.Sets.{ahead, with_first}
 use Rattle.transcript_text.specs.Reading.{delays_from}
 use Rattle.field_texts.proofs.Cutting.{parts_some}

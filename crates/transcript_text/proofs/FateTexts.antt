@@ -8,7 +8,7 @@ use Rattle.std.proofs.lemmas.List.Elements.{All-cons, All-nil, All-head, All-tai
 use Rattle.link_lanes.specs.Fates.{is_delay}
 use Rattle.field_texts.specs.Numbers.{number_of}
 use Rattle.field_texts.specs.Parts.{parts}
-use Rattle.transcript_log.specs.Transcripts.{IsFate, IsWithin}
+use Rattle.event_schedule.specs.Transcripts.{IsFate, IsWithin}
 use Rattle.field_texts.specs.Sets.{numbers_text}
 use Rattle.transcript_text.specs.Reading.{delays_from, fate_of, is_within}
 use Rattle.field_texts.proofs.NumberLaws.{within_again, within_back}

@@ -1,14 +1,14 @@
 -- The first fault of a text.
 use Rattle.std.proofs.Common.{◌≡◌, ◌<◌, ◌^◌, ℕ, false, List, [], ◌∷◌, ◌++◌, length, refl, sym, ap, ◌∙◌, arith, Result, Ok, Err, append_assoc, subst}
 use Rattle.std.specs.List.{join_with_byte}
-use Rattle.transcript_log.specs.declared.Entry.{Entry}
+use Rattle.event_schedule.specs.declared.Entry.{Entry}
 use Rattle.field_texts.specs.Parts.{parts}
 use Rattle.field_texts.proofs.Cutting.{parts_some}
 use Rattle.field_texts.proofs.TextLaws.{AllClean, joined_parts, parts_at, parts_joined}
 use Rattle.transcript_text.specs.declared.version.Version.{Version}
 use Rattle.transcript_text.specs.declared.fault.ReadError.{ReadError}
 use Rattle.transcript_text.specs.declared.fault.ReadError.TheVariants as fault
-use Rattle.transcript_log.specs.Transcripts.{TranscriptView}
+use Rattle.event_schedule.specs.Transcripts.{TranscriptView}
 use Rattle.transcript_text.specs.ReadBack.{HasText}
 use Rattle.transcript_text.specs.Spelling.{ended, text_of}
 use Rattle.transcript_text.specs.Reading.{◌>>=◌, Gives, before, entries_from}

@@ -16,7 +16,7 @@ use Rattle.transcript_text.specs.declared.head.Start.{Start}
 use Rattle.transcript_text.specs.declared.head.HeadRow.TheVariants as row
 use Rattle.field_texts.specs.Parts.{parts}
 use Rattle.field_texts.specs.Numbers.{number_of, within}
-use Rattle.transcript_log.specs.Transcripts.{IsPlan}
+use Rattle.event_schedule.specs.Transcripts.{IsPlan}
 use Rattle.transcript_text.specs.Spelling.{ended, group_fields, groups_text, head_text, joined, member_fields, members_text, rounds_fields, stated_spans, title, windows_fields}
 use Rattle.transcript_text.specs.Heads.{AreStated, at_begin, has_version, head_from, head_of, head_row, plan_at, rounds_of, span_fits, start_of, title_of, unless_fault, windows_of}
 use Rattle.transcript_text.proofs.Choices.{test_of}

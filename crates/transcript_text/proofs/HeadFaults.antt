@@ -16,7 +16,7 @@ use Rattle.transcript_text.specs.declared.head.HeadRow.TheVariants as row
 use Rattle.transcript_text.specs.declared.fault.ReadError.{ReadError}
 use Rattle.transcript_text.specs.declared.fault.ReadError.TheVariants as fault
 use Rattle.transcript_text.specs.Parts.{at}
-use Rattle.transcript_log.specs.Transcripts.{TranscriptView}
+use Rattle.event_schedule.specs.Transcripts.{TranscriptView}
 use Rattle.transcript_text.specs.Reading.{◌>>=◌}
 use Rattle.transcript_text.specs.Heads.{HeadRead, after_head_row, at_begin, group_row, head_from, head_number, head_row, is_two, member_row, next_line, plan_at, rounds_of, title_of, unless_fault, windows_of}
 use Rattle.transcript_text.specs.Faults.{fault_line}

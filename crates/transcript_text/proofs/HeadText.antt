@@ -26,7 +26,7 @@ use Rattle.transcript_text.specs.Parts.{at}
 use Rattle.transcript_text.specs.Spelling.{ended, group_fields, groups_text, head_text, joined, member_fields, members_text, rounds_fields, start_text, stated_spans, title, windows_fields}
 use Rattle.transcript_text.specs.Heads.{AreStated, HeadRead, after_head_row, at_begin, has_version, head_from, head_number, head_of, head_row, is_two, next_line, plan_at, rounds_of, span_fits, start_of, title_of, two_numbers, unless_fault, windows_of, with_rest}
 use Rattle.transcript_text.specs.ReadBack.{HasHead}
-use Rattle.transcript_log.specs.Transcripts.{IsPlan}
+use Rattle.event_schedule.specs.Transcripts.{IsPlan}
 use Rattle.field_texts.proofs.Choices.{is_word, pick}
 use Rattle.transcript_text.proofs.Choices.{bind_ok, long_of, spell_one, spell_three, spell_two, test_of}
 use Rattle.field_texts.proofs.TextLaws.{joined_parts}

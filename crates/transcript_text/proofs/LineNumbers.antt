@@ -12,7 +12,7 @@ use Rattle.group_plan.specs.declared.plan.members.Span.{Span}
 use Rattle.group_plan.specs.NewPlans.{stated}
 use Rattle.group_plan.specs.Plans.{PlanView, IsWithinLimits, holds, is_member, size, span_of}
 use Rattle.group_plan.proofs.Kept.{is_member-or}
-use Rattle.transcript_log.specs.declared.Entry.{Entry}
+use Rattle.event_schedule.specs.declared.Entry.{Entry}
 use Rattle.field_texts.specs.Parts.{parts}
 use Rattle.transcript_text.specs.declared.version.Version.TheVariants.{Two}
 use Rattle.transcript_text.specs.Spelling.{ended, entries_text, entry_text, group_fields, groups_text, head_text, is_partial, joined, member_fields, members_text, rounds_fields, span_at, spans_below, stated_spans, text_of, title, transcript_text, windows_fields}
@@ -23,7 +23,7 @@ use Rattle.transcript_text.proofs.EntriesAgain.{cut_entry, follows}
 use Rattle.transcript_text.specs.Ahead.{Follow}
 use Rattle.transcript_text.proofs.EntriesBack.{text_cons}
 use Rattle.transcript_text.proofs.HeadAgain.{AreHeadGroups, AreHeadSpans, cut_begin, cut_group, cut_member, cut_rounds, cut_title, cut_windows, groups_fit, head_flat, spans_fit}
-use Rattle.transcript_log.proofs.RoundMembers.{range_last}
+use Rattle.event_schedule.proofs.RoundMembers.{range_last}
 use Rattle.transcript_text.proofs.SpanAgain.{stated_fit}
 
 -- ---- the lines of the head

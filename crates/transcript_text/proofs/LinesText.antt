@@ -3,7 +3,7 @@ use Rattle.std.proofs.Common.{◌≡◌, ◌<◌, ◌≤◌, ◌+◌, ℕ, List,
 use Rattle.std.proofs.lemmas.List.{drop_all}
 use Rattle.group_plan.specs.Plans.{PlanView}
 use Rattle.group_plan.specs.NewPlans.{stated}
-use Rattle.transcript_log.specs.declared.Entry.{Entry}
+use Rattle.event_schedule.specs.declared.Entry.{Entry}
 use Rattle.transcript_text.specs.declared.version.Version.TheVariants.{Two}
 use Rattle.transcript_text.specs.Spelling.{ended, entry_text, entries_text, start_text, groups_text, members_text, stated_spans, head_text}
 use Rattle.transcript_text.specs.Writing.{lines_text, lines_from}

@@ -8,7 +8,7 @@ use Rattle.group_plan.specs.PlanParts.{AreSpans}
 use Rattle.group_plan.specs.Spans.{is_of, rounds_given, rounds_of, with_spans}
 use Rattle.group_plan.proofs.Limits.{are_right, limits, right_rounds}
 use Rattle.group_plan.proofs.WithSpans.{size-with, span-with}
-use Rattle.transcript_log.specs.Transcripts.{IsPlan}
+use Rattle.event_schedule.specs.Transcripts.{IsPlan}
 use Rattle.transcript_text.specs.Heads.{AreStated}
 use Rattle.transcript_text.proofs.SpanFaults.{fitting}
 

@@ -2,11 +2,11 @@
 use Rattle.std.proofs.Common.{◌≡◌, ◌∙◌, ◌<◌, ◌≤◌, ◌^◌, ℕ, true, List, ◌++◌, length, length-append, map, refl, ap, arith, Ok}
 use Rattle.group_plan.specs.Plans.{PlanView}
 use Rattle.group_plan.specs.NewPlans.{stated}
-use Rattle.transcript_log.specs.declared.Entry.{Entry}
+use Rattle.event_schedule.specs.declared.Entry.{Entry}
 use Rattle.transcript_text.specs.declared.version.Version.{Version}
 use Rattle.transcript_text.specs.declared.version.Version.TheVariants.{One, Two}
 use Rattle.field_texts.specs.Parts.{parts}
-use Rattle.transcript_log.specs.Transcripts.{TranscriptView, IsTranscript}
+use Rattle.event_schedule.specs.Transcripts.{TranscriptView, IsTranscript}
 use Rattle.transcript_text.specs.Spelling.{entries_text, head_text, stated_spans, text_of, transcript_text}
 use Rattle.transcript_text.specs.Reading.{entries_from}
 use Rattle.transcript_text.specs.Heads.{HeadRead, has_version, head_of, read_of}

@@ -1,8 +1,8 @@
 -- What is read is a transcript.
 use Rattle.std.proofs.Common.{◌≡◌, ◌∙◌, ℕ, List, ◌++◌, refl, ap, Ok}
 use Rattle.group_plan.specs.Plans.{PlanView}
-use Rattle.transcript_log.specs.declared.Entry.{Entry}
-use Rattle.transcript_log.specs.Transcripts.{IsPlan, IsTranscript}
+use Rattle.event_schedule.specs.declared.Entry.{Entry}
+use Rattle.event_schedule.specs.Transcripts.{IsPlan, IsTranscript}
 use Rattle.transcript_text.specs.declared.version.Version.{Version}
 use Rattle.field_texts.specs.Parts.{parts}
 use Rattle.transcript_text.specs.Spelling.{head_text, text_of}

@@ -7,7 +7,7 @@ use Rattle.std.proofs.lemmas.List.FromFn.{map-range_with_len_more}
 use Rattle.group_plan.specs.declared.plan.members.Span.{Span}
 use Rattle.group_plan.specs.Plans.{PlanView, size}
 use Rattle.transcript_text.specs.Spelling.{ended, joined, member_fields, members_text, is_partial, span_at, spans_below}
-use Rattle.transcript_log.proofs.RoundMembers.{range_last}
+use Rattle.event_schedule.proofs.RoundMembers.{range_last}
 
 one_line : (rounds : ℕ) (span : Span) → members_text (filter (is_partial rounds) (span ∷ [])) ≡ (if is_partial rounds span then ended (joined (member_fields span)) else [])
 one_line rounds span = by_test (is_partial rounds span)

@@ -1,10 +1,10 @@
 -- Each entry of a transcript has a line.
 use Rattle.std.proofs.Common.{List, ℕ, All, get_or, Some, None}
-use Rattle.transcript_log.specs.declared.Entry.{Entry}
-use Rattle.transcript_log.specs.declared.Line.{Line}
-use Rattle.transcript_log.specs.declared.Line.TheVariants.{Send, Take, Close, End}
+use Rattle.event_schedule.specs.declared.Entry.{Entry}
+use Rattle.event_schedule.specs.declared.Line.{Line}
+use Rattle.event_schedule.specs.declared.Line.TheVariants.{Send, Take, Close, End}
 use Rattle.transcript_text.specs.Writing.{IsWritable}
-use Rattle.transcript_log.specs.Transcripts.{TranscriptView, Fits, FitsLine, IsTranscript}
+use Rattle.event_schedule.specs.Transcripts.{TranscriptView, Fits, FitsLine, IsTranscript}
 
 pub writable : (t : TranscriptView) → IsTranscript t → All (λ e. IsWritable e.line) t.entries
 writable t is = λ k d lt. by_line (get_or t.entries k d) (is.fit k d lt)

@@ -4,9 +4,9 @@ use Rattle.group_plan.specs.declared.tag.Tag.{Tag}
 use Rattle.group_plan.specs.Plans.{PlanView, size, IsWithinLimits}
 use Rattle.meter_frames.specs.declared.Frame.{Frame}
 use Rattle.round_machine.specs.declared.Verdict.{Verdict}
-use Rattle.transcript_log.specs.declared.Line.TheVariants.{Send, Take}
-use Rattle.transcript_log.specs.declared.Entry.{Entry}
-use Rattle.transcript_log.specs.Transcripts.{HasPlace}
+use Rattle.event_schedule.specs.declared.Line.TheVariants.{Send, Take}
+use Rattle.event_schedule.specs.declared.Entry.{Entry}
+use Rattle.event_schedule.specs.Transcripts.{HasPlace}
 use Rattle.field_texts.specs.Parts.{parts}
 use Rattle.field_texts.specs.Sets.{numbers_text}
 use Rattle.transcript_text.specs.declared.version.Version.{Version}

@@ -3,8 +3,8 @@ use Rattle.std.specs.Prelude.{◌≡◌, Vec, ℕ, ◌+◌, ◌<◌, ◌≤◌, 
 use Rattle.std.specs.List.{flat_map}
 use Rattle.std.specs.declared.alloc.Global.{Global}
 use Rattle.group_plan.specs.Plans.{PlanView}
-use Rattle.transcript_log.specs.declared.Entry.{Entry}
-use Rattle.transcript_log.specs.Transcripts.{Fits, IsEntry, IsPlan, NeverFalls, last_tick_from}
+use Rattle.event_schedule.specs.declared.Entry.{Entry}
+use Rattle.event_schedule.specs.Transcripts.{Fits, IsEntry, IsPlan, NeverFalls, last_tick_from}
 use Rattle.transcript_text.specs.declared.version.Version.{Version}
 use Rattle.transcript_text.specs.declared.fault.ReadError.{ReadError}
 use Rattle.transcript_text.specs.declared.piece.Piece.{Piece}

@@ -1,6 +1,6 @@
 -- Pieces of the lines of entries that are made side by side.
 use Rattle.std.specs.Prelude.{◌≡◌, ℕ, ◌+◌, ◌*◌, ◌<◌, min, List, ◌++◌, length, All}
-use Rattle.transcript_log.specs.declared.Entry.{Entry}
+use Rattle.event_schedule.specs.declared.Entry.{Entry}
 use Rattle.transcript_text.specs.Writing.{IsWritable, lines_from}
 
 -- the place at which piece k begins, where the first one begins at a place

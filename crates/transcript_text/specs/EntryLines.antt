@@ -1,10 +1,10 @@
 -- The number of an entry's line in the text of a transcript.
 use Rattle.std.specs.Prelude.{◌≡◌, ℕ, ◌+◌, ◌-◌, List, length, slice_get, Option, Some}
 use Rattle.group_plan.specs.Plans.{PlanView}
-use Rattle.transcript_log.specs.declared.Entry.{Entry}
+use Rattle.event_schedule.specs.declared.Entry.{Entry}
 use Rattle.field_texts.specs.Parts.{parts}
 use Rattle.transcript_text.specs.declared.version.Version.TheVariants.{Two}
-use Rattle.transcript_log.specs.Transcripts.{TranscriptView, IsTranscript}
+use Rattle.event_schedule.specs.Transcripts.{TranscriptView, IsTranscript}
 use Rattle.transcript_text.specs.Spelling.{stated_spans, entry_text, transcript_text}
 
 -- how many lines stand before the first entry: the first three, one for each group, one for each span that is stated, and `begin`

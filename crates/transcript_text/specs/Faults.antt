@@ -5,7 +5,7 @@ use Rattle.field_texts.specs.Parts.{parts}
 use Rattle.transcript_text.specs.declared.version.Version.{Version}
 use Rattle.transcript_text.specs.declared.fault.ReadError.{ReadError}
 use Rattle.transcript_text.specs.declared.fault.ReadError.TheVariants as fault
-use Rattle.transcript_log.specs.Transcripts.{TranscriptView}
+use Rattle.event_schedule.specs.Transcripts.{TranscriptView}
 use Rattle.transcript_text.specs.Spelling.{ended, text_of}
 use Rattle.transcript_text.specs.Heads.{read_of}
 use Rattle.transcript_text.specs.ReadBack.{HasText}

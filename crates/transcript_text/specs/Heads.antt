@@ -24,7 +24,7 @@ use Rattle.field_texts.specs.Parts.{parts}
 use Rattle.transcript_text.specs.Parts.{at}
 use Rattle.field_texts.specs.Numbers.{number_of, within}
 use Rattle.transcript_text.specs.Spelling.{is_partial, title}
-use Rattle.transcript_log.specs.Transcripts.{TranscriptView}
+use Rattle.event_schedule.specs.Transcripts.{TranscriptView}
 use Rattle.transcript_text.specs.Reading.{◌>>=◌, Fails, entries_from}
 
 -- a number of the head

@@ -2,7 +2,7 @@
 use Rattle.std.specs.Prelude.{◌≡◌, ◌<◌, ℕ, List, Vec, [], ◌++◌, length, All, codes, decimal}
 use Rattle.std.specs.List.{flat_map}
 use Rattle.std.specs.declared.alloc.Global.{Global}
-use Rattle.transcript_log.specs.Transcripts.{TranscriptView}
+use Rattle.event_schedule.specs.Transcripts.{TranscriptView}
 use Rattle.transcript_text.specs.declared.made.Made.{Made}
 use Rattle.transcript_text.specs.declared.made.Place.{Place}
 use Rattle.transcript_text.specs.declared.made.Place.TheVariants.{Head, Entry, End}

@@ -18,9 +18,9 @@ use Rattle.round_machine.specs.declared.Closing.{Closing}
 use Rattle.round_machine.specs.declared.Closing.TheVariants as closing
 use Rattle.round_machine.specs.declared.Ending.{Ending}
 use Rattle.round_machine.specs.declared.Ending.TheVariants as ending
-use Rattle.transcript_log.specs.declared.Line.TheVariants.{Send, Take, Close, End}
-use Rattle.transcript_log.specs.declared.Entry.{Entry}
-use Rattle.transcript_log.specs.Events.{is_tag}
+use Rattle.event_schedule.specs.declared.Line.TheVariants.{Send, Take, Close, End}
+use Rattle.event_schedule.specs.declared.Entry.{Entry}
+use Rattle.event_schedule.specs.Events.{is_tag}
 use Rattle.transcript_text.specs.declared.version.Version.{Version}
 use Rattle.transcript_text.specs.declared.version.Version.TheVariants.{One, Two}
 use Rattle.transcript_text.specs.declared.fault.Row.{Row}

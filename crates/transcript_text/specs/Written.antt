@@ -1,8 +1,8 @@
 -- Lines as they are written.
 use Rattle.std.specs.Prelude.{◌≡◌, ℕ, List, [], ◌∷◌, ◌++◌}
 use Rattle.group_plan.specs.Plans.{PlanView}
-use Rattle.transcript_log.specs.declared.Entry.{Entry}
-use Rattle.transcript_log.specs.Transcripts.{Fits, IsEntry}
+use Rattle.event_schedule.specs.declared.Entry.{Entry}
+use Rattle.event_schedule.specs.Transcripts.{Fits, IsEntry}
 use Rattle.transcript_text.specs.declared.version.Version.{Version}
 use Rattle.transcript_text.specs.Spelling.{entry_text}
 

@@ -1,7 +1,7 @@
 //! The entries of a text, read ahead in pieces side by side, and handed out one after another.
 
 ghost use Rattle.std.specs.Prelude.{◌≡◌, ◌≤◌, ◌+◌, All, Ok, Err, IfOk, length};
-ghost use Rattle.transcript_log.specs.Transcripts.{Fits};
+ghost use Rattle.event_schedule.specs.Transcripts.{Fits};
 ghost use Rattle.transcript_text.specs.Readers.{IsTextOfWhatIsRead};
 ghost use Rattle.transcript_text.specs.Ahead.{AheadView, AheadEnds, AheadBegins, IsPieceOf, FillEnds};
 
@@ -9,12 +9,12 @@ use crate::entry_reader::EntryReader;
 use crate::fault::ReadError;
 use crate::piece::Piece;
 use crate::version::Version;
+use event_schedule::Entry;
 use group_plan::Plan;
 use std::alloc::Global;
 use std::collections::VecDeque;
 use std::marker::Model;
 use std::thread::Threads;
-use transcript_log::Entry;
 
 /// A text whose entries are read ahead, in pieces of so many bytes side by side, and handed out one after another. Where memory
 /// for that is wanting, or a line is no entry, the next line is read alone, as an `EntryReader` does.
@@ -35,7 +35,7 @@ pub struct EntriesAhead<'a, R: Threads + Sync> {
 
 impl<'a, R: Threads + Sync> Model for EntriesAhead<'a, R> {
     ghost use Rattle.std.specs.Prelude.{◌≤◌, ◌+◌, ◌-◌, All, length, drop};
-    ghost use Rattle.transcript_log.specs.Transcripts.{Fits};
+    ghost use Rattle.event_schedule.specs.Transcripts.{Fits};
     ghost use Rattle.transcript_text.specs.Reading.{before};
     ghost use Rattle.transcript_text.specs.Ahead.{AheadView, IsPieceOf};
 

@@ -10,12 +10,12 @@ use crate::head::read_head;
 use crate::piece::{Piece, pieces};
 use crate::rows::row;
 use crate::version::Version;
+use event_schedule::Entry;
 use field_texts::cut_far;
 use group_plan::Plan;
 use std::alloc::{AllocError, Global};
 use std::marker::Model;
 use std::thread::Threads;
-use transcript_log::Entry;
 
 /// A text of which the head is read, and some of the entries.
 #[derive(Drop)]

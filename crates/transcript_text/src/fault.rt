@@ -1,7 +1,7 @@
 //! Why a text is no transcript.
 
+use event_schedule::Entry;
 use std::alloc::{AllocError, AllocFailed};
-use transcript_log::Entry;
 
 /// Why a text is no transcript: its first fault. Lines and fields are counted from 1.
 #[derive(Clone, Copy, Debug, PartialEq, Eq)]

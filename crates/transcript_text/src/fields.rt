@@ -1,12 +1,12 @@
 //! What a field may hold: words, sets, fates and frames.
 ghost use Rattle.std.specs.Prelude.{◌≡◌, ◌≤◌, [], ◌∷◌, length, codes, Some};
 ghost use Rattle.std.specs.Option.{ok_or};
-ghost use Rattle.transcript_log.specs.Events.{same_kind, is_tag};
+ghost use Rattle.event_schedule.specs.Events.{same_kind, is_tag};
 ghost use Rattle.transcript_text.specs.declared.version.Version.TheVariants.{One, Two};
 ghost use Rattle.transcript_text.specs.declared.fault.RowFault.TheVariants.{Field};
 ghost use Rattle.field_texts.specs.Numbers.{number_of, within};
 ghost use Rattle.field_texts.specs.Parts.{parts};
-ghost use Rattle.transcript_log.specs.Transcripts.{IsFate};
+ghost use Rattle.event_schedule.specs.Transcripts.{IsFate};
 ghost use Rattle.field_texts.specs.Sets.{ahead, set_of};
 ghost use Rattle.transcript_text.specs.Reading.{kind_of, verdict_of, dash_of, fate_of, delays_from, bytes_of, frame_of_bytes, frame_of, is_within, fitting, sent_of, closing_of, ending_of};
 

@@ -1,16 +1,17 @@
 //! The entries of a transcript, a piece of the text after another. The pieces are read side by side.
 
 ghost use Rattle.std.specs.Prelude.{◌≡◌, ◌++◌, All, IfOk, OnOk};
-ghost use Rattle.transcript_log.specs.Transcripts.{Fits, IsTranscript, NeverFalls, last_tick_from, no_entries};
+ghost use Rattle.event_schedule.specs.Transcripts.{Fits, IsTranscript, NeverFalls, last_tick_from, no_entries};
 ghost use Rattle.transcript_text.specs.Reading.{Gives};
 
 use crate::ahead::next_entries;
 use crate::entry_reader::EntryReader;
 use crate::fault::ReadError;
+use event_schedule::Entry;
 use std::alloc::{AllocError, Global};
 use std::collections::VecDeque;
 use std::thread::Threads;
-use transcript_log::{Entry, Transcript};
+use transcript_log::Transcript;
 
 /// About as many bytes as a line has: room is made by it, so that what grows need not be moved.
 pub(crate) const BYTES_A_LINE: usize = 72;

@@ -7,12 +7,12 @@ ghost use Rattle.transcript_text.specs.Ahead.{IsPieceOf, IsReadUpTo, PutEnds};
 use crate::fault::Row;
 use crate::rows::row;
 use crate::version::Version;
+use event_schedule::Entry;
 use field_texts::cut_far;
 use group_plan::Plan;
 use rayon::prelude::*;
 use std::alloc::{AllocError, Global};
 use std::thread::Threads;
-use transcript_log::Entry;
 
 /// As many bytes of a text as a thread reads at a time.
 pub const BYTES_A_PIECE: usize = 64 * 1024;

@@ -1,7 +1,7 @@
 //! The text of a transcript, made in pieces.
 
 ghost use Rattle.std.specs.Prelude.{◌≡◌, ◌<◌, ◌≤◌, ◌++◌, ◌∷◌, [], length, take, All, Ok, OnOk, OnErr, IfOk};
-ghost use Rattle.transcript_log.specs.Transcripts.{IsTranscript};
+ghost use Rattle.event_schedule.specs.Transcripts.{IsTranscript};
 ghost use Rattle.transcript_text.specs.declared.version.Version.TheVariants.{Two};
 ghost use Rattle.transcript_text.specs.Heads.{read_of};
 ghost use Rattle.transcript_text.specs.Spelling.{transcript_text};

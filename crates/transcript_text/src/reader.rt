@@ -2,7 +2,7 @@
 
 ghost use Rattle.std.specs.Prelude.{◌≡◌, IfOk};
 ghost use Rattle.transcript_text.specs.declared.version.Version.TheVariants.{One, Two};
-ghost use Rattle.transcript_log.specs.Transcripts.{IsTranscript};
+ghost use Rattle.event_schedule.specs.Transcripts.{IsTranscript};
 ghost use Rattle.transcript_text.specs.Spelling.{transcript_text, text_of};
 ghost use Rattle.transcript_text.specs.Reading.{Gives};
 ghost use Rattle.transcript_text.specs.Heads.{read_of};

@@ -15,10 +15,10 @@ use crate::cut::{Fields, split_fields};
 use crate::fault::{Row, RowFault};
 use crate::fields::{closing, ending, fate, kind, sent, verdict};
 use crate::written::written;
+use event_schedule::{Entry, Line};
 use field_texts::{read_number, read_number_within};
 use group_plan::{Plan, Tag};
 use link_lanes::Fate;
-use transcript_log::{Entry, Line};
 
 /// Field 1, a tick that is not below `last`.
 fn tick(last: u32, fields: &Fields) -> Result<u32, RowFault>

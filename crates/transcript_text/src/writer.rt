@@ -2,7 +2,7 @@
 
 ghost use Rattle.std.specs.Prelude.{◌≡◌, IfOk, Ok};
 ghost use Rattle.transcript_text.specs.declared.version.Version.TheVariants.{Two};
-ghost use Rattle.transcript_log.specs.Transcripts.{IsTranscript};
+ghost use Rattle.event_schedule.specs.Transcripts.{IsTranscript};
 ghost use Rattle.transcript_text.specs.Spelling.{transcript_text};
 ghost use Rattle.transcript_text.specs.Heads.{read_of};
 

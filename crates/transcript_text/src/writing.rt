@@ -8,6 +8,7 @@ ghost use Rattle.transcript_text.specs.Spelling.{ended, joined, verdict_text, ta
 ghost use Rattle.transcript_text.specs.Writing.{IsWritable, lines_from};
 
 use crate::hex_digits::hex_digits;
+use event_schedule::{Entry, Line};
 use field_texts::{put_number, put_set};
 use group_plan::{Kind, Tag};
 use link_lanes::Fate;
@@ -15,7 +16,7 @@ use meter_frames::{Frame, encode};
 use missing_round::MeterSet;
 use round_machine::{Closing, Ending, Verdict};
 use std::alloc::{AllocError, Global};
-use transcript_log::{Entry, Line, Transcript};
+use transcript_log::Transcript;
 
 /// The delays joined by `+`, or `-` where there is none.
 fn put_fate(out: &mut Vec<u8>, fate: Fate) -> Result<(), AllocError>

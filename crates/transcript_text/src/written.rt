@@ -3,16 +3,16 @@
 //! A field is read as far as its comma. Where a line isn't one as it is written, nothing is said of it.
 
 ghost use Rattle.std.specs.Prelude.{◌≡◌, ◌≤◌, ◌<◌, ◌+◌, ◌++◌, ◌∷◌, [], IfSome, decimal};
-ghost use Rattle.transcript_log.specs.Transcripts.{HasPlace};
+ghost use Rattle.event_schedule.specs.Transcripts.{HasPlace};
 ghost use Rattle.transcript_text.specs.Spelling.{kind_text, verdict_text, tag_fields};
 ghost use Rattle.transcript_text.specs.Written.{ahead_of, IsWritten};
 
 use crate::rows::no_fate;
 use crate::{Version, fields};
+use event_schedule::{Entry, Line};
 use field_texts::cut;
 use group_plan::{Kind, Plan, Tag};
 use round_machine::Verdict;
-use transcript_log::{Entry, Line};
 
 /// The number below 10 that a byte is the digit of.
 fn digit(byte: u8) -> Option<u32>

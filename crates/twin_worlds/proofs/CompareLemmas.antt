@@ -7,17 +7,17 @@ use Rattle.group_plan.specs.declared.Kind.TheVariants.{Reading, Announcement, An
 use Rattle.group_plan.specs.declared.Tag.{Tag}
 use Rattle.group_plan.specs.Tables.{ReadingsView}
 use Rattle.meter_frames.specs.Frames.{FitsKind}
-use Rattle.transcript_log.specs.declared.Entry.{Entry}
-use Rattle.transcript_log.specs.declared.Event.{Event}
-use Rattle.transcript_log.specs.declared.Event.TheVariants.{Send, Take, Close, End}
-use Rattle.transcript_log.specs.declared.Line.{Line}
-use Rattle.transcript_log.specs.declared.Line.TheVariants.{Send as SendLine}
-use Rattle.transcript_log.specs.Events.{event_of, lines_of, events_of}
-use Rattle.transcript_log.specs.Schedule.{Shape, may_send}
-use Rattle.transcript_log.specs.Tables.{Masks}
-use Rattle.transcript_log.specs.Transcript.{Contents, set_sent, word_sent, frame, line, lines_after}
-use Rattle.transcript_log.proofs.EventLemmas.{events-lines}
-use Rattle.transcript_log.specs.Transcripts.{TranscriptView}
+use Rattle.event_schedule.specs.declared.Entry.{Entry}
+use Rattle.event_schedule.specs.declared.Event.{Event}
+use Rattle.event_schedule.specs.declared.Event.TheVariants.{Send, Take, Close, End}
+use Rattle.event_schedule.specs.declared.Line.{Line}
+use Rattle.event_schedule.specs.declared.Line.TheVariants.{Send as SendLine}
+use Rattle.event_schedule.specs.Events.{event_of, lines_of, events_of}
+use Rattle.event_schedule.specs.Schedule.{Shape, may_send}
+use Rattle.event_schedule.specs.Tables.{Masks}
+use Rattle.event_schedule.specs.Transcript.{Contents, set_sent, word_sent, frame, line, lines_after}
+use Rattle.event_schedule.proofs.EventLemmas.{events-lines}
+use Rattle.event_schedule.specs.Transcripts.{TranscriptView}
 use Rattle.transcript_text.specs.Writing.{IsWritable}
 use Rattle.twin_worlds.specs.Comparing.{DifferAt}
 use Rattle.twin_worlds.specs.Twins.{lines_under, IsFirstOther}

@@ -7,13 +7,13 @@ use Rattle.group_plan.specs.declared.Kind.TheVariants.{Reading, Announcement, An
 use Rattle.group_plan.specs.declared.Tag.{Tag}
 use Rattle.meter_frames.specs.declared.Frame.{Frame}
 use Rattle.round_machine.specs.declared.Verdict.{Verdict}
-use Rattle.transcript_log.specs.declared.Event.{Event}
-use Rattle.transcript_log.specs.declared.Event.TheVariants.{Send, Take, Close, End}
-use Rattle.transcript_log.specs.declared.Line.{Line}
-use Rattle.transcript_log.specs.Events.{event_of}
-use Rattle.transcript_log.specs.Schedule.{Shape, shape_of_presence, may_send}
-use Rattle.transcript_log.specs.Transcript.{Contents, set_sent, frame}
-use Rattle.transcript_log.specs.Journal.{past_of, core_line, HasFramesOf}
+use Rattle.event_schedule.specs.declared.Event.{Event}
+use Rattle.event_schedule.specs.declared.Event.TheVariants.{Send, Take, Close, End}
+use Rattle.event_schedule.specs.declared.Line.{Line}
+use Rattle.event_schedule.specs.Events.{event_of}
+use Rattle.event_schedule.specs.Schedule.{Shape, shape_of_presence, may_send}
+use Rattle.event_schedule.specs.Transcript.{Contents, set_sent, frame}
+use Rattle.event_schedule.specs.Journal.{past_of, core_line, HasFramesOf}
 use Rattle.group_book.specs.declared.answers.SendAnswer.{SendAnswer}
 use Rattle.group_book.specs.declared.answers.SendAnswer.TheVariants.{Unknown, NotAllowed, WrongSet, Differs, Sent}
 use Rattle.group_book.specs.declared.answers.TakeError.{TakeError}

@@ -9,7 +9,7 @@ use Rattle.missing_round.specs.Words.{word}
 use Rattle.group_plan.specs.Plans.{PlanView, size}
 use Rattle.pair_keys.specs.declared.KeyId.{KeyId}
 use Rattle.pair_keys.specs.declared.KeyId.TheVariants.{Own, Pair}
-use Rattle.transcript_log.specs.Tables.{Masks, IsMasks}
+use Rattle.event_schedule.specs.Tables.{Masks, IsMasks}
 use Rattle.ideal_masks.specs.declared.Offset.{Offset}
 use Rattle.ideal_masks.specs.Offsets.{shift}
 use Rattle.ideal_masks.specs.Moves.{offset_list, own_list, pair_list, moved_by, same_id, IsKeyOf}

@@ -6,16 +6,16 @@ use Rattle.group_plan.specs.declared.Kind.{Kind}
 use Rattle.group_plan.specs.declared.Kind.TheVariants.{Reading, Announcement, Answer}
 use Rattle.group_plan.specs.declared.Tag.{Tag}
 use Rattle.meter_frames.specs.declared.Frame.{Frame}
-use Rattle.transcript_log.specs.declared.Event.{Event}
-use Rattle.transcript_log.specs.declared.Event.TheVariants.{Send}
-use Rattle.transcript_log.specs.declared.Line.{Line}
-use Rattle.transcript_log.specs.declared.Line.TheVariants.{Send as SendLine, Take as TakeLine, Close as CloseLine, End as EndLine}
-use Rattle.transcript_log.specs.Events.{is_send}
-use Rattle.transcript_log.specs.Schedule.{Shape, is_closed, is_announced, is_reading_taken, reaches_floor, may_send}
-use Rattle.transcript_log.specs.Transcript.{Contents, set_sent, word_sent, frame}
-use Rattle.transcript_log.specs.Journal.{past_of, HasFramesOf}
-use Rattle.transcript_log.proofs.EventLemmas.{is_send-true}
-use Rattle.transcript_log.proofs.ScheduleLemmas.{once-more, is_announced-more, is_reading_taken-closed, missing-closed, is_closed-from_taken}
+use Rattle.event_schedule.specs.declared.Event.{Event}
+use Rattle.event_schedule.specs.declared.Event.TheVariants.{Send}
+use Rattle.event_schedule.specs.declared.Line.{Line}
+use Rattle.event_schedule.specs.declared.Line.TheVariants.{Send as SendLine, Take as TakeLine, Close as CloseLine, End as EndLine}
+use Rattle.event_schedule.specs.Events.{is_send}
+use Rattle.event_schedule.specs.Schedule.{Shape, is_closed, is_announced, is_reading_taken, reaches_floor, may_send}
+use Rattle.event_schedule.specs.Transcript.{Contents, set_sent, word_sent, frame}
+use Rattle.event_schedule.specs.Journal.{past_of, HasFramesOf}
+use Rattle.event_schedule.proofs.EventLemmas.{is_send-true}
+use Rattle.event_schedule.proofs.ScheduleLemmas.{once-more, is_announced-more, is_reading_taken-closed, missing-closed, is_closed-from_taken}
 use Rattle.group_book.proofs.LineLemmas.{posts}
 
 -- ---- the frame of a tag

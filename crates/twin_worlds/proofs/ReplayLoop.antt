@@ -8,16 +8,16 @@ use Rattle.group_plan.specs.declared.Tag.{Tag}
 use Rattle.group_plan.specs.Plans.{PlanView, IsWithinLimits}
 use Rattle.group_plan.specs.Tables.{ReadingsView, IsReadingTable, reading, presence_of}
 use Rattle.meter_frames.specs.declared.Frame.{Frame}
-use Rattle.transcript_log.specs.declared.Event.{Event}
-use Rattle.transcript_log.specs.declared.Line.{Line}
-use Rattle.transcript_log.specs.declared.Line.TheVariants.{Send as SendLine, Take as TakeLine, Close as CloseLine, End as EndLine}
-use Rattle.transcript_log.specs.declared.Entry.{Entry}
-use Rattle.transcript_log.specs.Events.{event_of, events_of}
-use Rattle.transcript_log.specs.Tables.{Masks, IsBounded}
-use Rattle.transcript_log.specs.Transcript.{lines_after, transcript, shape_of_readings, contents_of_tables}
-use Rattle.transcript_log.specs.Journal.{past_of, IsJournalAfter, HasFramesOf}
-use Rattle.transcript_log.proofs.JournalLemmas.{journal_is}
-use Rattle.transcript_log.specs.Transcripts.{TranscriptView, FitsLine, Fits, IsTranscript}
+use Rattle.event_schedule.specs.declared.Event.{Event}
+use Rattle.event_schedule.specs.declared.Line.{Line}
+use Rattle.event_schedule.specs.declared.Line.TheVariants.{Send as SendLine, Take as TakeLine, Close as CloseLine, End as EndLine}
+use Rattle.event_schedule.specs.declared.Entry.{Entry}
+use Rattle.event_schedule.specs.Events.{event_of, events_of}
+use Rattle.event_schedule.specs.Tables.{Masks, IsBounded}
+use Rattle.event_schedule.specs.Transcript.{lines_after, transcript, shape_of_readings, contents_of_tables}
+use Rattle.event_schedule.specs.Journal.{past_of, IsJournalAfter, HasFramesOf}
+use Rattle.event_schedule.proofs.JournalLemmas.{journal_is}
+use Rattle.event_schedule.specs.Transcripts.{TranscriptView, FitsLine, Fits, IsTranscript}
 use Rattle.group_book.specs.Books.{BookView, shape_of, past, posted, posted_in}
 use Rattle.ideal_masks.proofs.WorldLemmas.{shape-of_events}
 use Rattle.twin_worlds.specs.Replaying.{IsOfBook, HasFrames, Makes}

@@ -5,11 +5,11 @@ use Rattle.chacha_lanes.proofs.WordBounds.{mask_word_small}
 use Rattle.mask_stream.specs.KeyStreams.{word_of as stream_word_of, streams}
 use Rattle.pair_keys.specs.Keys.{Keys}
 use Rattle.group_plan.specs.Tables.{ReadingsView, IsReadingTable, reading}
-use Rattle.transcript_log.specs.Events.{events_of}
-use Rattle.transcript_log.specs.Tables.{Masks, IsMasks}
-use Rattle.transcript_log.specs.Transcript.{transcript}
-use Rattle.transcript_log.proofs.ScheduleLemmas.{after-reverse}
-use Rattle.transcript_log.specs.Transcripts.{TranscriptView}
+use Rattle.event_schedule.specs.Events.{events_of}
+use Rattle.event_schedule.specs.Tables.{Masks, IsMasks}
+use Rattle.event_schedule.specs.Transcript.{transcript}
+use Rattle.event_schedule.proofs.ScheduleLemmas.{after-reverse}
+use Rattle.event_schedule.specs.Transcripts.{TranscriptView}
 use Rattle.ideal_masks.specs.declared.Offset.{Offset}
 use Rattle.ideal_masks.specs.Pools.{Pool}
 use Rattle.ideal_masks.specs.Offsets.{AgreeFor, offsets_for}

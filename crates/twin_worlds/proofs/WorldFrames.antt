@@ -12,13 +12,13 @@ use Rattle.group_plan.specs.Plans.{PlanView, size, is_place, is_member, members}
 use Rattle.group_plan.specs.Tables.{ReadingsView, reading}
 use Rattle.group_plan.proofs.MeterNumbers.{group-lt, in_place}
 use Rattle.blind_core.specs.Blind.{are_places, word_or_0}
-use Rattle.transcript_log.specs.declared.Event.{Event}
-use Rattle.transcript_log.specs.declared.Event.TheVariants.{Send}
-use Rattle.transcript_log.specs.Schedule.{Shape, is_announced, is_reading_taken, is_announcement_taken, is_answer_sent, may_send, missing, members_of}
-use Rattle.transcript_log.specs.Tables.{Masks}
-use Rattle.transcript_log.specs.Transcript.{Contents, set_sent, word_sent, frame, contents_of_tables}
-use Rattle.transcript_log.proofs.EventLemmas.{is_send-itself}
-use Rattle.transcript_log.proofs.ScheduleLemmas.{once-now, is_announced-from_sent, is_announcement_sent-from_taken, is_closed-from_taken, is_reading_taken-closed, is_reading_taken-from_answer}
+use Rattle.event_schedule.specs.declared.Event.{Event}
+use Rattle.event_schedule.specs.declared.Event.TheVariants.{Send}
+use Rattle.event_schedule.specs.Schedule.{Shape, is_announced, is_reading_taken, is_announcement_taken, is_answer_sent, may_send, missing, members_of}
+use Rattle.event_schedule.specs.Tables.{Masks}
+use Rattle.event_schedule.specs.Transcript.{Contents, set_sent, word_sent, frame, contents_of_tables}
+use Rattle.event_schedule.proofs.EventLemmas.{is_send-itself}
+use Rattle.event_schedule.proofs.ScheduleLemmas.{once-now, is_announced-from_sent, is_announcement_sent-from_taken, is_closed-from_taken, is_reading_taken-closed, is_reading_taken-from_answer}
 use Rattle.group_book.specs.Books.{BookView, shape_of, past, has_round}
 use Rattle.group_book.proofs.PlaceLemmas.{in_round}
 use Rattle.plan_meters.specs.declared.hidden.HiddenReadings.{HiddenReadings}

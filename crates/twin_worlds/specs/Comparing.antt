@@ -1,6 +1,6 @@
 -- Lines, compared one by one.
 use Rattle.std.specs.Prelude.{◌≡◌, ◌≢◌, ℕ, ◌<◌, Bool, true, false, List, length, take, slice_get, Option, Some, None}
-use Rattle.transcript_log.specs.declared.Line.{Line}
+use Rattle.event_schedule.specs.declared.Line.{Line}
 
 -- it holds, or it doesn't
 abbrev pub Decides : Type 0 → Bool → Type 0

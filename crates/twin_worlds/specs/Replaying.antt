@@ -2,10 +2,10 @@
 use Rattle.std.specs.Prelude.{◌≡◌, ◌≤◌, ◌+◌, IsTrue, [], ◌∷◌, Some}
 use Rattle.group_plan.specs.declared.Tag.{Tag}
 use Rattle.meter_frames.specs.declared.Frame.{Frame}
-use Rattle.transcript_log.specs.declared.Event.{Event}
-use Rattle.transcript_log.specs.declared.Event.TheVariants.{Send, Take, Close, End}
-use Rattle.transcript_log.specs.Transcript.{Contents, frame}
-use Rattle.transcript_log.specs.Journal.{HasFramesOf}
+use Rattle.event_schedule.specs.declared.Event.{Event}
+use Rattle.event_schedule.specs.declared.Event.TheVariants.{Send, Take, Close, End}
+use Rattle.event_schedule.specs.Transcript.{Contents, frame}
+use Rattle.event_schedule.specs.Journal.{HasFramesOf}
 use Rattle.group_book.specs.Books.{BookView, shape_of, past, knows, has_round, posted_of}
 
 -- the event is of the book's plan

@@ -1,10 +1,10 @@
 -- What the laws of this crate say. Each is proved for every text, all masks and all tables of readings.
 use Rattle.std.specs.Prelude.{◌≡◌, ℕ, ◌^◌, ◌<◌, List, length, reverse, Result, Ok, Err, ⊤}
 use Rattle.group_plan.specs.Tables.{ReadingsView, reading}
-use Rattle.transcript_log.specs.Events.{lines_of, events_of}
-use Rattle.transcript_log.specs.Tables.{Masks}
+use Rattle.event_schedule.specs.Events.{lines_of, events_of}
+use Rattle.event_schedule.specs.Tables.{Masks}
 use Rattle.transcript_text.specs.Spelling.{transcript_text}
-use Rattle.transcript_log.specs.Transcripts.{TranscriptView, IsTranscript}
+use Rattle.event_schedule.specs.Transcripts.{TranscriptView, IsTranscript}
 use Rattle.ideal_masks.specs.Pools.{Pool, nobody}
 use Rattle.ideal_masks.specs.Offsets.{AgreeFor}
 use Rattle.twin_worlds.specs.declared.rows.MovedRow.{MovedRow}

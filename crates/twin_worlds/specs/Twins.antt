@@ -1,13 +1,13 @@
 -- How `twin` ends: x and y are the two tables of readings, m the mask words, and t the transcript whose text is judged.
 use Rattle.std.specs.Prelude.{◌≡◌, ◌≢◌, ℕ, List, take, reverse, slice_get, Some, Result, Ok, Err, ⊤}
 use Rattle.group_plan.specs.Tables.{ReadingsView, reading}
-use Rattle.transcript_log.specs.declared.Line.{Line}
-use Rattle.transcript_log.specs.Events.{lines_of, events_of}
-use Rattle.transcript_log.specs.Tables.{Masks}
-use Rattle.transcript_log.specs.Transcript.{transcript}
+use Rattle.event_schedule.specs.declared.Line.{Line}
+use Rattle.event_schedule.specs.Events.{lines_of, events_of}
+use Rattle.event_schedule.specs.Tables.{Masks}
+use Rattle.event_schedule.specs.Transcript.{transcript}
 use Rattle.transcript_text.specs.declared.version.Version.TheVariants.{Two}
 use Rattle.transcript_text.specs.declared.fault.ReadError.TheVariants as fault
-use Rattle.transcript_log.specs.Transcripts.{TranscriptView, IsTranscript}
+use Rattle.event_schedule.specs.Transcripts.{TranscriptView, IsTranscript}
 use Rattle.transcript_text.specs.Spelling.{transcript_text}
 use Rattle.transcript_text.specs.EntryLines.{entry_line}
 use Rattle.transcript_text.specs.Heads.{read_of}

@@ -2,8 +2,8 @@
 use Rattle.std.specs.Prelude.{◌≡◌}
 use Rattle.group_plan.specs.Plans.{PlanView}
 use Rattle.group_plan.specs.Tables.{reading, presence_of}
-use Rattle.transcript_log.specs.Tables.{Masks}
-use Rattle.transcript_log.specs.Transcript.{Contents, contents_of_tables}
+use Rattle.event_schedule.specs.Tables.{Masks}
+use Rattle.event_schedule.specs.Transcript.{Contents, contents_of_tables}
 use Rattle.group_book.specs.Books.{BookView}
 use Rattle.plan_meters.specs.declared.known.Known.{Known}
 use Rattle.plan_meters.specs.Hidden.{IsOfOnePlan}

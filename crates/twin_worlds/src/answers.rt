@@ -1,9 +1,9 @@
 //! Why two tables of readings have no transcript in common.
 
+use event_schedule::Line;
 use ideal_masks::Differ;
 use link_lanes::Fate;
 use std::alloc::{AllocError, AllocFailed};
-use transcript_log::Line;
 use transcript_text::ReadError;
 
 /// Why `twin` finds no moved words. The first cause in this order is answered.

@@ -1,17 +1,18 @@
 //! The lines of a transcript, compared with those that a table of readings gives.
 
 ghost use Rattle.std.specs.Prelude.{◌≡◌, ◌<◌, ◌^◌, length, IfSome};
-ghost use Rattle.transcript_log.specs.Events.{lines_of};
+ghost use Rattle.event_schedule.specs.Events.{lines_of};
 ghost use Rattle.plan_meters.specs.Hidden.{IsOfOnePlan};
 ghost use Rattle.twin_worlds.specs.Comparing.{Decides, DifferAt};
 ghost use Rattle.twin_worlds.specs.Ends.{LinesEnd};
 
 use crate::TwinError;
 use crate::replay::replay;
+use event_schedule::Line;
 use mask_stream::Masks;
 use plan_meters::Known;
 use std::alloc::Global;
-use transcript_log::{Line, Lines, Transcript};
+use transcript_log::{Lines, Transcript};
 use transcript_text::entry_line;
 
 fn is_same(one: &Line, other: &Line) -> bool

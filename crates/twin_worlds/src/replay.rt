@@ -1,8 +1,8 @@
 //! The events of a transcript, made again on a book with the frames of a table of readings.
 
 ghost use Rattle.std.specs.Prelude.{◌≡◌, ◌<◌, [], IsTrue, IfOk};
-ghost use Rattle.transcript_log.specs.declared.Event.TheVariants.{Send, Take};
-ghost use Rattle.transcript_log.specs.Transcript.{Contents};
+ghost use Rattle.event_schedule.specs.declared.Event.TheVariants.{Send, Take};
+ghost use Rattle.event_schedule.specs.Transcript.{Contents};
 ghost use Rattle.group_book.specs.Books.{knows};
 ghost use Rattle.plan_meters.specs.Hidden.{IsOfOnePlan};
 ghost use Rattle.twin_worlds.specs.Twins.{lines_under};
@@ -10,6 +10,7 @@ ghost use Rattle.twin_worlds.specs.Worlds.{IsWorldOf, contents_of};
 ghost use Rattle.twin_worlds.specs.Replaying.{IsOfBook, HasFrames, Makes};
 
 use crate::world::frame;
+use event_schedule::Event;
 use group_book::Book;
 use group_plan::{Presence, Tag};
 use mask_stream::Masks;
@@ -18,7 +19,7 @@ use missing_round::MeterSet;
 use mod_word::Word;
 use plan_meters::Known;
 use std::alloc::{AllocError, Global};
-use transcript_log::{Event, Transcript};
+use transcript_log::Transcript;
 
 // Sends the frame of a tag.
 fn send<M: Masks>(book: &mut Book, world: &Known<M>, tag: Tag)

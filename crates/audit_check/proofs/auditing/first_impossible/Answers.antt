@@ -1,5 +1,5 @@
 use Rattle.std.proofs.Common.{◌<◌, ◌∙◌, ◌++◌, ◌∷◌, [], length, sym, ap, subst, arith}
-use Rattle.transcript_log.specs.Frames.{IsPossible}
+use Rattle.event_schedule.specs.Frames.{IsPossible}
 use Rattle.audit_check.specs.Following.{LineEnds, Follows}
 use Rattle.audit_check.proofs.EndLemmas.{none_possible, more_possible, not_possible, next_line, lines_long}
 use Rattle.audit_check.proofs.auditing.first_impossible.Goals as goal

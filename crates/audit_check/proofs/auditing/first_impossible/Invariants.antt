@@ -1,6 +1,6 @@
 use Rattle.std.proofs.Common.{◌≡◌, take}
-use Rattle.transcript_log.specs.Events.{lines_of}
-use Rattle.transcript_log.specs.Frames.{IsPossible}
+use Rattle.event_schedule.specs.Events.{lines_of}
+use Rattle.event_schedule.specs.Frames.{IsPossible}
 use Rattle.audit_check.specs.Following.{IsReplay}
 use Rattle.audit_check.proofs.auditing.first_impossible.Given as goal
 

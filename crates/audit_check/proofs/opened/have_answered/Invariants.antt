@@ -1,6 +1,6 @@
 use Rattle.std.proofs.Common.{◌≡◌}
 use Rattle.std.specs.List.{list_all}
-use Rattle.transcript_log.specs.Schedule.{is_answer_sent}
+use Rattle.event_schedule.specs.Schedule.{is_answer_sent}
 use Rattle.group_book.specs.Books.{shape_of, past}
 use Rattle.audit_check.proofs.opened.have_answered.Given as goal
 

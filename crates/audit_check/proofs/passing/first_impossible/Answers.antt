@@ -1,5 +1,5 @@
 use Rattle.std.proofs.Common.{sym, subst, Option, Ok}
-use Rattle.transcript_log.specs.declared.Entry.{Entry}
+use Rattle.event_schedule.specs.declared.Entry.{Entry}
 use Rattle.transcript_text.specs.Ahead.{AheadEnds, IsNext}
 use Rattle.audit_check.specs.Following.{LineEnds}
 use Rattle.audit_check.specs.Passes.{HasRead}

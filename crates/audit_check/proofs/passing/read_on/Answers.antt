@@ -1,5 +1,5 @@
 use Rattle.std.proofs.Common.{[], ◌∷◌, ◌++◌, ◌∙◌, refl, subst, arith, Option, Ok}
-use Rattle.transcript_log.specs.declared.Entry.{Entry}
+use Rattle.event_schedule.specs.declared.Entry.{Entry}
 use Rattle.transcript_text.specs.Ahead.{AheadEnds, IsNext}
 use Rattle.audit_check.proofs.ReadLemmas.{one_more, none_left, fault_left, failed, nothing_before}
 use Rattle.audit_check.proofs.passing.read_on.Goals as goal

@@ -1,6 +1,6 @@
 use Rattle.std.proofs.Common.{◌≡◌, ◌<◌, ◌+◌, ◌^◌, sum_by}
 use Rattle.missing_round.specs.Words.{word}
-use Rattle.transcript_log.specs.Frames.{first_word}
+use Rattle.event_schedule.specs.Frames.{first_word}
 use Rattle.audit_check.proofs.totals.sum_of.Given as goal
 
 abbrev pub invariant-loop-meter : goal.invariant-loop-meter

@@ -1,4 +1,4 @@
-use Rattle.transcript_log.specs.Events.{events_of}
+use Rattle.event_schedule.specs.Events.{events_of}
 use Rattle.billing_read.proofs.SearchLemmas.{first-of_events, found_hides}
 use Rattle.billing_read.proofs.search.partner.Goals as goal
 

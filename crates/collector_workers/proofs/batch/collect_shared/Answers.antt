@@ -1,5 +1,5 @@
 use Rattle.std.proofs.Common.{◌≡◌, ◌++◌, [], List, length, All, subst, sym, ap, ◌∙◌, arith}
-use Rattle.transcript_log.specs.declared.Line.{Line}
+use Rattle.event_schedule.specs.declared.Line.{Line}
 use Rattle.transcript_log.specs.Lines.{HasOwnTag}
 use Rattle.group_plan.specs.Tables.{PresenceView}
 use Rattle.group_book.specs.Replay.{AreReplayed}

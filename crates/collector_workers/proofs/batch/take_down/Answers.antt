@@ -1,5 +1,5 @@
 use Rattle.std.proofs.Common.{◌+◌, ◌++◌, ◌∷◌, [], List, take, get_or, ap, sym, ◌∙◌, arith, append_assoc}
-use Rattle.transcript_log.specs.declared.Line.{Line}
+use Rattle.event_schedule.specs.declared.Line.{Line}
 use Rattle.collector_workers.specs.declared.mark.Mark.{Mark}
 use Rattle.collector_workers.specs.declared.outcome.Outcome.{Outcome}
 use Rattle.collector_workers.specs.Outcomes.{lines_told, line_before}

@@ -1,6 +1,6 @@
 use Rattle.std.proofs.Common.{◌+◌, refl, subst, ◌∙◌}
 use Rattle.std.specs.Prelude.{Option, IfSome}
-use Rattle.transcript_log.specs.Transcripts.{TranscriptView}
+use Rattle.event_schedule.specs.Transcripts.{TranscriptView}
 use Rattle.std.proofs.lemmas.Result.{IfOk-at_ok}
 use Rattle.tick_run.specs.Runs.{HaveMet, told_by}
 use Rattle.tick_run.proofs.RunLemmas.{makes-none}

@@ -3,7 +3,7 @@ use Rattle.std.proofs.lemmas.Result.{IfOk-weaker}
 use Rattle.pair_keys.specs.Keys.{table_of}
 use Rattle.totals_report.specs.declared.row.ReportRow.{ReportRow}
 use Rattle.totals_report.specs.Reading.{rows_of_text}
-use Rattle.transcript_log.specs.Transcripts.{TranscriptView}
+use Rattle.event_schedule.specs.Transcripts.{TranscriptView}
 use Rattle.command_texts.specs.RegisterParts.{AreWordsOf}
 use Rattle.command_texts.specs.RunTexts.{texts_of}
 use Rattle.command_texts.proofs.RegisterLemmas.{registers_make, rows_fit}

@@ -1,5 +1,5 @@
 use Rattle.std.proofs.Common.{ap, drop, subst}
-use Rattle.transcript_log.specs.Transcripts.{TranscriptView}
+use Rattle.event_schedule.specs.Transcripts.{TranscriptView}
 use Rattle.cut_resume.specs.Heard.{AreAllFirst}
 use Rattle.cut_resume.proofs.HeardLemmas.{more_first}
 use Rattle.cut_resume.proofs.heard.hear_part.Goals as goal

@@ -1,5 +1,5 @@
 use Rattle.std.proofs.Common.{ap, length, subst, sym, ◌∙◌}
-use Rattle.transcript_log.specs.Transcripts.{TranscriptView}
+use Rattle.event_schedule.specs.Transcripts.{TranscriptView}
 use Rattle.tick_run.proofs.RunLemmas.{finished-of}
 use Rattle.cut_resume.specs.Heard.{AreFirst}
 use Rattle.cut_resume.proofs.HeardLemmas.{all_heard}

@@ -1,5 +1,5 @@
 use Rattle.std.proofs.Common.{◌∙◌, ◌++◌, ap, drop, sym, subst}
-use Rattle.transcript_log.specs.Transcripts.{no_entries}
+use Rattle.event_schedule.specs.Transcripts.{no_entries}
 use Rattle.cut_resume.specs.Left.{at_places, entries_left}
 use Rattle.cut_resume.specs.Remaking.{CanGoOn}
 use Rattle.cut_resume.proofs.RemakingLemmas.{can_first, can_rest, starts}

@@ -1,8 +1,8 @@
 use Rattle.std.proofs.Common.{◌∙◌, ap, sym, subst}
 use Rattle.std.specs.List.{All}
 use Rattle.group_plan.specs.Tables.{PresenceView}
-use Rattle.transcript_log.specs.Events.{lines_of}
-use Rattle.transcript_log.specs.Transcripts.{Fits, TranscriptView}
+use Rattle.event_schedule.specs.Events.{lines_of}
+use Rattle.event_schedule.specs.Transcripts.{Fits, TranscriptView}
 use Rattle.group_book.specs.Replay.{AreReplayed}
 use Rattle.run_rows.specs.Ticks.{IsOrdered}
 use Rattle.cut_resume.specs.Left.{entries_left}

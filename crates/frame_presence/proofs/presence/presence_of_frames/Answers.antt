@@ -1,4 +1,4 @@
-use Rattle.transcript_log.specs.Events.{lines_of}
+use Rattle.event_schedule.specs.Events.{lines_of}
 use Rattle.frame_presence.proofs.PresenceLemmas.{presence_ends}
 use Rattle.frame_presence.proofs.presence.presence_of_frames.Goals as goal
 

@@ -1,5 +1,5 @@
 use Rattle.std.proofs.Common.{◌≤◌, length, drop}
-use Rattle.transcript_log.specs.Events.{lines_of}
+use Rattle.event_schedule.specs.Events.{lines_of}
 use Rattle.frame_presence.specs.Presence.{IsNoted}
 use Rattle.frame_presence.proofs.presence.readings_of_frames.Given as goal
 

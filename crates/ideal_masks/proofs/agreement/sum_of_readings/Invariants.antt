@@ -2,7 +2,7 @@ use Rattle.std.proofs.Common.{◌≡◌, ◌+◌, IsTrue, sum_by}
 use Rattle.missing_round.specs.Words.{word}
 use Rattle.group_plan.specs.Plans.{size}
 use Rattle.group_plan.specs.Tables.{reading}
-use Rattle.transcript_log.specs.Tables.{reading_at}
+use Rattle.event_schedule.specs.Tables.{reading_at}
 use Rattle.ideal_masks.specs.Chains.{are_below}
 use Rattle.ideal_masks.proofs.agreement.sum_of_readings.Given as goal
 

@@ -2,8 +2,8 @@ use Rattle.std.proofs.Common.{◌≡◌, ◌∙◌, ◌&&◌, ℕ, Bool, not, fi
 use Rattle.missing_round.specs.Sets.{is_member}
 use Rattle.missing_round.specs.Words.{group}
 use Rattle.group_plan.specs.Plans.{size, is_member as is_of}
-use Rattle.transcript_log.specs.Schedule.{is_answer_sent, is_reading_taken}
-use Rattle.transcript_log.proofs.RoundMembers.{one_more, one_less}
+use Rattle.event_schedule.specs.Schedule.{is_answer_sent, is_reading_taken}
+use Rattle.event_schedule.proofs.RoundMembers.{one_more, one_less}
 use Rattle.group_book.specs.Books.{shape_of, past}
 use Rattle.ideal_masks.proofs.SiftLemmas.{of_part}
 use Rattle.ideal_masks.proofs.chain.answered.Goals.{then-has_answered, else-has_answered}

@@ -1,7 +1,7 @@
 use Rattle.std.proofs.Common.{◌≡◌, ◌&&◌, filter}
 use Rattle.missing_round.specs.Sets.{is_member}
 use Rattle.missing_round.specs.Words.{group}
-use Rattle.transcript_log.specs.Schedule.{is_answer_sent}
+use Rattle.event_schedule.specs.Schedule.{is_answer_sent}
 use Rattle.group_book.specs.Books.{shape_of, past}
 use Rattle.ideal_masks.proofs.chain.answered.Given as goal
 

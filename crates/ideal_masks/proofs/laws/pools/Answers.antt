@@ -1,4 +1,4 @@
-use Rattle.transcript_log.proofs.ScheduleLemmas.{after-reverse}
+use Rattle.event_schedule.proofs.ScheduleLemmas.{after-reverse}
 use Rattle.ideal_masks.proofs.Converse.{converse_for}
 use Rattle.ideal_masks.proofs.Isolation.{isolated_from}
 use Rattle.ideal_masks.proofs.TwoWorlds.{two_worlds_for, words_stay}

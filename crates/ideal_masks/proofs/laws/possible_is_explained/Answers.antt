@@ -1,4 +1,4 @@
-use Rattle.transcript_log.proofs.FrameLemmas.{possible}
+use Rattle.event_schedule.proofs.FrameLemmas.{possible}
 use Rattle.ideal_masks.proofs.Explained.{explained}
 use Rattle.ideal_masks.proofs.laws.possible_is_explained.Goals as goal
 

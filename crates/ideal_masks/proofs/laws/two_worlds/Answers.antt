@@ -1,4 +1,4 @@
-use Rattle.transcript_log.proofs.ScheduleLemmas.{after-reverse}
+use Rattle.event_schedule.proofs.ScheduleLemmas.{after-reverse}
 use Rattle.ideal_masks.proofs.Converse.{converse}
 use Rattle.ideal_masks.proofs.TwoWorlds.{two_worlds, unshift-shift, shift-unshift}
 use Rattle.ideal_masks.proofs.laws.two_worlds.Goals as goal

@@ -5,7 +5,7 @@ use Rattle.ideal_masks.specs.declared.Offset.{Offset}
 use Rattle.ideal_masks.specs.Pools.{pool_of}
 use Rattle.ideal_masks.specs.OffsetEnds.{HasNoWorldsFor}
 use Rattle.ideal_masks.specs.AgreementParts.{MovesEnd}
-use Rattle.transcript_log.specs.Events.{events_of}
+use Rattle.event_schedule.specs.Events.{events_of}
 use Rattle.ideal_masks.proofs.WorldLemmas.{agreed, list-between, between-moves, between-places, worlds, ends-total, ends-no_worlds}
 use Rattle.ideal_masks.proofs.worlds.agreed_moves.Goals as goal
 

@@ -1,5 +1,5 @@
 use Rattle.group_plan.specs.Tables.{reading}
-use Rattle.transcript_log.specs.Events.{events_of}
+use Rattle.event_schedule.specs.Events.{events_of}
 use Rattle.ideal_masks.proofs.WorldLemmas.{nobody-known, ends-nobody, no_worlds-end}
 use Rattle.ideal_masks.proofs.worlds.offsets.Goals as goal
 

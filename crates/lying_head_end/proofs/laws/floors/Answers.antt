@@ -1,4 +1,4 @@
-use Rattle.transcript_log.specs.Transcript.{shape_of_readings}
+use Rattle.event_schedule.specs.Transcript.{shape_of_readings}
 use Rattle.lying_head_end.proofs.ActLemmas.{after-reverse, sets-reversed}
 use Rattle.lying_head_end.proofs.GraphLemmas.{reaches_floor}
 use Rattle.lying_head_end.proofs.laws.floors.Goals as goal

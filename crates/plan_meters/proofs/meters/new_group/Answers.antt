@@ -3,7 +3,7 @@ use Rattle.std.specs.List.{AllZip, range_with_len}
 use Rattle.group_plan.specs.Plans.{PlanView, floor_of, size}
 use Rattle.group_plan.specs.Tables.{presence_of}
 use Rattle.meter_core.specs.Meters.{MeterView, new_meter}
-use Rattle.transcript_log.specs.Schedule.{shape_of_presence}
+use Rattle.event_schedule.specs.Schedule.{shape_of_presence}
 use Rattle.plan_meters.specs.Meters.{IsMeterOf}
 use Rattle.plan_meters.proofs.RangeLemmas.{range_push}
 use Rattle.plan_meters.proofs.MeterLemmas.{new-is}

@@ -3,7 +3,7 @@ use Rattle.std.specs.Prelude.{List}
 use Rattle.std.specs.List.{AllZip, range_with_len}
 use Rattle.group_plan.specs.Plans.{size}
 use Rattle.group_plan.specs.Tables.{presence_of}
-use Rattle.transcript_log.specs.declared.Event.{Event}
+use Rattle.event_schedule.specs.declared.Event.{Event}
 use Rattle.plan_meters.specs.Meters.{IsMeterOf}
 use Rattle.plan_meters.proofs.meters.new_group.Given as goal
 

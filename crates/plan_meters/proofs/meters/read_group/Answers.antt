@@ -5,7 +5,7 @@ use Rattle.missing_round.specs.Sets.{is_member as is_in}
 use Rattle.group_plan.specs.Plans.{PlanView, size, members, is_member}
 use Rattle.group_plan.specs.Tables.{presence_of}
 use Rattle.meter_core.specs.Meters.{MeterView}
-use Rattle.transcript_log.proofs.MemberLemmas.{is_member-below}
+use Rattle.event_schedule.proofs.MemberLemmas.{is_member-below}
 use Rattle.plan_meters.specs.Meters.{IsMeterOf}
 use Rattle.plan_meters.proofs.RangeLemmas.{Upto, upto-none, upto-within, upto-at, upto-all}
 use Rattle.plan_meters.proofs.ShapeLemmas.{present_is}

@@ -1,7 +1,7 @@
 use Rattle.std.specs.Prelude.{List}
 use Rattle.group_plan.specs.Plans.{size}
 use Rattle.group_plan.specs.Tables.{presence_of}
-use Rattle.transcript_log.specs.declared.Event.{Event}
+use Rattle.event_schedule.specs.declared.Event.{Event}
 use Rattle.plan_meters.specs.Meters.{IsMeterOf, AreOfGroup}
 use Rattle.plan_meters.proofs.RangeLemmas.{Upto}
 use Rattle.plan_meters.proofs.meters.read_group.Given as goal

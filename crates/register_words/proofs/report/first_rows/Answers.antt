@@ -1,7 +1,7 @@
 use Rattle.std.proofs.Common.{◌∙◌, ◌+◌, ◌<◌, List, ℕ, Option, IsTrue, arith, ap, length, sym, subst, take}
 use Rattle.group_plan.specs.Places.{places}
 use Rattle.group_plan.specs.Plans.{PlanView, is_place}
-use Rattle.transcript_log.specs.Events.{lines_of}
+use Rattle.event_schedule.specs.Events.{lines_of}
 use Rattle.register_words.proofs.ReportLemmas.{Noted, entry_fits, line_noted, line_passed, next_line}
 use Rattle.register_words.proofs.SideLemmas.{frame_fits}
 use Rattle.register_words.proofs.report.first_rows.Goals as goal

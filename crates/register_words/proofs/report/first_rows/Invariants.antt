@@ -1,5 +1,5 @@
 use Rattle.std.proofs.Common.{◌≤◌, take}
-use Rattle.transcript_log.specs.Events.{lines_of}
+use Rattle.event_schedule.specs.Events.{lines_of}
 use Rattle.register_words.proofs.ReportLemmas.{Noted}
 use Rattle.register_words.proofs.report.first_rows.Given as goal
 

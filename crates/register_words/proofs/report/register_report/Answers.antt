@@ -1,7 +1,7 @@
 use Rattle.std.proofs.Common.{◌≡◌, ◌∙◌, ◌++◌, ◌/◌, ◌%◌, List, arith, ap, sym, subst, get_or, length}
 use Rattle.group_plan.specs.Plans.{PlanView}
 use Rattle.totals_report.specs.declared.row.ReportRow.{ReportRow}
-use Rattle.transcript_log.specs.Events.{lines_of}
+use Rattle.event_schedule.specs.Events.{lines_of}
 use Rattle.transcript_text.specs.Spelling.{ended}
 use Rattle.register_words.specs.declared.row.SideRow.{SideRow}
 use Rattle.register_words.specs.ReportParts.{KnowsFirsts}

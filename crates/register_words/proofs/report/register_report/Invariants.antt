@@ -1,5 +1,5 @@
 use Rattle.std.proofs.Common.{◌≡◌, ◌++◌, drop}
-use Rattle.transcript_log.specs.Events.{lines_of}
+use Rattle.event_schedule.specs.Events.{lines_of}
 use Rattle.transcript_text.specs.Spelling.{ended}
 use Rattle.register_words.specs.SideReports.{lines_from, register_heading}
 use Rattle.register_words.proofs.report.register_report.Given as goal

@@ -2,7 +2,7 @@ use Rattle.std.proofs.Common.{◌≡◌, ◌∙◌, ◌+◌, ◌-◌, ◌++◌, 
 use Rattle.group_plan.specs.Plans.{PlanView}
 use Rattle.meter_frames.specs.declared.Frame.{Frame}
 use Rattle.pair_keys.specs.Keys.{table_of}
-use Rattle.transcript_log.specs.Events.{lines_of}
+use Rattle.event_schedule.specs.Events.{lines_of}
 use Rattle.transcript_text.specs.EntryLines.{entry_line, head_lines}
 use Rattle.register_words.specs.SideParts.{FitsFrame}
 use Rattle.register_words.specs.Sides.{and_rows, side_rows}

@@ -1,6 +1,6 @@
 use Rattle.std.proofs.Common.{◌≡◌, ◌+◌, ◌++◌, drop}
 use Rattle.pair_keys.specs.Keys.{table_of}
-use Rattle.transcript_log.specs.Events.{lines_of}
+use Rattle.event_schedule.specs.Events.{lines_of}
 use Rattle.register_words.specs.Readings.{AreReady}
 use Rattle.register_words.specs.Sides.{side_rows}
 use Rattle.register_words.proofs.side.side_words.Given as goal

@@ -1,6 +1,6 @@
 use Rattle.std.proofs.Common.{◌≡◌, ◌<◌, ◌≤◌, ◌+◌, ◌++◌, ◌∷◌, [], List, length, take, arith, sym, subst, Ok}
 use Rattle.std.specs.declared.alloc.AllocError.{AllocError}
-use Rattle.transcript_log.specs.declared.Entry.{Entry}
+use Rattle.event_schedule.specs.declared.Entry.{Entry}
 use Rattle.run_course.specs.Beginnings.{IsSomeRun, BeginsRun}
 use Rattle.run_course.specs.Courses.{Keeps, IsEntered, IsReached, JudgeEnds, WholeEnds}
 use Rattle.run_course.proofs.CourseLemmas.{begins_so_far, reached_now, take_next, take_whole}

@@ -1,6 +1,6 @@
 use Rattle.std.proofs.Common.{ℕ, Bool, sym, ap, ◌∙◌}
 use Rattle.group_plan.specs.Tables.{reading}
-use Rattle.transcript_log.proofs.RoundMembers.{one_more, one_less}
+use Rattle.event_schedule.proofs.RoundMembers.{one_more, one_less}
 use Rattle.run_course.specs.Marks.{is_noted}
 use Rattle.run_course.proofs.marks.marked.Goals.{then-is_noted, else-is_noted}
 use Rattle.run_course.proofs.marks.marked.Goals as goal

@@ -1,6 +1,6 @@
 use Rattle.std.proofs.Common.{◌∙◌, ℕ, List, [], length, replicate, ap, sym, subst, arith}
 use Rattle.group_plan.specs.Tables.{PresenceView}
-use Rattle.transcript_log.specs.declared.Line.{Line}
+use Rattle.event_schedule.specs.declared.Line.{Line}
 use Rattle.group_book.specs.Replay.{AreReplayed}
 use Rattle.atomic_table.specs.Table.{opening}
 use Rattle.std.specs.Prelude.{Option, is_some, IsTrue}

@@ -1,6 +1,6 @@
 use Rattle.std.proofs.Common.{◌≡◌, sym, subst}
-use Rattle.transcript_log.proofs.ScheduleLemmas.{after-reverse}
-use Rattle.transcript_log.specs.Transcript.{transcript}
+use Rattle.event_schedule.proofs.ScheduleLemmas.{after-reverse}
+use Rattle.event_schedule.specs.Transcript.{transcript}
 use Rattle.ideal_masks.specs.Offsets.{shift}
 use Rattle.ideal_masks.proofs.TwoWorlds.{unshift-shift, shift-unshift}
 use Rattle.sparse_masks.specs.Neighbours.{ring}

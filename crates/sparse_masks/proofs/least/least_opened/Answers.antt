@@ -1,6 +1,6 @@
 use Rattle.std.proofs.Common.{sym, subst}
 use Rattle.std.specs.Prelude.{IfOk, reverse}
-use Rattle.transcript_log.specs.Events.{events_of, lines_of}
+use Rattle.event_schedule.specs.Events.{events_of, lines_of}
 use Rattle.frame_presence.proofs.PresenceLemmas.{shape_noted}
 use Rattle.sparse_masks.specs.Opened.{IsLeastOpened}
 use Rattle.sparse_masks.proofs.OpenedLemmas.{least-moved}

@@ -1,7 +1,7 @@
 use Rattle.std.proofs.Common.{rules, ◌≡◌, ◌∙◌, subst}
 use Rattle.std.specs.Prelude.{Err, reverse}
 use Rattle.group_plan.specs.Tables.{reading}
-use Rattle.transcript_log.specs.Events.{events_of}
+use Rattle.event_schedule.specs.Events.{events_of}
 use Rattle.sparse_masks.specs.declared.RingDiffer.{RingDiffer}
 use Rattle.sparse_masks.specs.Offsets.{ring_offsets}
 use Rattle.sparse_masks.specs.OffsetEnds.{RingOffsetsEnd}

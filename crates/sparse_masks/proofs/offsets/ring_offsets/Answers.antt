@@ -1,6 +1,6 @@
 use Rattle.std.proofs.Common.{◌∙◌, sym, subst}
 use Rattle.group_plan.specs.Plans.{IsWithinLimits}
-use Rattle.transcript_log.specs.Events.{events_of}
+use Rattle.event_schedule.specs.Events.{events_of}
 use Rattle.sparse_masks.proofs.RingEnds.{worlds-end, no_worlds-end}
 use Rattle.sparse_masks.proofs.offsets.ring_offsets.Goals as goal
 

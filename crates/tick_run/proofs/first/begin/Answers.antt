@@ -1,5 +1,5 @@
 use Rattle.std.proofs.Common.{ap, ◌∙◌}
-use Rattle.transcript_log.specs.Transcripts.{no_entries}
+use Rattle.event_schedule.specs.Transcripts.{no_entries}
 use Rattle.tick_run.proofs.FirstLemmas.{first-runs}
 use Rattle.tick_run.proofs.first.begin.Goals as goal
 

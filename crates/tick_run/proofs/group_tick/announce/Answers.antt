@@ -3,7 +3,7 @@ use Rattle.missing_round.specs.Sets.{less}
 use Rattle.group_plan.specs.Plans.{PlanView, members}
 use Rattle.group_book.specs.Books.{shape_of, past}
 use Rattle.group_book.specs.Replay.{book_at}
-use Rattle.transcript_log.specs.Schedule.{missing, is_announced}
+use Rattle.event_schedule.specs.Schedule.{missing, is_announced}
 use Rattle.tick_run.specs.TickFrames.{announcement_frame}
 use Rattle.tick_run.proofs.DueAnnouncements.{announcements-none, announcements-thin, announcements-one}
 use Rattle.tick_run.proofs.group_tick.announce.Goals as goal

@@ -3,9 +3,9 @@ use Rattle.std.specs.Prelude.{All}
 use Rattle.group_plan.specs.Plans.{PlanView}
 use Rattle.group_plan.specs.Tables.{PresenceView, presence_of}
 use Rattle.meter_frames.specs.declared.Frame.{Frame}
-use Rattle.transcript_log.specs.declared.Line.{Line}
+use Rattle.event_schedule.specs.declared.Line.{Line}
 use Rattle.transcript_log.specs.Drafts.{quiet}
-use Rattle.transcript_log.specs.Events.{lines_of}
+use Rattle.event_schedule.specs.Events.{lines_of}
 use Rattle.group_book.specs.Replay.{Replays}
 use Rattle.plan_meters.specs.Came.{frames_in}
 use Rattle.plan_meters.specs.Meters.{AreOfGroup, announcements}

@@ -1,7 +1,7 @@
 use Rattle.std.proofs.Common.{◌≡◌, ℕ, take, List}
 use Rattle.std.specs.Prelude.{All}
 use Rattle.group_plan.specs.Tables.{PresenceView}
-use Rattle.transcript_log.specs.declared.Event.{Event}
+use Rattle.event_schedule.specs.declared.Event.{Event}
 use Rattle.plan_meters.specs.GroupMeters.{AreGroupMeters}
 use Rattle.plan_meters.specs.Meters.{AreTold, announcements}
 use Rattle.tick_run.proofs.group_tick.hear_all.Given as goal

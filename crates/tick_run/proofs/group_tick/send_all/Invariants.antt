@@ -1,6 +1,6 @@
 use Rattle.std.proofs.Common.{◌≤◌, ◌+◌, length}
 use Rattle.std.specs.Prelude.{List}
-use Rattle.transcript_log.specs.declared.Line.{Line}
+use Rattle.event_schedule.specs.declared.Line.{Line}
 use Rattle.group_book.specs.Replay.{Replays}
 use Rattle.tick_run.specs.GroupRuns.{AreSendable}
 use Rattle.tick_run.proofs.GroupCalls.{SendsUpto}

@@ -2,7 +2,7 @@ use Rattle.std.proofs.Common.{◌++◌, ◌∷◌, List, [], take, sym, subst, a
 use Rattle.std.specs.Prelude.{All}
 use Rattle.std.proofs.lemmas.List.Elements.{All-cons, All-nil}
 use Rattle.group_plan.specs.Tables.{PresenceView}
-use Rattle.transcript_log.specs.declared.Line.{Line}
+use Rattle.event_schedule.specs.declared.Line.{Line}
 use Rattle.tick_run.specs.GroupRuns.{Calls, IsTakeable, takes_of}
 use Rattle.tick_run.proofs.GroupCalls.{still-takeable, takes-more}
 use Rattle.tick_run.proofs.group_tick.take_all.Goals as goal

@@ -1,7 +1,7 @@
 use Rattle.std.proofs.Common.{◌≤◌, ◌+◌, length, take}
 use Rattle.std.specs.Prelude.{List, All}
 use Rattle.group_plan.specs.Tables.{PresenceView}
-use Rattle.transcript_log.specs.declared.Line.{Line}
+use Rattle.event_schedule.specs.declared.Line.{Line}
 use Rattle.group_book.specs.Replay.{Replays}
 use Rattle.tick_run.specs.GroupRuns.{Calls, IsTakeable, takes_of}
 use Rattle.tick_run.proofs.group_tick.take_all.Given as goal

@@ -1,6 +1,6 @@
 use Rattle.std.proofs.Common.{ap, sym, ◌∙◌}
 use Rattle.run_rows.specs.Ticks.{posts_of}
-use Rattle.transcript_log.specs.Transcripts.{TranscriptView}
+use Rattle.event_schedule.specs.Transcripts.{TranscriptView}
 use Rattle.tick_run.proofs.RunLemmas.{finished-of}
 use Rattle.tick_run.proofs.plan_run.run_masked.Goals as goal
 

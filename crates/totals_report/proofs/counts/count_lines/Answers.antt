@@ -2,8 +2,8 @@ use Rattle.std.proofs.Common.{◌≡◌, ◌+◌, ◌<◌, ◌≤◌, length, ta
 use Rattle.std.specs.List.{count_by}
 use Rattle.std.proofs.lemmas.List.Sums.{count_by_more_yes, count_by_more_no}
 use Rattle.round_machine.specs.declared.Closing.TheVariants.{Already}
-use Rattle.transcript_log.specs.declared.Line.{Line}
-use Rattle.transcript_log.specs.declared.Line.TheVariants.{Close}
+use Rattle.event_schedule.specs.declared.Line.{Line}
+use Rattle.event_schedule.specs.declared.Line.TheVariants.{Close}
 use Rattle.run_rows.specs.Summary.{is_sending, is_taking}
 use Rattle.totals_report.proofs.counts.count_lines.Goals.{then-is_sending, else-is_sending, then-is_taking, else-is_taking}
 use Rattle.totals_report.proofs.counts.count_lines.Goals as goal

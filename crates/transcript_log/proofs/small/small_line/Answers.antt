@@ -1,5 +1,5 @@
 use Rattle.std.proofs.Common.{sym, ◌∙◌, subst}
-use Rattle.transcript_log.specs.declared.Line.{Line}
+use Rattle.event_schedule.specs.declared.Line.{Line}
 use Rattle.transcript_log.specs.SmallLines.{extra_of, StandsAt}
 use Rattle.transcript_log.proofs.small.small_line.Goals as goal
 

@@ -1,7 +1,7 @@
 use Rattle.std.proofs.Common.{◌≡◌, sym, ap, ◌∙◌, subst, Some}
 use Rattle.group_plan.specs.declared.Tag.{Tag}
-use Rattle.transcript_log.specs.declared.Line.{Line}
-use Rattle.transcript_log.specs.declared.Line.TheVariants.{Send}
+use Rattle.event_schedule.specs.declared.Line.{Line}
+use Rattle.event_schedule.specs.declared.Line.TheVariants.{Send}
 use Rattle.transcript_log.specs.Lines.{HasOwnTag}
 use Rattle.transcript_log.specs.SmallLines.{extra_of, StandsAt}
 use Rattle.transcript_log.proofs.small.small_send.Goals as goal

@@ -1,6 +1,6 @@
 use Rattle.std.proofs.Common.{◌≡◌, ◌∙◌, ◌++◌, ◌∷◌, ◌+◌, [], All, drop, ap, arith, sym, subst}
 use Rattle.std.proofs.lemmas.List.Elements.{All-tail}
-use Rattle.transcript_log.specs.Transcripts.{TranscriptView, Fits, NeverFalls, last_tick_from}
+use Rattle.event_schedule.specs.Transcripts.{TranscriptView, Fits, NeverFalls, last_tick_from}
 use Rattle.transcript_text.proofs.EntryLoop.{last-push, next_of, put_next}
 use Rattle.transcript_text.proofs.lines.put_all.Goals as goal
 

@@ -1,5 +1,5 @@
 use Rattle.std.proofs.Common.{◌≡◌, ◌++◌, All, drop}
-use Rattle.transcript_log.specs.Transcripts.{Fits, NeverFalls, last_tick_from}
+use Rattle.event_schedule.specs.Transcripts.{Fits, NeverFalls, last_tick_from}
 use Rattle.transcript_text.proofs.lines.put_all.Given as goal
 
 -- the entries so far are put, and those behind them follow

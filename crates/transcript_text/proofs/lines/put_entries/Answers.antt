@@ -1,7 +1,7 @@
 use Rattle.std.proofs.Common.{◌≡◌, ◌∙◌, ◌++◌, ◌∷◌, [], ap, sym, subst, Option, Ok}
 use Rattle.std.proofs.lemmas.List.Elements.{All-nil}
-use Rattle.transcript_log.specs.declared.Entry.{Entry}
-use Rattle.transcript_log.specs.Transcripts.{TranscriptView, last_tick_from}
+use Rattle.event_schedule.specs.declared.Entry.{Entry}
+use Rattle.event_schedule.specs.Transcripts.{TranscriptView, last_tick_from}
 use Rattle.transcript_text.specs.Ahead.{IsPieceOf}
 use Rattle.transcript_text.specs.Readers.{IsRead, NextEnds, ReaderView}
 use Rattle.transcript_text.proofs.EntryLoop.{last-push, last_behind, one_more, some_more}

@@ -1,5 +1,5 @@
 use Rattle.std.proofs.Common.{◌≡◌, All}
-use Rattle.transcript_log.specs.Transcripts.{last_tick_from}
+use Rattle.event_schedule.specs.Transcripts.{last_tick_from}
 use Rattle.transcript_text.specs.Ahead.{IsPieceOf}
 use Rattle.transcript_text.specs.Reading.{before}
 use Rattle.transcript_text.proofs.lines.put_entries.Given as goal

@@ -1,5 +1,5 @@
 use Rattle.std.proofs.Common.{◌≡◌, take}
-use Rattle.transcript_log.specs.Events.{lines_of}
+use Rattle.event_schedule.specs.Events.{lines_of}
 use Rattle.twin_worlds.proofs.comparing.first_other.Given as goal
 
 abbrev pub invariant-loop-at : goal.invariant-loop-at

@@ -1,6 +1,6 @@
 use Rattle.std.proofs.Common.{◌∙◌, [], subst, arith}
 use Rattle.group_plan.specs.Plans.{IsWithinLimits}
-use Rattle.transcript_log.specs.Journal.{IsJournalAfter}
+use Rattle.event_schedule.specs.Journal.{IsJournalAfter}
 use Rattle.group_book.specs.Books.{shape_of}
 use Rattle.twin_worlds.proofs.ReplayLoop.{replaying-none, replaying-more, replaying-event, told}
 use Rattle.twin_worlds.proofs.replay.replay.Goals as goal

@@ -1,8 +1,8 @@
 use Rattle.std.proofs.Common.{◌≡◌, ◌<◌, ℕ, List, ◌++◌, length, ap, ◌∙◌, subst}
 use Rattle.std.specs.List.{All}
-use Rattle.transcript_log.specs.declared.Line.{Line}
-use Rattle.transcript_log.specs.Events.{event_of}
-use Rattle.transcript_log.specs.ByGroup.{group_of}
+use Rattle.event_schedule.specs.declared.Line.{Line}
+use Rattle.event_schedule.specs.Events.{event_of}
+use Rattle.event_schedule.specs.ByGroup.{group_of}
 use Rattle.group_book.specs.Books.{has_round, EndEnds}
 use Rattle.group_book.specs.Replay.{IsGroup, PagesEnd, book_at}
 use Rattle.group_book.proofs.PlaceLemmas.{in_round}

@@ -1,9 +1,9 @@
 use Rattle.std.proofs.Common.{◌≡◌, ◌<◌, List, ◌++◌, length, ap, sym, ◌∙◌, subst}
 use Rattle.std.specs.List.{All}
 use Rattle.group_plan.specs.Plans.{is_place}
-use Rattle.transcript_log.specs.declared.Line.{Line}
-use Rattle.transcript_log.specs.Events.{event_of}
-use Rattle.transcript_log.specs.ByGroup.{group_of}
+use Rattle.event_schedule.specs.declared.Line.{Line}
+use Rattle.event_schedule.specs.Events.{event_of}
+use Rattle.event_schedule.specs.ByGroup.{group_of}
 use Rattle.group_book.specs.Books.{SendEnds}
 use Rattle.group_book.specs.Replay.{IsGroup, PagesEnd, book_at}
 use Rattle.group_book.proofs.BookLemmas.{group_at, place_group, groups_after}

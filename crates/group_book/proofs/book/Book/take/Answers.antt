@@ -1,6 +1,6 @@
 use Rattle.std.specs.List.{All}
-use Rattle.transcript_log.specs.Events.{event_of}
-use Rattle.transcript_log.specs.ByGroup.{group_of}
+use Rattle.event_schedule.specs.Events.{event_of}
+use Rattle.event_schedule.specs.ByGroup.{group_of}
 use Rattle.std.proofs.Common.{◌≡◌, ◌<◌, refl, length, ap, sym, ◌∙◌, subst}
 use Rattle.group_plan.specs.Plans.{is_place}
 use Rattle.group_book.specs.Books.{TakeEnds}

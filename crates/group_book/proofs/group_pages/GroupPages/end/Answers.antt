@@ -1,8 +1,8 @@
 use Rattle.std.proofs.Common.{◌<◌, ℕ, ◌++◌, ◌∷◌, [], ap, sym, refl, subst}
 use Rattle.std.specs.Prelude.{None}
-use Rattle.transcript_log.specs.declared.Event.TheVariants.{End}
-use Rattle.transcript_log.specs.declared.Line.TheVariants.{End as EndLine}
-use Rattle.transcript_log.specs.Schedule.{shape_of_presence}
+use Rattle.event_schedule.specs.declared.Event.TheVariants.{End}
+use Rattle.event_schedule.specs.declared.Line.TheVariants.{End as EndLine}
+use Rattle.event_schedule.specs.Schedule.{shape_of_presence}
 use Rattle.group_book.specs.Books.{BookView, EndEnds}
 use Rattle.group_book.specs.Groups.{GroupView}
 use Rattle.group_book.specs.Replay.{Replays, book_at}

@@ -1,7 +1,7 @@
 use Rattle.std.proofs.Common.{◌++◌, ◌∷◌, [], ap, sym, refl, ◌∙◌, subst}
 use Rattle.std.specs.Prelude.{Some, None, if◌then◌else◌}
-use Rattle.transcript_log.specs.declared.Event.TheVariants.{Send}
-use Rattle.transcript_log.specs.declared.Line.TheVariants.{Send as SendLine}
+use Rattle.event_schedule.specs.declared.Event.TheVariants.{Send}
+use Rattle.event_schedule.specs.declared.Line.TheVariants.{Send as SendLine}
 use Rattle.group_book.specs.Books.{BookView, IsFree}
 use Rattle.group_book.specs.Groups.{GroupView, holds}
 use Rattle.group_book.specs.Replay.{Replays, book_at}

@@ -1,10 +1,10 @@
 use Rattle.std.proofs.Common.{◌≡◌, ◌<◌, true, ◌++◌, ◌∷◌, [], ap, sym, refl, ◌∙◌, subst}
 use Rattle.std.specs.Prelude.{None, List, slice_index_or}
 use Rattle.group_plan.specs.Tables.{PresenceView}
-use Rattle.transcript_log.specs.declared.Event.TheVariants.{Take}
-use Rattle.transcript_log.specs.declared.Line.{Line}
-use Rattle.transcript_log.specs.declared.Line.TheVariants.{Take as TakeLine}
-use Rattle.transcript_log.specs.Schedule.{shape_of_presence}
+use Rattle.event_schedule.specs.declared.Event.TheVariants.{Take}
+use Rattle.event_schedule.specs.declared.Line.{Line}
+use Rattle.event_schedule.specs.declared.Line.TheVariants.{Take as TakeLine}
+use Rattle.event_schedule.specs.Schedule.{shape_of_presence}
 use Rattle.round_machine.specs.declared.Verdict.TheVariants.{Void}
 use Rattle.group_book.specs.Books.{BookView, IsFree}
 use Rattle.group_book.specs.Groups.{GroupView, holds}

@@ -2,7 +2,7 @@ use Rattle.std.proofs.Common.{◌∙◌, sym, ap}
 use Rattle.missing_round.specs.Words.{word}
 use Rattle.group_plan.specs.Plans.{size}
 use Rattle.group_plan.specs.Tables.{reading}
-use Rattle.transcript_log.specs.Tables.{plain_sum}
+use Rattle.event_schedule.specs.Tables.{plain_sum}
 use Rattle.group_book.specs.Books.{shape_of, past}
 use Rattle.ideal_masks.specs.Pools.{others}
 use Rattle.ideal_masks.specs.Chains.{pool_in}

@@ -3,7 +3,7 @@ use Rattle.std.specs.Prelude.{Some, nat_eq, sum_by}
 use Rattle.std.specs.Option.{option_eq}
 use Rattle.missing_round.specs.Words.{word}
 use Rattle.group_book.specs.Books.{shape_of, past}
-use Rattle.transcript_log.specs.Schedule.{is_answer_sent}
+use Rattle.event_schedule.specs.Schedule.{is_answer_sent}
 use Rattle.ideal_masks.specs.Pools.{others_answered, others_silent}
 use Rattle.ideal_masks.specs.Chains.{pool_in, deltas_of}
 use Rattle.ideal_masks.proofs.PairLists.{own-end}

@@ -1,6 +1,6 @@
 use Rattle.std.proofs.Common.{ℕ, List, sym, subst, ◌∙◌, arith}
 use Rattle.meter_core.specs.Meters.{Hears}
-use Rattle.transcript_log.specs.Schedule.{shape_of_presence}
+use Rattle.event_schedule.specs.Schedule.{shape_of_presence}
 use Rattle.plan_meters.proofs.MeterLemmas.{told-answers}
 use Rattle.plan_meters.proofs.MetersLemmas.{own-meter, own-meter-at, heard-own, heard-own_now, heard-own_still}
 use Rattle.plan_meters.proofs.group_meters.GroupMeters.hear.Goals as goal

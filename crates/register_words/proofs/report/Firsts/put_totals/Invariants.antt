@@ -1,6 +1,6 @@
 use Rattle.std.proofs.Common.{◌≡◌, ◌++◌, List, map}
 use Rattle.std.specs.List.{range_with_len}
-use Rattle.transcript_log.specs.declared.Line.{Line}
+use Rattle.event_schedule.specs.declared.Line.{Line}
 use Rattle.register_words.specs.ReportParts.{KnowsFirsts}
 use Rattle.register_words.specs.SideReports.{side_total, totals_text}
 use Rattle.register_words.proofs.report.Firsts.put_totals.Given as goal

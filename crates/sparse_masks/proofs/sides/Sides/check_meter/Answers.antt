@@ -5,7 +5,7 @@ use Rattle.missing_round.specs.Words.{word}
 use Rattle.missing_round.specs.Sets.{is_member}
 use Rattle.group_plan.specs.Plans.{size}
 use Rattle.group_plan.specs.Tables.{reading}
-use Rattle.transcript_log.specs.Tables.{plain_sum}
+use Rattle.event_schedule.specs.Tables.{plain_sum}
 use Rattle.group_book.specs.Books.{shape_of, past}
 use Rattle.sparse_masks.specs.Trees.{component}
 use Rattle.sparse_masks.specs.Offsets.{ring_graph}

@@ -1,5 +1,5 @@
 use Rattle.std.proofs.Common.{length, sym, ap, ◌∙◌}
-use Rattle.transcript_log.specs.Transcripts.{TranscriptView}
+use Rattle.event_schedule.specs.Transcripts.{TranscriptView}
 use Rattle.transcript_log.proofs.Tails.{as_many}
 use Rattle.transcript_log.proofs.draft.Draft.len.Goals as goal
 

@@ -1,7 +1,7 @@
 use Rattle.std.proofs.Common.{◌≤◌, ◌∷◌, [], length, sym, ap, subst, ◌∙◌, arith, append_assoc}
 use Rattle.transcript_log.specs.Lines.{LinesView}
 use Rattle.transcript_log.specs.Stamps.{entries_of}
-use Rattle.transcript_log.specs.Events.{lines_of}
+use Rattle.event_schedule.specs.Events.{lines_of}
 use Rattle.transcript_log.specs.Drafts.{Begins, IsDrafted}
 use Rattle.transcript_log.proofs.Drafting.{room, drafted, added}
 use Rattle.transcript_log.proofs.draft.Draft.push.Goals as goal

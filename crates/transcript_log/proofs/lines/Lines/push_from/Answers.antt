@@ -1,10 +1,10 @@
 use Rattle.std.proofs.Common.{◌<◌, ◌++◌, ◌∷◌, [], Option, length, get_or, sym, ap, ◌∙◌, map, subst, arith}
 use Rattle.std.proofs.lemmas.List.{length-map}
-use Rattle.transcript_log.specs.declared.Line.{Line}
+use Rattle.event_schedule.specs.declared.Line.{Line}
 use Rattle.transcript_log.specs.declared.extras.Extra.{Extra}
 use Rattle.transcript_log.specs.Lines.{LinesView}
 use Rattle.transcript_log.specs.SmallLines.{line_in, StandsAt, AreKept, IsKept}
-use Rattle.transcript_log.specs.Transcripts.{IsLine}
+use Rattle.event_schedule.specs.Transcripts.{IsLine}
 use Rattle.transcript_log.proofs.KeptLines.{still_kept, one_line_more, line_at, line_at_is}
 use Rattle.transcript_log.proofs.lines.Lines.push_from.Goals as goal
 

@@ -1,8 +1,8 @@
 use Rattle.std.proofs.Common.{◌<◌, length, get_or, sym, ap, ◌∙◌, arith}
-use Rattle.transcript_log.specs.declared.Line.{Line}
-use Rattle.transcript_log.specs.declared.Entry.{Entry}
+use Rattle.event_schedule.specs.declared.Line.{Line}
+use Rattle.event_schedule.specs.declared.Entry.{Entry}
 use Rattle.transcript_log.specs.declared.transcript.Stamp.{Stamp}
-use Rattle.transcript_log.specs.Transcripts.{TranscriptView}
+use Rattle.event_schedule.specs.Transcripts.{TranscriptView}
 use Rattle.transcript_log.proofs.StampLemmas.{length-entries_of, get_or-entries_of}
 use Rattle.transcript_log.proofs.transcript.Transcript.entry.Goals as goal
 

@@ -1,5 +1,5 @@
 use Rattle.std.proofs.Common.{length, sym, ap, ◌∙◌}
-use Rattle.transcript_log.specs.Transcripts.{TranscriptView}
+use Rattle.event_schedule.specs.Transcripts.{TranscriptView}
 use Rattle.transcript_log.proofs.StampLemmas.{length-entries_of}
 use Rattle.transcript_log.proofs.transcript.Transcript.len.Goals as goal
 

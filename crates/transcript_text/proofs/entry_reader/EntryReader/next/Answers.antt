@@ -2,7 +2,7 @@ use Rattle.std.proofs.Common.{◌∙◌, ◌+◌, ap, arith, refl, sym, subst, O
 use Rattle.std.proofs.lemmas.Bool.Decides.{nat_tests}
 use Rattle.group_plan.specs.Plans.{PlanView}
 use Rattle.field_texts.specs.Parts.{parts}
-use Rattle.transcript_log.specs.Transcripts.{Fits}
+use Rattle.event_schedule.specs.Transcripts.{Fits}
 use Rattle.transcript_text.specs.Readers.{ReaderView}
 use Rattle.transcript_text.proofs.EntryBack.{row_back}
 use Rattle.transcript_text.proofs.NextEntry.{next_breaks, next_ends, next_entry, next_goes_on, next_lacks, next_miscounts}

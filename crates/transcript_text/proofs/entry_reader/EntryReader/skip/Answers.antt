@@ -1,5 +1,5 @@
 use Rattle.std.proofs.Common.{◌≡◌, ◌+◌, ◌∙◌, ℕ, List, Some, length, slice_get, ap, sym, subst, arith}
-use Rattle.transcript_log.specs.declared.Entry.{Entry}
+use Rattle.event_schedule.specs.declared.Entry.{Entry}
 use Rattle.transcript_text.specs.Ahead.{IsPieceOf, IsSkipped}
 use Rattle.transcript_text.specs.Readers.{ReaderView}
 use Rattle.transcript_text.proofs.AheadLemmas.{behind_piece, here, last_bytes, room, skipped, view_at}

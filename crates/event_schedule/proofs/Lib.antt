@@ -1,0 +1,12 @@
+pub mod ListLemmas
+pub mod EventLemmas
+pub mod ScheduleLemmas
+pub mod VerdictLemmas
+pub mod MemberLemmas
+pub mod TranscriptLemmas
+pub mod ShapeLemmas
+pub mod FrameLemmas
+pub mod JournalLemmas
+pub mod OutcomeLemmas
+pub mod EventsByGroup
+pub mod RoundMembers

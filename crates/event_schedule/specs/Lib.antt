@@ -1,0 +1,10 @@
+pub mod Events
+pub mod Tables
+pub mod Schedule
+pub mod Transcript
+pub mod Frames
+pub mod Journal
+pub mod ByGroup
+pub mod Statements
+pub mod Rows
+pub mod Transcripts
