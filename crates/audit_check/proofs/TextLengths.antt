@@ -24,10 +24,10 @@ use Rattle.round_machine.specs.declared.Ending.{Ending}
 use Rattle.round_machine.specs.declared.Ending.TheVariants as ending
 use Rattle.field_texts.specs.Sets.{numbers_text}
 use Rattle.field_texts.proofs.SetLaws.{Rising, set_rising}
-use Rattle.link_lanes.specs.Fates.{is_delay}
+use Rattle.link_lanes.specs.Fates.{is_delay, IsFate}
 use Rattle.event_schedule.specs.declared.Line.{Line}
 use Rattle.event_schedule.specs.declared.Line.TheVariants.{Send, Take, Close, End}
-use Rattle.event_schedule.specs.Transcripts.{HasPlace, HasRound, IsWithin, FitsLine, IsFate, IsLine}
+use Rattle.event_schedule.specs.Transcripts.{HasPlace, HasRound, IsWithin, FitsLine, IsLine}
 use Rattle.event_schedule.proofs.ListLemmas.{sum_by-map}
 use Rattle.transcript_text.specs.declared.version.Version.TheVariants.{Two}
 use Rattle.transcript_text.specs.Spelling.{joined, kind_text, verdict_text, line_fields}

@@ -9,7 +9,7 @@ ghost use Rattle.blind_core.specs.Blind.{are_places};
 ghost use Rattle.blind_core.specs.Answers.{with_shares, with_all_shares};
 
 use crate::words::with_share;
-use mask_stream::{Masks, Row};
+use mask_stream::{MaskRow, Masks};
 use missing_round::MeterSet;
 
 // The sums of these meters, each with its share of the pair word with the missing meter.
@@ -20,8 +20,8 @@ fn add_shares<M: Masks>(
     round: u32,
     meters: &MeterSet,
     missing: u8,
-    sums: &Row,
-) -> Row
+    sums: &MaskRow,
+) -> MaskRow
     requires missing { IsTrue (is_place (M.plan masks.now) group round missing) }
     requires meters { IsTrue (list_all (is_other (M.plan masks.now) group round missing) meters.now) }
     requires long { length sums.now.items ≡ length meters.now }
@@ -31,7 +31,7 @@ fn add_shares<M: Masks>(
     let words = row.as_slice();
     let before = sums.as_slice();
     let mut place = 0;
-    let mut after = Row::new();
+    let mut after = MaskRow::new();
     for meter in meters.members() {
         after.push(with_share(before[place], words[place], meter, missing));
         place += 1;
@@ -47,7 +47,7 @@ fn answer_sums<M: Masks>(
     round: u32,
     meters: &MeterSet,
     missing: &MeterSet,
-) -> Row
+) -> MaskRow
     requires meters { IsTrue (are_places (M.plan masks.now) group round meters.now) }
     requires missing { IsTrue (are_places (M.plan masks.now) group round missing.now) }
     requires apart { (i : ℕ) → is_member i meters.now ≡ true → is_member i missing.now ≡ false }

@@ -14,7 +14,8 @@ use Rattle.run_course.specs.Beginnings.{is_void_send, IsSomeRun}
 use Rattle.std.specs.List.{count_by}
 use Rattle.std.proofs.lemmas.List.Sums.{sum_by-cons}
 use Rattle.std.proofs.lemmas.List.Elements.{All-nil, All-cons, All-head, All-tail}
-use Rattle.event_schedule.specs.Transcripts.{IsEntry, IsFate, TranscriptView}
+use Rattle.link_lanes.specs.Fates.{IsFate}
+use Rattle.event_schedule.specs.Transcripts.{IsEntry, TranscriptView}
 use Rattle.command_texts.specs.Inspecting.{IsNotInTime, JudgeRefuses, RunsAreInspected}
 use Rattle.link_lanes.specs.Lanes.{Meaning}
 use Rattle.event_schedule.specs.Transcript.{Contents, contents_of_tables}

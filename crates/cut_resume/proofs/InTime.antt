@@ -14,7 +14,8 @@ use Rattle.pair_keys.specs.Keys.{Keys}
 use Rattle.mask_stream.specs.KeyStreams.{streams}
 use Rattle.event_schedule.specs.declared.Entry.{Entry}
 use Rattle.event_schedule.specs.Transcript.{Contents, contents_of_tables, shape_of_readings}
-use Rattle.event_schedule.specs.Transcripts.{IsEntry, IsFate, IsTranscript, TranscriptView}
+use Rattle.link_lanes.specs.Fates.{IsFate}
+use Rattle.event_schedule.specs.Transcripts.{IsEntry, IsTranscript, TranscriptView}
 use Rattle.run_rows.specs.Ticks.{IsRunPlan, clock_of}
 use Rattle.run_course.specs.declared.errors.CourseError.{CourseError}
 use Rattle.run_course.specs.declared.errors.CourseError.TheVariants as course

@@ -11,7 +11,7 @@ use Rattle.round_machine.specs.declared.Closing.{Closing}
 use Rattle.round_machine.specs.declared.Closing.TheVariants as closing
 use Rattle.round_machine.specs.declared.Ending.{Ending}
 use Rattle.round_machine.specs.declared.Ending.TheVariants as ending
-use Rattle.link_lanes.specs.Fates.{is_delay, never_falls}
+use Rattle.link_lanes.specs.Fates.{IsFate}
 use Rattle.event_schedule.specs.declared.Line.{Line}
 use Rattle.event_schedule.specs.declared.Line.TheVariants.{Send, Take, Close, End}
 use Rattle.event_schedule.specs.declared.Entry.{Entry}
@@ -84,12 +84,6 @@ IsLine (Close g r (closing.Thin set)) = IsSet set
 IsLine (End g r (ending.Total total)) = total < 2 ^ 64
 IsLine (End g r (ending.Lacking set)) = IsSet set
 IsLine _ = Unit {0}
-
--- 0 to 3 delays of 1 to 16 ticks, none below the one before it
-pub record IsFate (fate : List ℕ) : Type 0 where
-  pub few : length fate ≤ 3
-  pub delays : IsTrue (list_all is_delay fate)
-  pub order : IsTrue (never_falls fate)
 
 pub record IsEntry (e : Entry) : Type 0 where
   pub tick : e.tick < 2 ^ 32

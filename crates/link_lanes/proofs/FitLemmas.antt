@@ -1,16 +1,13 @@
 -- Lanes that rows take out of a cupboard.
-use Rattle.std.proofs.Common.{◌≡◌, ◌∙◌, sym, ap, subst, refl, ℕ, suc, ◌+◌, ◌-◌, ◌<◌, ◌≤◌, List, [], ◌∷◌, ◌++◌, map, take, drop, get_or, length, arith, add-one, append_assoc, append-nil, Bool, true, false, cond, Option, Some, None, Result, Ok, Err}
+use Rattle.std.proofs.Common.{◌≡◌, ◌∙◌, sym, ap, subst, ℕ, suc, ◌+◌, ◌-◌, ◌<◌, ◌≤◌, List, [], ◌∷◌, ◌++◌, map, take, drop, get_or, length, arith, add-one, Bool, false, cond, Some, Result, Ok, Err}
 use Rattle.std.proofs.lemmas.List.{take_all}
 use Rattle.std.specs.List.{remove}
 use Rattle.std.specs.Option.{option_map}
 use Rattle.std.specs.Prelude.{bytes_eq}
 use Rattle.link_lanes.specs.declared.row.LaneRow.{LaneRow}
 use Rattle.link_lanes.specs.declared.cupboard.RackError.{RackError}
-use Rattle.link_lanes.specs.declared.cupboard.RackCause.{RackCause}
-use Rattle.link_lanes.specs.declared.cupboard.RackCause.TheVariants.{NoSuchLane, BadArgument, Memory}
-use Rattle.link_lanes.specs.Lanes.{Meaning, loaded, Slot}
-use Rattle.link_lanes.specs.Counts.{slot}
-use Rattle.link_lanes.specs.Fits.{take_named, before_later, hung_by, RowEnds, RefusesRow}
+use Rattle.link_lanes.specs.Lanes.{Meaning, Slot}
+use Rattle.link_lanes.specs.Fits.{take_named, hung_by}
 
 -- ---- the first lane of a name
 

@@ -1,5 +1,6 @@
 pub mod RackLemmas
 pub mod TextLemmas
+pub mod FateLemmas
 pub mod RuleLemmas
 pub mod ListLemmas
 pub mod CountLemmas

@@ -1,8 +1,9 @@
 -- The rules that an argument writes.
-use Rattle.std.proofs.Common.{◌≡◌, ◌∙◌, sym, ap, refl, ℕ, ◌+◌, ◌<◌, ◌≤◌, nat_le, Bool, true, false, cond, List, [], ◌∷◌, ◌++◌, length, take, get_or, Option, Some, None, arith}
+use Rattle.std.proofs.Common.{◌≡◌, ◌∙◌, sym, ap, ℕ, ◌<◌, ◌≤◌, nat_le, true, cond, List, length, take, get_or, Some, None, arith}
 use Rattle.std.proofs.lemmas.Bool.Decides.{nat_tests}
 use Rattle.std.proofs.lemmas.List.{take_all}
-use Rattle.link_lanes.specs.Texts.{parts, each, passing}
+use Rattle.field_texts.specs.Parts.{parts}
+use Rattle.link_lanes.specs.Texts.{each, passing}
 use Rattle.link_lanes.specs.Kinds.{Rule, rule_of, rules_of}
 use Rattle.link_lanes.proofs.TextLemmas.{each-none, too_long}
 

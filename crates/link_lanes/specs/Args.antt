@@ -1,5 +1,5 @@
 -- Arguments of lanes.
-use Rattle.std.specs.Prelude.{◌≡◌, ℕ, nat_le, Bool, true, not, ◌&&◌, ⊤, List, Some, Result, Ok, Err, position}
+use Rattle.std.specs.Prelude.{◌≡◌, ℕ, true, not, ⊤, List, Some, Result, Ok, Err, position}
 use Rattle.std.specs.List.{list_all}
 use Rattle.link_lanes.specs.declared.row.ArgError.{ArgError}
 use Rattle.link_lanes.specs.declared.row.ArgError.TheVariants.{Byte, Memory}

@@ -1,5 +1,5 @@
 -- Fates: the delays of the copies that arrive.
-use Rattle.std.specs.Prelude.{◌≡◌, ℕ, ◌<◌, ◌≤◌, Bool, true, false, ◌&&◌, nat_le, List, [], ◌∷◌, length, Result, Ok, Err}
+use Rattle.std.specs.Prelude.{◌≡◌, ℕ, ◌<◌, ◌≤◌, IsTrue, Bool, true, false, ◌&&◌, nat_le, List, [], ◌∷◌, length, Result, Ok, Err}
 use Rattle.std.specs.List.{list_all}
 use Rattle.link_lanes.specs.declared.FateError.{FateError}
 use Rattle.link_lanes.specs.declared.FateError.TheVariants.{Copies, Delay, Order}
@@ -13,6 +13,12 @@ abbrev pub never_falls : List ℕ → Bool
 never_falls [] = true
 never_falls (d ∷ []) = true
 never_falls (d ∷ e ∷ rest) = nat_le d e && never_falls (e ∷ rest)
+
+-- 0 to 3 delays of 1 to 16 ticks, none below the one before it
+pub record IsFate (fate : List ℕ) : Type 0 where
+  pub few : length fate ≤ 3
+  pub delays : IsTrue (list_all is_delay fate)
+  pub order : IsTrue (never_falls fate)
 
 -- what a fate made of these delays is: it keeps them, or the first rule that they break is answered
 abbrev pub MakesFate : List ℕ → Result (List ℕ) FateError → Type 0

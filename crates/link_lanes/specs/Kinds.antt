@@ -1,5 +1,5 @@
 -- The lanes that a cupboard holds: their arguments and their answers.
-use Rattle.std.specs.Prelude.{ℕ, ◌+◌, ◌-◌, ◌*◌, ◌%◌, ◌^◌, ◌==◌, nat_le, nat_lt, min, Bool, true, false, ◌&&◌, if◌then◌else◌, List, [], ◌∷◌, ◌++◌, length, replicate, Option, Some, None, is_some, codes, bytes_eq}
+use Rattle.std.specs.Prelude.{ℕ, ◌+◌, ◌*◌, ◌%◌, ◌^◌, ◌==◌, nat_le, nat_lt, min, Bool, true, false, ◌&&◌, if◌then◌else◌, List, [], ◌∷◌, ◌++◌, length, replicate, Option, Some, None, is_some, codes, bytes_eq}
 use Rattle.std.specs.Option.{option_map, option_and_then}
 use Rattle.std.specs.Int.{w64, to_le_bytes}
 use Rattle.rand_chacha.specs.ChaCha.{ChaCha, word_at, key_of}
@@ -7,7 +7,9 @@ use Rattle.group_plan.specs.declared.tag.Kind.{Kind}
 use Rattle.group_plan.specs.declared.tag.Kind.TheVariants.{Reading, Announcement, Answer as AnswerKind}
 use Rattle.group_plan.specs.declared.tag.Tag.{Tag}
 use Rattle.link_lanes.specs.Lanes.{Answer, Meaning}
-use Rattle.link_lanes.specs.Texts.{number, parts, two, four, each, passing, fate_of}
+use Rattle.field_texts.specs.Numbers.{number_of, within}
+use Rattle.field_texts.specs.Parts.{parts}
+use Rattle.link_lanes.specs.Texts.{two, four, each, passing, fate_of}
 
 -- a lane that was not loaded answers what came
 abbrev pub unloaded : Answer
@@ -55,9 +57,9 @@ abbrev pub nth_by : Option ℕ → Option (List ℕ) → Option Nth
 nth_by (Some step) (Some fate) = Some (record { step = step; fate = fate })
 nth_by _ _ = None
 
--- the step and the fate that an argument writes
+-- the step, from 1 to 1000000, and the fate that an argument writes
 abbrev pub nth_of : List ℕ → Option Nth
-nth_of arg = option_and_then (λ p. nth_by (number 1 1000000 p.0) (fate_of p.1)) (two (parts 58 arg))
+nth_of arg = option_and_then (λ p. nth_by (within 1 1000001 (number_of p.0)) (fate_of p.1)) (two (parts 58 arg))
 
 -- post number k from 0 is the post number k + 1 from 1
 abbrev pub every_answer : Nth → Answer
@@ -79,9 +81,9 @@ abbrev pub turns_by : Option ℕ → Option ℕ → Option Turns
 turns_by (Some passed) (Some lost) = Some (record { passed = passed; lost = lost })
 turns_by _ _ = None
 
--- the turns that an argument writes
+-- the turns that an argument writes, each from 1 to 1000000
 abbrev pub turns_of : List ℕ → Option Turns
-turns_of arg = option_and_then (λ p. turns_by (number 1 1000000 p.0) (number 1 1000000 p.1)) (two (parts 58 arg))
+turns_of arg = option_and_then (λ p. turns_by (within 1 1000001 (number_of p.0)) (within 1 1000001 (number_of p.1))) (two (parts 58 arg))
 
 -- lost from the place in its turn at which no more posts pass
 abbrev pub burst_answer : Turns → Answer
@@ -114,7 +116,7 @@ kind_of text =
 
 -- a number below 2 ^ 32, or any
 abbrev pub index_of : List ℕ → Option (Option ℕ)
-index_of text = any_or (number 0 (2 ^ 32 - 1)) text
+index_of text = any_or (λ t. within 0 (2 ^ 32) (number_of t)) text
 
 -- of all five parts
 abbrev pub rule_by : Option (Option ℕ) → Option (Option ℕ) → Option (Option Kind) → Option (Option ℕ) → Option (List ℕ) → Option Rule
@@ -177,10 +179,10 @@ abbrev pub chances_by : Option ℕ → Option ℕ → Option ℕ → Option ℕ 
 chances_by (Some seed) (Some loss) (Some again) (Some spread) = Some (record { seed = seed; loss = loss; again = again; spread = spread })
 chances_by _ _ _ _ = None
 
--- the chances that an argument writes
+-- the seed below 2 ^ 64 and the chances that an argument writes: two from 0 to 1000, and a spread from 1 to 16
 abbrev pub chances_of : List ℕ → Option Chances
 chances_of arg =
-    option_and_then (λ p. chances_by (number 0 (2 ^ 64 - 1) p.0) (number 0 1000 p.1) (number 0 1000 p.2) (number 1 16 p.3)) (four (parts 58 arg))
+    option_and_then (λ p. chances_by (number_of p.0) (within 0 1001 (number_of p.1)) (within 0 1001 (number_of p.2)) (within 1 17 (number_of p.3))) (four (parts 58 arg))
 
 -- the seed's 8 bytes, the lowest first, and 24 zero bytes
 abbrev pub key_of_seed : ℕ → List ℕ

@@ -1,5 +1,4 @@
 -- What each lane of this crate means.
-use Rattle.std.specs.Prelude.{ℕ, List, Option, Vec}
 use Rattle.std.specs.Option.{option_map}
 use Rattle.link_lanes.specs.declared.clear.Clear.{Clear}
 use Rattle.link_lanes.specs.declared.every.EveryNth.{EveryNth}

@@ -1,5 +1,5 @@
 -- What contracts see of a rack: the lanes that hang in it, by their meanings and spans, and its posts.
-use Rattle.std.specs.Prelude.{◌≡◌, ℕ, ◌+◌, ◌-◌, ◌^◌, ◌≤◌, Bool, true, ◌&&◌, nat_le, IsTrue, ⊤, List, [], ◌∷◌, ◌++◌, map, length, vec_len, vec_capacity, Result, Ok, Err}
+use Rattle.std.specs.Prelude.{◌≡◌, ℕ, ◌+◌, ◌-◌, ◌^◌, ◌≤◌, IsTrue, ⊤, List, [], ◌∷◌, ◌++◌, map, length, vec_len, vec_capacity, Result, Ok, Err}
 use Rattle.std.specs.declared.alloc.Global.{Global}
 use Rattle.std.specs.declared.alloc.AllocError.{AllocError}
 use Rattle.std.specs.declared.dyn_box.DynBox.{DynBox}

@@ -1,25 +1,9 @@
--- Numbers, fates and parts in the text of an argument.
-use Rattle.std.specs.Prelude.{ℕ, nat_le, not, ◌==◌, Bool, true, false, ◌&&◌, if◌then◌else◌, List, [], ◌∷◌, length, Option, Some, None, codes, bytes_eq}
+-- Parts and fates in a text.
+use Rattle.std.specs.Prelude.{ℕ, zero, suc, Bool, if◌then◌else◌, List, [], ◌∷◌, Option, Some, None, codes, bytes_eq}
 use Rattle.std.specs.Option.{option_map, option_zip}
-use Rattle.std.specs.Char.{is_ascii_digit}
-use Rattle.std.specs.Str.Parse.{digits_value}
-use Rattle.std.specs.List.{slice_split, list_all}
-use Rattle.link_lanes.specs.Fates.{never_falls}
-
--- decimal digits: one, or several of which the first is not `0`
-abbrev pub is_numeral : List ℕ → Bool
-is_numeral [] = false
-is_numeral (c ∷ []) = is_ascii_digit c
-is_numeral (c ∷ d ∷ rest) = not (c == 48) && list_all is_ascii_digit (c ∷ d ∷ rest)
-
--- the number from low to high that a text writes
-abbrev pub number : ℕ → ℕ → List ℕ → Option ℕ
-number low high text =
-    if is_numeral text && nat_le low (digits_value 10 text) && nat_le (digits_value 10 text) high then Some (digits_value 10 text) else None
-
--- the parts of a text between these marks
-abbrev pub parts : ℕ → List ℕ → List (List ℕ)
-parts mark text = slice_split (λ b. b == mark) text
+use Rattle.field_texts.specs.Numbers.{number_of, within}
+use Rattle.field_texts.specs.Parts.{parts}
+use Rattle.field_texts.specs.Sets.{with_first}
 
 -- what is read of every part, where each can be read
 abbrev pub each : {X : Type 0} → (List ℕ → Option X) → List (List ℕ) → Option (List X)
@@ -41,8 +25,12 @@ abbrev pub four : List (List ℕ) → Option (List ℕ × List ℕ × List ℕ �
 four (a ∷ b ∷ c ∷ d ∷ []) = Some (a, b, c, d)
 four _ = None
 
+-- up to k delays of at most 16 that don't fall, from low on
+unfoldable pub delays_from : ℕ → ℕ → List (List ℕ) → Option (List ℕ)
+delays_from k low [] = Some []
+delays_from zero low (p ∷ ps) = None
+delays_from (suc k) low (p ∷ ps) = with_first (within low 17 (number_of p)) (λ d. delays_from k d ps)
+
 -- the fate that a text writes: `-`, or 1 to 3 delays from 1 to 16 joined by `+`, none below the one before it
-abbrev pub fate_of : List ℕ → Option (List ℕ)
-fate_of text =
-    if bytes_eq text (codes "-") then Some [] else
-    passing (λ delays. nat_le (length delays) 3 && never_falls delays) (each (number 1 16) (parts 43 text))
+unfoldable pub fate_of : List ℕ → Option (List ℕ)
+fate_of text = if bytes_eq text (codes "-") then Some [] else delays_from 3 1 (parts 43 text)

@@ -4,8 +4,9 @@ ghost use Rattle.std.specs.Prelude.{◌≡◌, None};
 ghost use Rattle.link_lanes.specs.Kinds.{turns_of, burst_by};
 ghost use Rattle.link_lanes.specs.MadeLanes.{burst_lane};
 
-use crate::texts::{halves, number};
+use crate::texts::halves;
 use crate::{Fate, Lane, LaneError};
+use field_texts::read_number_within;
 use group_plan::Tag;
 use std::alloc::Global;
 use std::marker::Model;
@@ -34,9 +35,9 @@ impl Model for Turns {
 fn read_turns(arg: &str) -> Option<Turns>
     ensures { result ≡ turns_of arg.now }
 {
-    let (passed, lost) = halves(arg, ':')?;
-    let passed = number(passed, 1, 1_000_000)? as u32;
-    let lost = number(lost, 1, 1_000_000)? as u32;
+    let (passed, lost) = halves(arg.as_bytes(), b':')?;
+    let passed = read_number_within(passed, 1, 1_000_001)? as u32;
+    let lost = read_number_within(lost, 1, 1_000_001)? as u32;
     Some(Turns { passed, lost })
 }
 

@@ -4,8 +4,9 @@ ghost use Rattle.std.specs.Prelude.{◌≡◌, None};
 ghost use Rattle.link_lanes.specs.Kinds.{nth_of, every_by};
 ghost use Rattle.link_lanes.specs.MadeLanes.{every_lane};
 
-use crate::texts::{halves, number, read_fate};
+use crate::texts::{halves, read_fate};
 use crate::{Fate, Lane, LaneError};
+use field_texts::read_number_within;
 use group_plan::Tag;
 use std::alloc::Global;
 use std::marker::Model;
@@ -34,8 +35,8 @@ impl Model for Nth {
 fn read_nth(arg: &str) -> Option<Nth>
     ensures { result ≡ nth_of arg.now }
 {
-    let (step, fate) = halves(arg, ':')?;
-    let step = number(step, 1, 1_000_000)? as u32;
+    let (step, fate) = halves(arg.as_bytes(), b':')?;
+    let step = read_number_within(step, 1, 1_000_001)? as u32;
     let fate = read_fate(fate)?;
     Some(Nth { step, fate })
 }

@@ -28,6 +28,7 @@ pub use row::{Arg, ArgError, LaneRow};
 pub use rules::Rules;
 pub use seeded::Seeded;
 use std::marker::Model;
+pub use texts::read_fate;
 
 /// The copies of a posted frame, seen as the list of their delays: 0 to 3 of them, each 1 to 16 ticks, none below the one before it.
 #[derive(Clone, Copy, PartialEq, Eq)]

@@ -5,8 +5,9 @@ ghost use Rattle.std.specs.Option.{option_map};
 ghost use Rattle.link_lanes.specs.Kinds.{any_or, kind_of, kind_number, index_of, rule_of, rules_of, is_or_any, matches, first_fate, rules_by};
 ghost use Rattle.link_lanes.specs.MadeLanes.{rules_lane};
 
-use crate::texts::{halves, number, quarters, read_fate};
+use crate::texts::{halves, quarters, read_fate};
 use crate::{Fate, Lane, LaneError};
+use field_texts::read_number_within;
 use group_plan::{Kind, Tag};
 use std::alloc::{AllocError, Global};
 use std::marker::Model;
@@ -32,30 +33,30 @@ impl Model for Rule {
 }
 
 // The index that a text spells; the inner None, for `*`, stands for any.
-fn read_index(text: &str) -> Option<Option<u32>>
+fn read_index(text: &[u8]) -> Option<Option<u32>>
     ensures { result ≡ index_of text.now }
 {
-    if text == "*" {
+    if text == b"*".as_slice() {
         return Some(None);
     }
-    let index = number(text, 0, 0xffff_ffff)? as u32;
+    let index = read_number_within(text, 0, 1 << 32)? as u32;
     Some(Some(index))
 }
 
 // The kind that a text spells; the inner None, for `*`, stands for any.
-fn read_kind(text: &str) -> Option<Option<Kind>>
+fn read_kind(text: &[u8]) -> Option<Option<Kind>>
     ensures { result ≡ any_or kind_of text.now }
 {
-    if text == "*" {
+    if text == b"*".as_slice() {
         return Some(None);
     }
-    if text == "r" {
+    if text == b"r".as_slice() {
         return Some(Some(Kind::Reading));
     }
-    if text == "m" {
+    if text == b"m".as_slice() {
         return Some(Some(Kind::Announcement));
     }
-    if text == "a" {
+    if text == b"a".as_slice() {
         return Some(Some(Kind::Answer));
     }
     None
@@ -65,8 +66,8 @@ fn read_kind(text: &str) -> Option<Option<Kind>>
 fn read_rule(text: &str) -> Option<Rule>
     ensures { result ≡ rule_of text.now }
 {
-    let (tags, fate) = halves(text, '=')?;
-    let (group, round, kind, meter) = quarters(tags, '.')?;
+    let (tags, fate) = halves(text.as_bytes(), b'=')?;
+    let (group, round, kind, meter) = quarters(tags, b'.')?;
     let group = read_index(group)?;
     let round = read_index(round)?;
     let kind = read_kind(kind)?;

@@ -5,8 +5,9 @@ ghost use Rattle.std.specs.Option.{ForSome};
 ghost use Rattle.rand_chacha.specs.ChaCha.{word_at};
 ghost use Rattle.link_lanes.specs.Kinds.{chances_of, stream_at, drawn_unless_lost};
 
-use crate::texts::{number, quarters};
+use crate::texts::quarters;
 use crate::{Fate, Lane, LaneError};
+use field_texts::{read_number, read_number_within};
 use group_plan::Tag;
 use rand_chacha::ChaCha20Rng;
 use rand_core::SeedableRng;
@@ -41,11 +42,11 @@ impl Model for Chances {
 fn read_chances(arg: &str) -> Option<Chances>
     ensures { result ≡ chances_of arg.now }
 {
-    let (seed, loss, again, spread) = quarters(arg, ':')?;
-    let seed = number(seed, 0, u64::MAX)?;
-    let loss = number(loss, 0, 1000)? as u32;
-    let again = number(again, 0, 1000)? as u32;
-    let spread = number(spread, 1, 16)? as u32;
+    let (seed, loss, again, spread) = quarters(arg.as_bytes(), b':')?;
+    let seed = read_number(seed)?;
+    let loss = read_number_within(loss, 0, 1001)? as u32;
+    let again = read_number_within(again, 0, 1001)? as u32;
+    let spread = read_number_within(spread, 1, 17)? as u32;
     Some(Chances {
         seed,
         loss,

@@ -1,7 +1,7 @@
 //! The table of the mask words of keys.
 ghost use Rattle.std.specs.Prelude.{◌≡◌, ◌<◌, Some, IsTrue, if◌then◌else◌, nat_lt};
 
-use crate::{Masks, Row};
+use crate::{MaskRow, Masks};
 use chacha_lanes::{WordRow, stream_word, words_of_rounds};
 use missing_round::MeterSet;
 use mod_word::Word;
@@ -42,7 +42,7 @@ impl<'k> Masks for ChaMasks<'k> {
         Word(stream_word(self.keys.pair(group, low, high), round))
     }
 
-    fn owns(&self, group: u16, round: u32, meters: &MeterSet) -> Row {
+    fn owns(&self, group: u16, round: u32, meters: &MeterSet) -> MaskRow {
         let mut row = WordRow::new(round);
         for meter in meters.members() {
             row.put(self.keys.own(group, meter));
@@ -50,7 +50,7 @@ impl<'k> Masks for ChaMasks<'k> {
         row.words()
     }
 
-    fn pairs(&self, group: u16, round: u32, meter: u8, others: &MeterSet) -> Row {
+    fn pairs(&self, group: u16, round: u32, meter: u8, others: &MeterSet) -> MaskRow {
         let mut row = WordRow::new(round);
         for other in others.members() {
             let key = if meter < other {

@@ -5,4 +5,4 @@ mod cha_masks;
 mod masks;
 
 pub use cha_masks::ChaMasks;
-pub use masks::{Masks, Row};
+pub use masks::{MaskRow, Masks};

@@ -10,7 +10,7 @@ use missing_round::MeterSet;
 use mod_word::Word;
 
 /// The values of mask words of one round, in the order of their meters: at most 256.
-pub type Row = ArrayVec<u64, 256>;
+pub type MaskRow = ArrayVec<u64, 256>;
 
 /// A table of mask words over the places of a plan.
 pub trait Masks {
@@ -32,11 +32,11 @@ pub trait Masks {
         ensures { result ≡ (table self.now).pair group round low high };
 
     /// The own words of these meters in a round.
-    fn owns(&self, group: u16, round: u32, meters: &MeterSet) -> Row
+    fn owns(&self, group: u16, round: u32, meters: &MeterSet) -> MaskRow
         requires { IsTrue (list_all (is_place (plan self.now) group round) meters.now) }
         ensures { result.items ≡ map ((table self.now).own group round) meters.now }
     {
-        let mut row = Row::new();
+        let mut row = MaskRow::new();
         for meter in meters.members() {
             row.push(self.own(group, round, meter).value());
         }
@@ -44,12 +44,12 @@ pub trait Masks {
     }
 
     /// The words of the pairs of a meter with each of these other meters in a round.
-    fn pairs(&self, group: u16, round: u32, meter: u8, others: &MeterSet) -> Row
+    fn pairs(&self, group: u16, round: u32, meter: u8, others: &MeterSet) -> MaskRow
         requires meter { IsTrue (is_place (plan self.now) group round meter) }
         requires others { IsTrue (list_all (is_other (plan self.now) group round meter) others.now) }
         ensures { result.items ≡ map (between ((table self.now).pair group round) meter) others.now }
     {
-        let mut row = Row::new();
+        let mut row = MaskRow::new();
         for other in others.members() {
             let word = if meter < other {
                 self.pair(group, round, meter, other)

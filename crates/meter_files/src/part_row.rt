@@ -10,7 +10,7 @@ ghost use Rattle.meter_files.specs.PartRows.{title_in, home_in, self_in, own_in,
 
 use group_plan::{GroupPlan, Span};
 use plan_files::rows::{
-    Row, RowReader, check_fields, is_long, is_word, key_field, name_field, number_field,
+    FileRow, RowReader, check_fields, is_long, is_word, key_field, name_field, number_field,
     read_rounds,
 };
 use plan_files::{FileCause, FileError};
@@ -35,7 +35,7 @@ pub enum PartEntry {
 
 /// Row 1 is `meter` and `1`.
 #[tactic(auto, unfolding(crate::specs::PartRows::title_in))]
-fn check_title(row: &Row<'_>) -> Result<(), FileCause>
+fn check_title(row: &FileRow<'_>) -> Result<(), FileCause>
     requires kept { IsKept row.now }
     ensures { result ≡ title_in (fields_in row.now) }
 {
@@ -48,7 +48,7 @@ fn check_title(row: &Row<'_>) -> Result<(), FileCause>
 
 /// The group of a row `group,NUMBER,NAME,METERS,FLOOR`.
 #[tactic(auto, unfolding(crate::specs::PartRows::home_in))]
-fn read_home(row: &Row<'_>) -> Result<HomeGroup, FileCause>
+fn read_home(row: &FileRow<'_>) -> Result<HomeGroup, FileCause>
     requires kept { IsKept row.now }
     ensures { result ≡ home_in (fields_in row.now) }
 {
@@ -72,7 +72,7 @@ fn read_home(row: &Row<'_>) -> Result<HomeGroup, FileCause>
 
 /// The meter of a row `self,METER`.
 #[tactic(auto, unfolding(crate::specs::PartRows::self_in))]
-fn read_self(row: &Row<'_>) -> Result<u32, FileCause>
+fn read_self(row: &FileRow<'_>) -> Result<u32, FileCause>
     requires kept { IsKept row.now }
     ensures { result ≡ self_in (fields_in row.now) }
 {
@@ -85,7 +85,7 @@ fn read_self(row: &Row<'_>) -> Result<u32, FileCause>
 
 /// The key of a row `own,KEY`.
 #[tactic(auto, unfolding(crate::specs::PartRows::own_in))]
-fn read_own(row: &Row<'_>) -> Result<PartEntry, FileCause>
+fn read_own(row: &FileRow<'_>) -> Result<PartEntry, FileCause>
     requires kept { IsKept row.now }
     ensures { result ≡ own_in (fields_in row.now) }
 {
@@ -96,7 +96,7 @@ fn read_own(row: &Row<'_>) -> Result<PartEntry, FileCause>
 
 /// The key of a row `pair,METER,KEY`.
 #[tactic(auto, unfolding(crate::specs::PartRows::pair_in))]
-fn read_pair(row: &Row<'_>) -> Result<PartEntry, FileCause>
+fn read_pair(row: &FileRow<'_>) -> Result<PartEntry, FileCause>
     requires kept { IsKept row.now }
     ensures { result ≡ pair_in (fields_in row.now) }
 {
@@ -108,7 +108,7 @@ fn read_pair(row: &Row<'_>) -> Result<PartEntry, FileCause>
 
 /// The span of a row `member,METER,FROM,UNTIL`.
 #[tactic(auto, unfolding(crate::specs::PartRows::member_in))]
-fn read_member(row: &Row<'_>) -> Result<PartEntry, FileCause>
+fn read_member(row: &FileRow<'_>) -> Result<PartEntry, FileCause>
     requires kept { IsKept row.now }
     ensures { result ≡ member_in (fields_in row.now) }
 {
@@ -126,7 +126,7 @@ fn read_member(row: &Row<'_>) -> Result<PartEntry, FileCause>
 
 /// What a row after the first four says.
 #[tactic(auto, unfolding(crate::specs::PartRows::entry_in))]
-pub(crate) fn read_entry(row: &Row<'_>) -> Result<PartEntry, FileCause>
+pub(crate) fn read_entry(row: &FileRow<'_>) -> Result<PartEntry, FileCause>
     requires kept { IsKept row.now }
     ensures { result ≡ entry_in (fields_in row.now) }
 {

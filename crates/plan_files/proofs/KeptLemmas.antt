@@ -21,7 +21,7 @@ use Rattle.plan_files.specs.Fields.{behind_fields, cut_text_with, first_field}
 use Rattle.plan_files.specs.KeptRows.{IsBegun, KeepsField, fields_in, fields_or_none, goes_on, is_at_comma, kept_of, kept_with, most_bytes, most_fields, next_row, rows_in, starts_row}
 use Rattle.plan_files.specs.PlanRows.{arg_in, has_fields}
 use Rattle.plan_files.specs.declared.fault.FileCause.TheVariants as cause
-use Rattle.plan_files.specs.declared.kept_row.Row.{Row}
+use Rattle.plan_files.specs.declared.kept_row.FileRow.{FileRow}
 use Rattle.plan_files.proofs.FieldLemmas.{behind_comma, behind_found, behind_row, row_begins, row_goes_on}
 use Rattle.plan_files.proofs.RowsLeft.{row_first, row_leads}
 
@@ -256,7 +256,7 @@ row_continued start left next old new third more so_far read =
     }
 
 -- all that is kept of a row is read
-begun_by : (row : Row) (left : List ℕ) (fields : List (List ℕ)) (read : Read) → next_row row.start.now ≡ behind_fields fields left → next_row row.start.now ≡ Some read
+begun_by : (row : FileRow) (left : List ℕ) (fields : List (List ℕ)) (read : Read) → next_row row.start.now ≡ behind_fields fields left → next_row row.start.now ≡ Some read
     → fields_of row.kept ≡ kept_of read.0 → (2 < length read.0 → (first_field row.third.now).0 ≡ get_or read.0 2 []) → IsBegun row left
 begun_by row left fields read behind found kept third =
     let own : fields_in row ≡ read.0 = ap fields_or_none found in
@@ -279,7 +279,7 @@ full_long fields full =
     let long = length-map (take most_fields fields) (take most_bytes) ∙ length-take most_fields fields in
     grind (arith, nat_tests, long, full)
 
-pub row_begun : (row : Row) (start left : List ℕ) → row.start.now ≡ start → goes_on (length (fields_of row.kept)) left ≡ false
+pub row_begun : (row : FileRow) (start left : List ℕ) → row.start.now ≡ start → goes_on (length (fields_of row.kept)) left ≡ false
     → IsReadTo start left (fields_of row.kept) row.third.now → IsBegun row left
 row_begun row start left is stops so_far =
     let behind : next_row row.start.now ≡ behind_fields so_far.fields left = ap next_row is ∙ so_far.row in

@@ -7,7 +7,7 @@ use Rattle.csv.specs.Records.{fields_of, partial_of}
 use Rattle.csv.specs.Records as csv
 use Rattle.csv.specs.declared.parser.State.TheVariants as st
 use Rattle.plan_files.specs.Fields.{behind_fields, first_field}
-use Rattle.plan_files.specs.declared.kept_row.Row.{Row}
+use Rattle.plan_files.specs.declared.kept_row.FileRow.{FileRow}
 
 -- how many fields are kept: one more than a right row has
 abbrev pub most_fields : ℕ
@@ -39,16 +39,16 @@ fields_or_none None = []
 fields_or_none (Some read) = read.0
 
 -- all fields of a row
-abbrev pub fields_in : Row → List (List ℕ)
+abbrev pub fields_in : FileRow → List (List ℕ)
 fields_in row = fields_or_none (next_row row.start.now)
 
 -- what is kept is of these fields, and the third of them begins where it is noted
-pub record KeepsFields (row : Row) (fields : List (List ℕ)) : Type 0 where
+pub record KeepsFields (row : FileRow) (fields : List (List ℕ)) : Type 0 where
   pub kept : fields_of row.kept ≡ kept_of fields
   pub third : 2 < length fields → (first_field row.third.now).0 ≡ slice_index_or fields 2 []
 
 -- what is kept of a row is its own
-abbrev pub IsKept : Row → Type 0
+abbrev pub IsKept : FileRow → Type 0
 IsKept row = KeepsFields row (fields_in row)
 
 -- the first field of the bytes ends where the rest begins, and what is to be kept of it is kept behind those before it
@@ -83,19 +83,19 @@ pub record SkipsTo (bytes : List ℕ) (rest : List ℕ) : Type 0 where
   pub starts : starts_row rest ≡ true
 
 -- so much of a row is read as is kept, up to the end of a field, where these bytes begin
-pub record IsBegun (row : Row) (left : List ℕ) : Type 0 where
+pub record IsBegun (row : FileRow) (left : List ℕ) : Type 0 where
   pub kept : IsKept row
   pub first : rows_in row.start.now ≡ fields_in row ∷ drop 1 (rows_in row.start.now)
   pub fields : List (List ℕ)
   pub behind : next_row row.start.now ≡ behind_fields fields left
 
 -- the first row of the bytes is begun
-pub record BeginsRow (bytes : List ℕ) (row : Row) (left : List ℕ) : Type 0 where
+pub record BeginsRow (bytes : List ℕ) (row : FileRow) (left : List ℕ) : Type 0 where
   pub rows : rows_in bytes ≡ rows_in row.start.now
   pub begun : IsBegun row left
 
 -- the first row is begun, or there is none
-abbrev pub ReadsRow : List ℕ → Row → Option (Bor (List ℕ)) → Type 0
+abbrev pub ReadsRow : List ℕ → FileRow → Option (Bor (List ℕ)) → Type 0
 ReadsRow bytes row None = rows_in bytes ≡ []
 ReadsRow bytes row (Some left) = BeginsRow bytes row left.now
 

@@ -10,7 +10,7 @@ ghost use Rattle.plan_files.specs.WrittenKeys.{AddsRows};
 use crate::fault::{FileCause, FileError, NO_MEMORY};
 use crate::fields::{is_quoted, plain_end, read_quoted};
 use crate::form::PlanForm;
-use crate::kept_row::Row;
+use crate::kept_row::FileRow;
 use crate::key_row::take_keys;
 use crate::row::{check_fields, is_word, key_field, name_field, number_field};
 use crate::row_reader::RowReader;
@@ -42,7 +42,7 @@ pub enum PlanRow {
 
 /// What a row `own,GROUP,METER,KEY` says.
 #[tactic(auto, unfolding(crate::specs::PlanRows::own_row))]
-fn own_row(row: &Row<'_>) -> Result<PlanRow, FileCause>
+fn own_row(row: &FileRow<'_>) -> Result<PlanRow, FileCause>
     requires kept { IsKept row.now }
     ensures { result ≡ own_row (fields_in row.now) }
 {
@@ -55,7 +55,7 @@ fn own_row(row: &Row<'_>) -> Result<PlanRow, FileCause>
 
 /// What a row `pair,GROUP,LOW,HIGH,KEY` says.
 #[tactic(auto, unfolding(crate::specs::PlanRows::pair_row))]
-fn pair_row(row: &Row<'_>) -> Result<PlanRow, FileCause>
+fn pair_row(row: &FileRow<'_>) -> Result<PlanRow, FileCause>
     requires kept { IsKept row.now }
     ensures { result ≡ pair_row (fields_in row.now) }
 {
@@ -74,7 +74,7 @@ fn pair_row(row: &Row<'_>) -> Result<PlanRow, FileCause>
 
 /// What a row `member,GROUP,METER,FROM,UNTIL` says.
 #[tactic(auto, unfolding(crate::specs::PlanRows::member_row))]
-fn member_row(row: &Row<'_>) -> Result<PlanRow, FileCause>
+fn member_row(row: &FileRow<'_>) -> Result<PlanRow, FileCause>
     requires kept { IsKept row.now }
     ensures { result ≡ member_row (fields_in row.now) }
 {
@@ -104,7 +104,7 @@ fn arg_of(alloc: Global, text: &[u8]) -> Result<Arg, FileCause>
 }
 
 /// The argument in the third field.
-fn arg_field(alloc: Global, row: &Row<'_>) -> Result<Arg, FileCause>
+fn arg_field(alloc: Global, row: &FileRow<'_>) -> Result<Arg, FileCause>
     requires kept { IsKept row.now }
     requires long { 2 < length (fields_in row.now) }
     ensures { Answers (arg_in (fields_in row.now) 2) result }
@@ -122,7 +122,7 @@ fn arg_field(alloc: Global, row: &Row<'_>) -> Result<Arg, FileCause>
 
 /// What a row `lane,NAME,ARGUMENT,FROM,TO` says. The number is the row's in the file.
 #[tactic(auto, unfolding(crate::specs::PlanRows::lane_row))]
-fn lane_row(alloc: Global, number: u32, row: &Row<'_>) -> Result<PlanRow, FileCause>
+fn lane_row(alloc: Global, number: u32, row: &FileRow<'_>) -> Result<PlanRow, FileCause>
     requires kept { IsKept row.now }
     ensures { Answers (lane_row number (fields_in row.now)) result }
 {
@@ -142,7 +142,7 @@ fn lane_row(alloc: Global, number: u32, row: &Row<'_>) -> Result<PlanRow, FileCa
 
 /// What a row of a key or a lane says. The number is the row's in the file.
 #[tactic(auto, unfolding(crate::specs::PlanRows::key_or_lane))]
-fn key_or_lane(alloc: Global, number: u32, row: &Row<'_>) -> Result<PlanRow, FileCause>
+fn key_or_lane(alloc: Global, number: u32, row: &FileRow<'_>) -> Result<PlanRow, FileCause>
     requires kept { IsKept row.now }
     ensures { Answers (key_or_lane number (fields_in row.now)) result }
 {
@@ -163,7 +163,7 @@ pub fn read_entry(
     alloc: Global,
     form: PlanForm,
     number: u32,
-    row: &Row<'_>,
+    row: &FileRow<'_>,
 ) -> Result<PlanRow, FileCause>
     requires kept { IsKept row.now }
     ensures { Answers (entry_of form number (fields_in row.now)) result }

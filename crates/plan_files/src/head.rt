@@ -8,7 +8,7 @@ ghost use Rattle.plan_files.specs.RowsLeft.{IsSound, rows_left};
 
 use crate::fault::{FileCause, FileError, NO_MEMORY};
 use crate::form::PlanForm;
-use crate::kept_row::Row;
+use crate::kept_row::FileRow;
 use crate::row::{check_fields, is_long, is_word, name_field, number_field};
 use crate::row_reader::RowReader;
 use group_plan::GroupPlan;
@@ -30,7 +30,7 @@ pub struct PlanHead {
 
 /// The first row is the form's title and `1`.
 #[tactic(auto, unfolding(crate::specs::PlanRows::version_row))]
-fn check_version(form: PlanForm, row: &Row<'_>) -> Result<(), FileCause>
+fn check_version(form: PlanForm, row: &FileRow<'_>) -> Result<(), FileCause>
     requires kept { IsKept row.now }
     ensures { result ≡ version_row form (fields_in row.now) }
 {
@@ -43,7 +43,7 @@ fn check_version(form: PlanForm, row: &Row<'_>) -> Result<(), FileCause>
 
 /// The number in a row `rounds,ROUNDS`.
 #[tactic(auto, unfolding(crate::specs::PlanRows::rounds_row))]
-pub fn read_rounds(row: &Row<'_>) -> Result<u32, FileCause>
+pub fn read_rounds(row: &FileRow<'_>) -> Result<u32, FileCause>
     requires kept { IsKept row.now }
     ensures { result ≡ rounds_row (fields_in row.now) }
 {
@@ -56,7 +56,7 @@ pub fn read_rounds(row: &Row<'_>) -> Result<u32, FileCause>
 
 /// The windows in a row `windows,READING,RECOVERY`.
 #[tactic(auto, unfolding(crate::specs::PlanRows::windows_row))]
-fn read_windows(row: &Row<'_>) -> Result<Windows, FileCause>
+fn read_windows(row: &FileRow<'_>) -> Result<Windows, FileCause>
     requires kept { IsKept row.now }
     ensures { result ≡ windows_row (fields_in row.now) }
 {
@@ -71,7 +71,7 @@ fn read_windows(row: &Row<'_>) -> Result<Windows, FileCause>
 
 /// The group of a row `group,NAME,METERS,FLOOR`.
 #[tactic(auto, unfolding(crate::specs::PlanRows::group_row))]
-fn read_group(row: &Row<'_>) -> Result<GroupPlan, FileCause>
+fn read_group(row: &FileRow<'_>) -> Result<GroupPlan, FileCause>
     requires kept { IsKept row.now }
     ensures { result ≡ group_row (fields_in row.now) }
 {

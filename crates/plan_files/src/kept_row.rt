@@ -16,7 +16,7 @@ const MOST_BYTES: usize = 168;
 
 /// A row, of any length: the first of its fields, and the first bytes of each.
 #[derive(Drop)]
-pub struct Row<'b> {
+pub struct FileRow<'b> {
     /// The bytes of the file from the row's first one on.
     pub(crate) start: &'b [u8],
     /// What is kept of its fields.
@@ -27,10 +27,10 @@ pub struct Row<'b> {
     pub(crate) text: Vec<u8>,
 }
 
-impl<'b> Row<'b> {
+impl<'b> FileRow<'b> {
     /// A row that isn't read yet.
-    pub(crate) fn new(alloc: Global) -> Row<'b> {
-        Row {
+    pub(crate) fn new(alloc: Global) -> FileRow<'b> {
+        FileRow {
             start: &[],
             kept: ByteRecord::new(alloc),
             third: &[],
@@ -126,7 +126,7 @@ fn third_from<'b>(kept: usize, third: &'b [u8], next: &'b [u8]) -> &'b [u8]
 }
 
 /// Reads so much of the row with which the bytes begin as is kept, and answers the bytes from the end of its last field on.
-fn read_fields<'b>(row: &mut Row<'b>, start: &'b [u8]) -> Result<&'b [u8], AllocError>
+fn read_fields<'b>(row: &mut FileRow<'b>, start: &'b [u8]) -> Result<&'b [u8], AllocError>
     requires starts { starts_row start.now ≡ true }
     requires some { 0 < length start.now }
     ensures begun { IfOk result (λ left. IsBegun row.new left.now) }
@@ -145,7 +145,7 @@ fn read_fields<'b>(row: &mut Row<'b>, start: &'b [u8]) -> Result<&'b [u8], Alloc
 
 /// Reads so much of the first row as is kept, and answers the bytes from the end of its last field on; or nothing where there
 /// is no row.
-pub fn read_row<'b>(row: &mut Row<'b>, bytes: &'b [u8]) -> Result<Option<&'b [u8]>, AllocError>
+pub fn read_row<'b>(row: &mut FileRow<'b>, bytes: &'b [u8]) -> Result<Option<&'b [u8]>, AllocError>
     ensures { IfOk result (λ left. ReadsRow bytes.now row.new left) }
 {
     let start = skip_ends(bytes);

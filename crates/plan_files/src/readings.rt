@@ -11,7 +11,7 @@ ghost use Rattle.plan_files.specs.Registers.{register_of, registers_by, tables_o
 ghost use Rattle.plan_files.specs.RowsLeft.{IsSound, rows_left};
 
 use crate::fault::{FileCause, FileError, NO_MEMORY};
-use crate::kept_row::Row;
+use crate::kept_row::FileRow;
 use crate::row::{Numbers, is_long, is_word, number_field, readings_field};
 use crate::row_reader::RowReader;
 use group_plan::{Plan, Readings};
@@ -19,7 +19,7 @@ use std::alloc::{AllocError, Global};
 
 /// Whether the row starts with the group's name and the round.
 #[tactic(auto, unfolding(crate::specs::Readings::is_row_of, crate::specs::PlanRows::number_in))]
-fn is_row_of(plan: &Plan, group: u16, round: u32, row: &Row<'_>) -> bool
+fn is_row_of(plan: &Plan, group: u16, round: u32, row: &FileRow<'_>) -> bool
     requires kept { IsKept row.now }
     requires group { group < length plan.now.groups }
     ensures { result ≡ is_row_of plan.now group round (fields_in row.now) }
@@ -70,7 +70,7 @@ fn put_fields(
     tables: &mut [Readings],
     group: u16,
     round: u32,
-    row: &Row<'_>,
+    row: &FileRow<'_>,
 ) -> Result<(), FileCause>
     requires kept { IsKept row.now }
     requires count { (1 ≤ length tables.old) × (length tables.old ≤ 8) }
@@ -95,7 +95,7 @@ fn put_row(
     tables: &mut [Readings],
     group: u16,
     round: u32,
-    row: &Row<'_>,
+    row: &FileRow<'_>,
 ) -> Result<(), FileCause>
     requires kept { IsKept row.now }
     requires count { (1 ≤ length tables.old) × (length tables.old ≤ 8) }

@@ -6,7 +6,7 @@ ghost use Rattle.plan_files.specs.RegisterParts.{ReadsField, ReadsNumbers};
 ghost use Rattle.plan_files.specs.PlanRows.{has_fields, key_in, name_in, number_in};
 
 use crate::fault::FileCause;
-use crate::kept_row::Row;
+use crate::kept_row::FileRow;
 use crate::key::read_key;
 use arrayvec::ArrayVec;
 use field_texts::{cut, read_number, read_number_within};
@@ -22,7 +22,7 @@ pub type Numbers = ArrayVec<u64, 8>;
 const NUMBER_BOUND: u64 = 1 << 32;
 
 /// What is kept of the field at a place, counted from 0; empty past the end of the row.
-pub fn kept_field<'r>(row: &'r Row<'_>, place: usize) -> &'r [u8]
+pub fn kept_field<'r>(row: &'r FileRow<'_>, place: usize) -> &'r [u8]
     requires kept { IsKept row.now }
     requires place { place < most_fields }
     ensures { result.now ≡ take most_bytes (slice_index_or (fields_in row.now) place []) }
@@ -35,7 +35,7 @@ pub fn kept_field<'r>(row: &'r Row<'_>, place: usize) -> &'r [u8]
 
 /// Whether the field at a place is this word.
 #[tactic(auto, using(crate::proofs::KeptLemmas::same_word))]
-pub fn is_word(row: &Row<'_>, place: usize, word: &[u8]) -> bool
+pub fn is_word(row: &FileRow<'_>, place: usize, word: &[u8]) -> bool
     requires kept { IsKept row.now }
     requires place { place < most_fields }
     requires short { length word.now < most_bytes }
@@ -45,7 +45,7 @@ pub fn is_word(row: &Row<'_>, place: usize, word: &[u8]) -> bool
 }
 
 /// Whether a row has so many fields.
-pub fn is_long(row: &Row<'_>, count: usize) -> bool
+pub fn is_long(row: &FileRow<'_>, count: usize) -> bool
     requires kept { IsKept row.now }
     requires few { count < most_fields }
     ensures { result ≡ (length (fields_in row.now) == count) }
@@ -55,7 +55,7 @@ pub fn is_long(row: &Row<'_>, count: usize) -> bool
 
 /// Refuses a row that hasn't this many fields.
 #[tactic(auto, unfolding(crate::specs::PlanRows::has_fields))]
-pub fn check_fields(row: &Row<'_>, count: usize) -> Result<(), FileCause>
+pub fn check_fields(row: &FileRow<'_>, count: usize) -> Result<(), FileCause>
     requires kept { IsKept row.now }
     requires few { count < most_fields }
     ensures { result ≡ has_fields count (fields_in row.now) }
@@ -68,7 +68,7 @@ pub fn check_fields(row: &Row<'_>, count: usize) -> Result<(), FileCause>
 
 /// The number below 2^32 in the field at a place.
 #[tactic(auto, unfolding(crate::specs::PlanRows::number_in), using(crate::proofs::KeptLemmas::same_number))]
-pub fn number_field(row: &Row<'_>, place: usize) -> Result<u32, FileCause>
+pub fn number_field(row: &FileRow<'_>, place: usize) -> Result<u32, FileCause>
     requires kept { IsKept row.now }
     requires place { place < most_fields }
     ensures { result ≡ number_in (fields_in row.now) place }
@@ -81,7 +81,7 @@ pub fn number_field(row: &Row<'_>, place: usize) -> Result<u32, FileCause>
 
 /// The key of 64 hexadecimal digits of either case in the field at a place.
 #[tactic(auto, unfolding(crate::specs::PlanRows::key_in), using(crate::proofs::KeptLemmas::same_key))]
-pub fn key_field(row: &Row<'_>, place: usize) -> Result<[u8; 32], FileCause>
+pub fn key_field(row: &FileRow<'_>, place: usize) -> Result<[u8; 32], FileCause>
     requires kept { IsKept row.now }
     requires place { place < most_fields }
     ensures { result ≡ key_in (fields_in row.now) place }
@@ -94,7 +94,7 @@ pub fn key_field(row: &Row<'_>, place: usize) -> Result<[u8; 32], FileCause>
 
 /// The name in the field at a place.
 #[tactic(auto, unfolding(crate::specs::PlanRows::name_in), using(crate::proofs::KeptLemmas::same_name))]
-pub fn name_field(row: &Row<'_>, place: usize) -> Result<Name, FileCause>
+pub fn name_field(row: &FileRow<'_>, place: usize) -> Result<Name, FileCause>
     requires kept { IsKept row.now }
     requires place { place < most_fields }
     ensures { result ≡ name_in (fields_in row.now) place }
@@ -162,7 +162,7 @@ fn readings(text: &[u8], count: usize, is_member: bool) -> Result<Option<Numbers
 
 /// The readings that the field at a place says, one for each of so many registers, of a member of the round or of a meter that is none.
 pub fn readings_field(
-    row: &Row<'_>,
+    row: &FileRow<'_>,
     place: usize,
     count: usize,
     is_member: bool,

@@ -7,7 +7,7 @@ ghost use Rattle.plan_files.specs.Rows.{file_rows};
 ghost use Rattle.plan_files.specs.RowsLeft.{IsCurrent, IsSound, rows_left};
 
 use crate::fault::{FileError, NO_MEMORY};
-use crate::kept_row::{Row, read_row, skip_row};
+use crate::kept_row::{FileRow, read_row, skip_row};
 use std::alloc::Global;
 
 /// The bytes of a file behind its byte order mark, if it has one.
@@ -25,7 +25,7 @@ fn without_mark(bytes: &[u8]) -> &[u8]
 /// The rows of a file from the current one on. Each is read in place of the one before it.
 #[derive(Drop)]
 pub struct RowReader<'b> {
-    row: Row<'b>,
+    row: FileRow<'b>,
     has_row: bool,
     /// The bytes from the end of the last field on that is kept of the current row.
     left: &'b [u8],
@@ -41,7 +41,7 @@ impl<'b> RowReader<'b> {
         ensures fault { IfErr result (λ fault. IsWantOfMemory fault) }
     {
         let mut rows = RowReader {
-            row: Row::new(alloc),
+            row: FileRow::new(alloc),
             has_row: false,
             left: &[],
         };
@@ -70,7 +70,7 @@ impl<'b> RowReader<'b> {
     }
 
     /// The current row, where any is left.
-    pub fn current(&self) -> Option<&Row<'b>>
+    pub fn current(&self) -> Option<&FileRow<'b>>
         requires { IsSound self.now }
         ensures { MatchOption result (rows_left self.now ≡ []) (λ row. IsCurrent self.now row.now) }
     {

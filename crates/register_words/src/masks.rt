@@ -5,7 +5,7 @@ use crate::blocks::Blocks;
 use crate::rows::{own_blocks, pair_blocks, register_row};
 use crate::word::word_of_register;
 use chacha_lanes::block_words_of_rounds;
-use mask_stream::{Masks, Row};
+use mask_stream::{MaskRow, Masks};
 use missing_round::MeterSet;
 use mod_word::Word;
 use pair_keys::KeyTable;
@@ -48,13 +48,13 @@ impl<'k> Masks for RegisterMasks<'k> {
         word_of_register(self.keys.pair(group, low, high), round, self.register)
     }
 
-    fn owns(&self, group: u16, round: u32, meters: &MeterSet) -> Row {
+    fn owns(&self, group: u16, round: u32, meters: &MeterSet) -> MaskRow {
         let mut blocks = Blocks::new();
         own_blocks(&mut blocks, self.keys, group, round, meters);
         register_row(&blocks, self.register)
     }
 
-    fn pairs(&self, group: u16, round: u32, meter: u8, others: &MeterSet) -> Row {
+    fn pairs(&self, group: u16, round: u32, meter: u8, others: &MeterSet) -> MaskRow {
         let mut blocks = Blocks::new();
         pair_blocks(&mut blocks, self.keys, group, round, meter, others);
         register_row(&blocks, self.register)

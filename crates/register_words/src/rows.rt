@@ -9,7 +9,7 @@ ghost use Rattle.register_words.specs.Blocks.{is_end, made_with, pair_of};
 ghost use Rattle.register_words.specs.Words.{words_of};
 
 use crate::blocks::{Blocks, KeyBatch};
-use mask_stream::Row;
+use mask_stream::MaskRow;
 use missing_round::MeterSet;
 use pair_keys::KeyTable;
 
@@ -109,12 +109,12 @@ pub(crate) fn own_blocks(
 }
 
 /// The words of a register in these blocks.
-pub(crate) fn register_row(blocks: &Blocks, register: u8) -> Row
+pub(crate) fn register_row(blocks: &Blocks, register: u8) -> MaskRow
     requires register { register < 8 }
     requires room { length blocks.now.items ≤ 256 }
     ensures { result.items ≡ map (λ block. slice_index block register) blocks.now.items }
 {
-    let mut row = Row::new();
+    let mut row = MaskRow::new();
     for block in blocks.as_slice() {
         row.push(block[register as usize]);
     }

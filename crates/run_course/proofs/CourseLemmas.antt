@@ -13,7 +13,7 @@ use Rattle.group_plan.specs.Plans.{PlanView, Group, IsWithinLimits, is_place, si
 use Rattle.group_plan.specs.Tables.{ReadingsView, reading, absent}
 use Rattle.group_plan.proofs.TableLemmas.{entry-table_of, entry_outside, is_table-table_of}
 use Rattle.std.proofs.lemmas.List.Elements.{All-nil}
-use Rattle.link_lanes.specs.Fates.{is_delay, never_falls}
+use Rattle.link_lanes.specs.Fates.{is_delay, never_falls, IsFate}
 use Rattle.event_schedule.specs.declared.Event.{Event}
 use Rattle.event_schedule.specs.declared.Event.TheVariants.{Send, Take, Close, End}
 use Rattle.event_schedule.specs.declared.Line.{Line}
@@ -21,7 +21,6 @@ use Rattle.event_schedule.specs.declared.Line.TheVariants.{Send as SendLine, Tak
 use Rattle.event_schedule.specs.declared.Entry.{Entry}
 use Rattle.event_schedule.specs.Events.{once, event_of, is_tag, is_take, is_close, is_end}
 use Rattle.event_schedule.specs.Schedule.{is_closed, is_reading_sent, is_reading_taken}
-use Rattle.event_schedule.specs.Transcripts.{IsFate}
 use Rattle.event_schedule.proofs.EventLemmas.{is_send-true}
 use Rattle.run_rows.specs.Ticks.{clock_of, last_tick, moment, phase, takes_at, tags_of, NoneBefore, StandsOnce}
 use Rattle.run_course.specs.declared.waiting.Arrival.{Arrival}

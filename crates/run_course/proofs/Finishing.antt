@@ -16,7 +16,7 @@ use Rattle.event_schedule.specs.declared.Line.TheVariants.{Send as SendLine, Tak
 use Rattle.event_schedule.specs.declared.Entry.{Entry}
 use Rattle.event_schedule.specs.Events.{event_of, is_take}
 use Rattle.event_schedule.proofs.EventLemmas.{is_send-true}
-use Rattle.event_schedule.specs.Transcripts.{IsFate}
+use Rattle.link_lanes.specs.Fates.{IsFate}
 use Rattle.run_rows.specs.Ticks.{clock_of, last_tick, tag_of, takes_at}
 use Rattle.run_course.specs.declared.waiting.Arrival.{Arrival}
 use Rattle.run_course.specs.Beginnings.{is_void_send, IsSomeRun, BeginsRun}

@@ -13,7 +13,7 @@ use Rattle.event_schedule.specs.declared.Event.{Event}
 use Rattle.event_schedule.specs.declared.Event.TheVariants.{Send, Take, Close, End}
 use Rattle.event_schedule.specs.declared.Entry.{Entry}
 use Rattle.event_schedule.specs.Events.{event_of, is_tag, same_kind, is_send, is_take}
-use Rattle.event_schedule.specs.Transcripts.{IsFate}
+use Rattle.link_lanes.specs.Fates.{IsFate}
 use Rattle.run_rows.specs.Ticks.{clock_of, moment, phase, tag_of, takes_at, copies, sent_at, tags_of, due_of, NoneBefore, IsOrdered, StandsOnce}
 use Rattle.run_course.specs.Beginnings.{shape_where, IsSomeRun}
 use Rattle.run_course.specs.Lists.{IsIn}

@@ -8,12 +8,11 @@ use Rattle.std.proofs.lemmas.List.Elements.{All-append}
 use Rattle.group_plan.specs.declared.Kind.{Kind}
 use Rattle.group_plan.specs.declared.Tag.{Tag}
 use Rattle.group_plan.specs.Plans.{PlanView, IsWithinLimits}
-use Rattle.link_lanes.specs.Fates.{is_delay}
+use Rattle.link_lanes.specs.Fates.{is_delay, IsFate}
 use Rattle.event_schedule.specs.declared.Event.{Event}
 use Rattle.event_schedule.specs.declared.Event.TheVariants.{Send, Take, Close, End}
 use Rattle.event_schedule.specs.declared.Entry.{Entry}
 use Rattle.event_schedule.specs.Events.{event_of, is_tag, is_send, is_take, is_close, is_end}
-use Rattle.event_schedule.specs.Transcripts.{IsFate}
 use Rattle.run_rows.specs.Ticks.{clock_of, last_tick, moment, phase, takes_at, copies, sent_at, tags_of}
 use Rattle.run_course.specs.declared.waiting.Arrival.{Arrival}
 use Rattle.run_course.specs.Beginnings.{is_void_send}

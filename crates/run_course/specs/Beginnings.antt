@@ -6,7 +6,7 @@ use Rattle.event_schedule.specs.declared.Line.{Line}
 use Rattle.event_schedule.specs.declared.Line.TheVariants.{Send}
 use Rattle.event_schedule.specs.declared.Entry.{Entry}
 use Rattle.event_schedule.specs.Schedule.{Shape}
-use Rattle.event_schedule.specs.Transcripts.{IsFate}
+use Rattle.link_lanes.specs.Fates.{IsFate}
 use Rattle.run_rows.specs.Ticks.{clock_of, IsRunPlan, IsTickRun}
 
 -- a Send without a frame: it has no effect, and no run has one

@@ -9,7 +9,7 @@ use Rattle.event_schedule.specs.declared.Event.{Event}
 use Rattle.event_schedule.specs.declared.Event.TheVariants.{Send, Take}
 use Rattle.event_schedule.specs.declared.Entry.{Entry}
 use Rattle.event_schedule.specs.Events.{event_of, is_tag, is_close, is_end}
-use Rattle.event_schedule.specs.Transcripts.{IsFate}
+use Rattle.link_lanes.specs.Fates.{IsFate}
 use Rattle.run_rows.specs.Ticks.{clock_of, last_tick, moment, IsOrdered, takes_at, copies, sent_at, tags_of}
 use Rattle.run_course.specs.declared.waiting.Arrival.{Arrival}
 use Rattle.run_course.specs.Beginnings.{is_void_send}

@@ -4,7 +4,7 @@ use Rattle.group_plan.specs.Plans.{PlanView}
 use Rattle.link_lanes.specs.Lanes.{Slot}
 use Rattle.event_schedule.specs.declared.Entry.{Entry}
 use Rattle.event_schedule.specs.Transcript.{Contents}
-use Rattle.event_schedule.specs.Transcripts.{IsFate}
+use Rattle.link_lanes.specs.Fates.{IsFate}
 use Rattle.run_rows.specs.Runs.{IsRun}
 use Rattle.run_rows.specs.Ticks.{clock_of, IsRunPlan}
 use Rattle.run_course.specs.Beginnings.{IsSomeRun, shape_where}

@@ -7,7 +7,7 @@ ghost use Rattle.sparse_masks.specs.Neighbours.{ring, are_neighbours};
 
 use crate::neighbours::{are_neighbours, neighbours_among};
 use group_plan::Plan;
-use mask_stream::{Masks, Row};
+use mask_stream::{MaskRow, Masks};
 use missing_round::MeterSet;
 use mod_word::Word;
 
@@ -46,15 +46,15 @@ impl<'m, M: Masks> RingMasks<'m, M> {
         meter: u8,
         others: &MeterSet,
         neighbours: MeterSet,
-        row: &Row,
-    ) -> Row
+        row: &MaskRow,
+    ) -> MaskRow
         requires neighbours { neighbours ≡ filter (are_neighbours self.now.width (size self.now.plan.now.groups group) meter) others.now }
         requires row { row.now.items ≡ map (between ((M.table self.now.masks.now).pair group round) meter) neighbours }
         ensures { result.items ≡ map (between ((ring self.now.width self.now.plan.now.groups (M.table self.now.masks.now)).pair group round) meter) others.now }
     {
         let words = row.as_slice();
         let mut place = 0;
-        let mut spread = Row::new();
+        let mut spread = MaskRow::new();
         for other in others.members() {
             if neighbours.has(other) {
                 spread.push(words[place]);
@@ -84,11 +84,11 @@ impl<'m, M: Masks> Masks for RingMasks<'m, M> {
         }
     }
 
-    fn owns(&self, group: u16, round: u32, meters: &MeterSet) -> Row {
+    fn owns(&self, group: u16, round: u32, meters: &MeterSet) -> MaskRow {
         self.masks.owns(group, round, meters)
     }
 
-    fn pairs(&self, group: u16, round: u32, meter: u8, others: &MeterSet) -> Row {
+    fn pairs(&self, group: u16, round: u32, meter: u8, others: &MeterSet) -> MaskRow {
         let neighbours = neighbours_among(self.width, self.plan.meters(group), meter, others);
         let row = self.masks.pairs(group, round, meter, &neighbours);
         self.spread(group, round, meter, others, neighbours, &row)

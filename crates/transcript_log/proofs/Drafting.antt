@@ -8,7 +8,8 @@ use Rattle.event_schedule.specs.declared.Entry.{Entry}
 use Rattle.event_schedule.specs.declared.Line.{Line}
 use Rattle.transcript_log.specs.declared.transcript.Stamp.{Stamp}
 use Rattle.event_schedule.specs.Events.{lines_of}
-use Rattle.event_schedule.specs.Transcripts.{TranscriptView, Fits, FitsLine, IsEntry, IsFate, IsLine, IsTranscript, NeverFalls, last_tick_from}
+use Rattle.link_lanes.specs.Fates.{IsFate}
+use Rattle.event_schedule.specs.Transcripts.{TranscriptView, Fits, FitsLine, IsEntry, IsLine, IsTranscript, NeverFalls, last_tick_from}
 use Rattle.transcript_log.specs.Stamps.{entries_of, IsStamped}
 use Rattle.transcript_log.specs.Drafts.{Begins, IsDrafted, quiet}
 use Rattle.transcript_log.proofs.Pushing.{one_more}

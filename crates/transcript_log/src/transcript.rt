@@ -4,7 +4,8 @@ ghost use Rattle.std.specs.Prelude.{◌≡◌, ◌≤◌, ◌^◌, ◌<◌, [], 
 ghost use Rattle.missing_round.specs.Sets.{IsSet};
 ghost use Rattle.event_schedule.specs.declared.Line.TheVariants.{Send, Close, End};
 ghost use Rattle.transcript_log.specs.Lines.{HasOwnTag};
-ghost use Rattle.event_schedule.specs.Transcripts.{IsEntry, IsFate, IsLine, IsTranscript, Fits, Pushes, last_tick_from, no_entries};
+ghost use Rattle.link_lanes.specs.Fates.{IsFate};
+ghost use Rattle.event_schedule.specs.Transcripts.{IsEntry, IsLine, IsTranscript, Fits, Pushes, last_tick_from, no_entries};
 
 use crate::Lines;
 use event_schedule::{Entry, Line};

@@ -5,7 +5,7 @@ use Rattle.std.proofs.lemmas.List.{take-append-drop}
 use Rattle.group_plan.specs.Plans.{PlanView}
 use Rattle.event_schedule.specs.declared.Entry.{Entry}
 use Rattle.event_schedule.specs.Transcripts.{TranscriptView}
-use Rattle.transcript_text.specs.declared.made.Place.TheVariants.{Head, Entry as EntryAt}
+use Rattle.transcript_text.specs.declared.made.TextPlace.TheVariants.{Head, Entry as EntryAt}
 use Rattle.transcript_text.specs.declared.made.Until.TheVariants.{LastEntry, EndLine}
 use Rattle.transcript_text.specs.declared.version.Version.TheVariants.{Two}
 use Rattle.transcript_text.specs.Spelling.{ended, entry_text, entries_text, head_text, text_of, transcript_text}

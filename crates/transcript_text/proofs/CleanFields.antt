@@ -20,7 +20,8 @@ use Rattle.event_schedule.specs.declared.Line.{Line}
 use Rattle.event_schedule.specs.declared.Line.TheVariants.{Send, Take, Close, End}
 use Rattle.event_schedule.specs.declared.Entry.{Entry}
 use Rattle.transcript_text.specs.declared.version.Version.{Version}
-use Rattle.event_schedule.specs.Transcripts.{Fits, FitsLine, HasPlace, HasRound, IsEntry, IsFate, IsLine}
+use Rattle.link_lanes.specs.Fates.{IsFate}
+use Rattle.event_schedule.specs.Transcripts.{Fits, FitsLine, HasPlace, HasRound, IsEntry, IsLine}
 use Rattle.field_texts.specs.Sets.{numbers_text}
 use Rattle.transcript_text.specs.Spelling.{closing_fields, ending_fields, fields_of, frame_bytes, kind_text, line_fields, verdict_text}
 use Rattle.transcript_text.proofs.Choices.{test_of}

@@ -17,10 +17,12 @@ use Rattle.event_schedule.specs.declared.Line.TheVariants.{Send, Take, Close}
 use Rattle.transcript_text.specs.declared.version.Version.{Version}
 use Rattle.transcript_text.specs.declared.fault.Row.TheVariants as row
 use Rattle.field_texts.specs.Numbers.{number_of, within}
-use Rattle.event_schedule.specs.Transcripts.{FitsClosing, HasPlace, IsFate, IsLine, IsPlan}
+use Rattle.link_lanes.specs.Fates.{IsFate}
+use Rattle.event_schedule.specs.Transcripts.{FitsClosing, HasPlace, IsLine, IsPlan}
 use Rattle.field_texts.specs.Sets.{numbers_text}
 use Rattle.transcript_text.specs.Spelling.{closing_fields, fields_of, frame_bytes, kind_text, verdict_text}
-use Rattle.transcript_text.specs.Reading.{closing_of, fate_of, kind_of, row_of, send_of, sent_of, tag_of, take_of, verdict_of}
+use Rattle.link_lanes.specs.Texts.{fate_of}
+use Rattle.transcript_text.specs.Reading.{closing_of, kind_of, row_of, send_of, sent_of, tag_of, take_of, verdict_of}
 use Rattle.field_texts.proofs.NumberLaws.{within_again}
 use Rattle.field_texts.proofs.SetLaws.{set_again, set_rising}
 use Rattle.transcript_text.proofs.FateTexts.{fate_again}

@@ -26,11 +26,13 @@ use Rattle.transcript_text.specs.declared.fault.RowFault.{RowFault}
 use Rattle.transcript_text.specs.declared.fault.RowFault.TheVariants.{Field}
 use Rattle.field_texts.specs.Numbers.{number_of, within}
 use Rattle.transcript_text.specs.Parts.{at}
-use Rattle.event_schedule.specs.Transcripts.{Fits, FitsClosing, FitsEnding, FitsLine, HasPlace, IsEntry, IsFate, IsLine, IsWithin}
+use Rattle.link_lanes.specs.Fates.{IsFate}
+use Rattle.event_schedule.specs.Transcripts.{Fits, FitsClosing, FitsEnding, FitsLine, HasPlace, IsEntry, IsLine, IsWithin}
 use Rattle.field_texts.specs.Sets.{numbers_text}
 use Rattle.transcript_text.specs.Spelling.{closing_fields, ending_fields, fields_of, frame_bytes, kind_text, sent_fields, verdict_text}
 use Rattle.field_texts.specs.Sets.{set_of}
-use Rattle.transcript_text.specs.Reading.{as_entry, close_of, closing_of, dash_of, end_of, ending_of, fate_of, fitting, frame_of, group_of, is_within, kind_of, round_of, row_of, send_of, sent_of, tag_of, take_of, tick_of, verdict_of}
+use Rattle.link_lanes.specs.Texts.{fate_of}
+use Rattle.transcript_text.specs.Reading.{as_entry, close_of, closing_of, dash_of, end_of, ending_of, fitting, frame_of, group_of, is_within, kind_of, round_of, row_of, send_of, sent_of, tag_of, take_of, tick_of, verdict_of}
 use Rattle.field_texts.proofs.NumberLaws.{number_back, within_back}
 use Rattle.field_texts.proofs.Choices.{is_word, pick}
 use Rattle.transcript_text.proofs.Choices.{bind_ok, long_of, mapped, ok_some, pair, spell_eight, spell_seven, spell_six, spell_two, test_of}

@@ -5,12 +5,13 @@ use Rattle.std.specs.Str.{bytes_eq}
 use Rattle.std.specs.List.{list_all}
 use Rattle.std.proofs.lemmas.Bool.Decides.{nat_tests}
 use Rattle.std.proofs.lemmas.List.Elements.{All-cons, All-nil, All-head, All-tail}
-use Rattle.link_lanes.specs.Fates.{is_delay}
+use Rattle.link_lanes.specs.Fates.{is_delay, IsFate}
 use Rattle.field_texts.specs.Numbers.{number_of}
 use Rattle.field_texts.specs.Parts.{parts}
-use Rattle.event_schedule.specs.Transcripts.{IsFate, IsWithin}
+use Rattle.event_schedule.specs.Transcripts.{IsWithin}
 use Rattle.field_texts.specs.Sets.{numbers_text}
-use Rattle.transcript_text.specs.Reading.{delays_from, fate_of, is_within}
+use Rattle.link_lanes.specs.Texts.{delays_from, fate_of}
+use Rattle.transcript_text.specs.Reading.{is_within}
 use Rattle.field_texts.proofs.NumberLaws.{within_again, within_back}
 use Rattle.field_texts.proofs.SetLaws.{clean_numbers, first_back, not_dash, some_numbers}
 use Rattle.field_texts.proofs.TextLaws.{parts_joined}

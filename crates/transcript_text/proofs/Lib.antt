@@ -5,7 +5,6 @@ mod SpanLemmas
 mod SpanText
 mod Cutting
 mod WithinLemmas
-mod FateLemmas
 mod FateTexts
 mod LineFields
 mod EntryLoop

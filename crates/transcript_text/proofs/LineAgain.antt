@@ -22,7 +22,8 @@ use Rattle.event_schedule.specs.Events.{is_tag, same_kind}
 use Rattle.transcript_text.specs.declared.version.Version.{Version}
 use Rattle.transcript_text.specs.declared.version.Version.TheVariants.{One, Two}
 use Rattle.transcript_text.specs.declared.fault.Row.TheVariants as row
-use Rattle.event_schedule.specs.Transcripts.{Fits, FitsClosing, FitsEnding, FitsLine, FitsTag, HasPlace, HasRound, IsEntry, IsFate, IsLine, IsWithin}
+use Rattle.link_lanes.specs.Fates.{IsFate}
+use Rattle.event_schedule.specs.Transcripts.{Fits, FitsClosing, FitsEnding, FitsLine, FitsTag, HasPlace, HasRound, IsEntry, IsLine, IsWithin}
 use Rattle.field_texts.specs.Sets.{numbers_text}
 use Rattle.transcript_text.specs.Spelling.{closing_fields, ending_fields, fields_of, frame_bytes}
 use Rattle.transcript_text.specs.Reading.{close_of, closing_of, end_of, ending_of, fitting, frame_of, frame_of_bytes, frame_of_some, frame_size, row_of, sent_of}

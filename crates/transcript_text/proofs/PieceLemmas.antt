@@ -13,9 +13,9 @@ use Rattle.transcript_text.specs.Spelling.{ended, head_text}
 use Rattle.transcript_text.specs.Writing.{lines_text, lines_from}
 use Rattle.transcript_text.specs.Batches.{piece_start, IsPiece}
 use Rattle.transcript_text.specs.Pieces.{behind_lines, rest_at, bytes_of, AreFilled, AreNext, AreNextOfBoth}
-use Rattle.transcript_text.specs.declared.made.Made.{Made}
-use Rattle.transcript_text.specs.declared.made.Place.{Place}
-use Rattle.transcript_text.specs.declared.made.Place.TheVariants.{Head, Entry as EntryAt, End}
+use Rattle.transcript_text.specs.declared.made.MadePieces.{MadePieces}
+use Rattle.transcript_text.specs.declared.made.TextPlace.{TextPlace}
+use Rattle.transcript_text.specs.declared.made.TextPlace.TheVariants.{Head, Entry as EntryAt, End}
 use Rattle.transcript_text.specs.declared.made.Until.{Until}
 use Rattle.transcript_text.specs.declared.made.Until.TheVariants.{LastEntry, EndLine}
 use Rattle.transcript_text.proofs.LinesText.{none_left, head_some, end_some}
@@ -56,7 +56,7 @@ batch_lines es at n start pieces within are starts =
     ap (λ i. bytes_of pieces ++ lines_from es i) (starts ∙ ap (piece_start es at) (sym first)) ∙ joined es at 0 n pieces are ∙ ap (lines_from es) here
 
 -- the first n pieces of the entries from a place on come next
-pub batch_next : (t : TranscriptView) (at n start : ℕ) (pieces : List (Vec ℕ Global)) (made : Made) → at < length t.entries → 0 < n → ArePieces t.entries at 0 n pieces
+pub batch_next : (t : TranscriptView) (at n start : ℕ) (pieces : List (Vec ℕ Global)) (made : MadePieces) → at < length t.entries → 0 < n → ArePieces t.entries at 0 n pieces
     → made.pieces.items ≡ pieces → start ≡ piece_start t.entries at n → made.after ≡ EntryAt start → AreNextOfBoth t (EntryAt at) made
 batch_next t at n start pieces made within lt are is starts after until =
     record {
@@ -84,7 +84,7 @@ all_there {Y} R ks all (Ok v) gives each =
 all_there R ks all (Err e) gives each = tt
 
 -- one piece, which is not empty, comes next
-one_next : (t : TranscriptView) (until : Until) (place after : Place) (piece : Vec ℕ Global) (made : Made) → piece.items ++ rest_at t until after ≡ rest_at t until place
+one_next : (t : TranscriptView) (until : Until) (place after : TextPlace) (piece : Vec ℕ Global) (made : MadePieces) → piece.items ++ rest_at t until after ≡ rest_at t until place
     → 0 < length piece.items → made.pieces.items ≡ piece ∷ [] → made.after ≡ after → AreNext t until place made
 one_next t until place after piece made text long is goes = record {
   text =
@@ -95,7 +95,7 @@ one_next t until place after piece made text long is goes = record {
 }
 
 -- the head comes first, and the lines come next
-pub head_next : (t : TranscriptView) (plan : PlanView) (start : List ℕ) (piece : Vec ℕ Global) (made : Made) → plan ≡ t.plan → start ≡ [] → piece.items ≡ start ++ head_text Two plan
+pub head_next : (t : TranscriptView) (plan : PlanView) (start : List ℕ) (piece : Vec ℕ Global) (made : MadePieces) → plan ≡ t.plan → start ≡ [] → piece.items ≡ start ++ head_text Two plan
     → made.pieces.items ≡ piece ∷ [] → made.after ≡ EntryAt 0 → AreNextOfBoth t Head made
 head_next t plan start piece made same none put is goes until =
     let head : piece.items ≡ head_text Two t.plan = put ∙ ap (λ s. s ++ head_text Two plan) none ∙ ap (head_text Two) same in
@@ -104,7 +104,7 @@ head_next t plan start piece made same none put is goes until =
     one_next t until Head (EntryAt 0) piece made text (head_some plan start piece.items put) is goes
 
 -- behind the last entry the `end` line comes next
-pub end_next : (t : TranscriptView) (at n : ℕ) (start : List ℕ) (piece : Vec ℕ Global) (made : Made) → length t.entries ≤ at → n ≡ length t.entries → start ≡ []
+pub end_next : (t : TranscriptView) (at n : ℕ) (start : List ℕ) (piece : Vec ℕ Global) (made : MadePieces) → length t.entries ≤ at → n ≡ length t.entries → start ≡ []
     → piece.items ≡ start ++ ended (codes "end," ++ decimal n) → made.pieces.items ≡ piece ∷ [] → made.after ≡ End → AreNext t EndLine (EntryAt at) made
 end_next t at n start piece made all number none put is goes =
     let line : piece.items ≡ behind_lines t EndLine = put ∙ ap (λ s. s ++ ended (codes "end," ++ decimal n)) none ∙ ap (λ k. ended (codes "end," ++ decimal k)) number in
@@ -113,7 +113,7 @@ end_next t at n start piece made all number none put is goes =
     one_next t EndLine (EntryAt at) End piece made text (end_some n start piece.items put) is goes
 
 -- behind the last entry nothing comes next where the text stops there
-pub nothing_next : (t : TranscriptView) (at : ℕ) (made : Made) → length t.entries ≤ at → made.pieces.items ≡ [] → made.after ≡ End → AreNext t LastEntry (EntryAt at) made
+pub nothing_next : (t : TranscriptView) (at : ℕ) (made : MadePieces) → length t.entries ≤ at → made.pieces.items ≡ [] → made.after ≡ End → AreNext t LastEntry (EntryAt at) made
 nothing_next t at made all none goes =
     let left : rest_at t LastEntry (EntryAt at) ≡ [] = append-nil (lines_from t.entries at) ∙ none_left t.entries at all in
     record {

@@ -12,7 +12,8 @@ use Rattle.field_texts.specs.Sets.{numbers_text}
 use Rattle.transcript_text.specs.declared.version.Version.{Version}
 use Rattle.transcript_text.specs.declared.fault.Row.TheVariants as row
 use Rattle.transcript_text.specs.Spelling.{entry_text, joined, sent_fields, tag_fields, verdict_text}
-use Rattle.transcript_text.specs.Reading.{fate_of, row_of, sent_of}
+use Rattle.link_lanes.specs.Texts.{fate_of}
+use Rattle.transcript_text.specs.Reading.{row_of, sent_of}
 use Rattle.transcript_text.specs.ReadBack.{HasHead}
 use Rattle.transcript_text.specs.Written.{ahead_of, IsWritten}
 use Rattle.field_texts.proofs.TextLaws.{parts_joined}

@@ -30,6 +30,7 @@ use Rattle.transcript_text.specs.declared.fault.RowFault.TheVariants as row_faul
 use Rattle.transcript_text.specs.declared.fault.ReadError.{ReadError}
 use Rattle.transcript_text.specs.declared.fault.ReadError.TheVariants as fault
 use Rattle.field_texts.specs.Parts.{parts}
+use Rattle.link_lanes.specs.Texts.{fate_of}
 use Rattle.transcript_text.specs.Parts.{at}
 use Rattle.field_texts.specs.Numbers.{number_of, within}
 use Rattle.field_texts.specs.Sets.{set_of, with_first}
@@ -55,16 +56,6 @@ verdict_of text =
 -- what stands where nothing is to be said
 abbrev pub dash_of : {A : Type 0} → A → List ℕ → Option A
 dash_of x text = if bytes_eq text (codes "-") then Some x else None
-
--- up to k delays that don't fall, from low on
-unfoldable pub delays_from : ℕ → ℕ → List (List ℕ) → Option (List ℕ)
-delays_from k low [] = Some []
-delays_from zero low (p ∷ ps) = None
-delays_from (suc k) low (p ∷ ps) = with_first (within low 17 (number_of p)) (λ d. delays_from k d ps)
-
--- a fate: up to three delays
-unfoldable pub fate_of : List ℕ → Option (List ℕ)
-fate_of text = if bytes_eq text (codes "-") then Some [] else delays_from 3 1 (parts 43 text)
 
 -- ---- frames
 

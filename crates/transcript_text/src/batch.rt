@@ -6,7 +6,7 @@ ghost use Rattle.transcript_text.specs.Writing.{IsWritable};
 ghost use Rattle.transcript_text.specs.Pieces.{AreNextOfBoth};
 ghost use Rattle.transcript_text.specs.Batches.{piece_start, HasPiece, IsPiece};
 
-use crate::made::{Made, Place};
+use crate::made::{MadePieces, TextPlace};
 use crate::writing::put_lines;
 use rayon::prelude::*;
 use std::alloc::{AllocError, Global};
@@ -92,15 +92,15 @@ pub(crate) fn next_batch(
     alloc: Global,
     transcript: &Transcript,
     at: usize,
-) -> Result<Made, AllocError>
+) -> Result<MadePieces, AllocError>
     requires lines { All (λ e. IsWritable e.line) transcript.now.entries }
     requires within { at < length transcript.now.entries }
-    ensures { IfOk result (AreNextOfBoth transcript.now (Place.Entry at)) }
+    ensures { IfOk result (AreNextOfBoth transcript.now (TextPlace.Entry at)) }
 {
     let count = piece_count(transcript, at);
     let pieces = pieces_from(rt, alloc, transcript, at, count)?;
-    Ok(Made {
+    Ok(MadePieces {
         pieces: VecDeque::from(pieces),
-        after: Place::Entry(piece_start(transcript, at, count)),
+        after: TextPlace::Entry(piece_start(transcript, at, count)),
     })
 }

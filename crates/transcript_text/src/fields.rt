@@ -1,19 +1,17 @@
 //! What a field may hold: words, sets, fates and frames.
-ghost use Rattle.std.specs.Prelude.{◌≡◌, ◌≤◌, [], ◌∷◌, length, codes, Some};
+ghost use Rattle.std.specs.Prelude.{◌≡◌, ◌≤◌, length, codes};
 ghost use Rattle.std.specs.Option.{ok_or};
 ghost use Rattle.event_schedule.specs.Events.{same_kind, is_tag};
 ghost use Rattle.transcript_text.specs.declared.version.Version.TheVariants.{One, Two};
 ghost use Rattle.transcript_text.specs.declared.fault.RowFault.TheVariants.{Field};
-ghost use Rattle.field_texts.specs.Numbers.{number_of, within};
-ghost use Rattle.field_texts.specs.Parts.{parts};
-ghost use Rattle.event_schedule.specs.Transcripts.{IsFate};
-ghost use Rattle.field_texts.specs.Sets.{ahead, set_of};
-ghost use Rattle.transcript_text.specs.Reading.{kind_of, verdict_of, dash_of, fate_of, delays_from, bytes_of, frame_of_bytes, frame_of, is_within, fitting, sent_of, closing_of, ending_of};
+ghost use Rattle.field_texts.specs.Numbers.{number_of};
+ghost use Rattle.field_texts.specs.Sets.{set_of};
+ghost use Rattle.transcript_text.specs.Reading.{kind_of, verdict_of, dash_of, bytes_of, frame_of_bytes, frame_of, is_within, fitting, sent_of, closing_of, ending_of};
 
 use crate::Version;
 use crate::fault::RowFault;
 use crate::hex_digits::{bytes_of_digits, hex_digits};
-use field_texts::{cut, read_number, read_number_within, read_set};
+use field_texts::{read_number, read_set};
 use group_plan::{Kind, Tag};
 use hex::FromHex;
 use link_lanes::Fate;
@@ -107,98 +105,6 @@ pub(crate) fn ending(size: u32, word: &[u8], text: &[u8]) -> Result<Ending, RowF
         Ok(Ending::NotClosed)
     } else {
         Err(RowFault::Field(5))
-    }
-}
-
-/// A delay of `low` to 16 ticks.
-fn delay(low: u8, text: &[u8]) -> Option<u8>
-    ensures { result ≡ within low 17 (number_of text.now) }
-{
-    match read_number_within(text, u64::from(low), 17) {
-        Some(delay) => Some(delay as u8),
-        None => None,
-    }
-}
-
-/// The fate with these delays.
-#[tactic(auto)]
-fn fate_with(delays: &[u8]) -> Option<Fate>
-    requires { IsFate delays.now }
-    ensures { result ≡ Some delays.now }
-{
-    match Fate::new(delays) {
-        Ok(fate) => Some(fate),
-        Err(_) => unreachable!(),
-    }
-}
-
-/// The fate of two delays and the last one in the text.
-fn fate_of_three(first: u8, second: u8, text: &[u8]) -> Option<Fate>
-    requires first { 1 ≤ first }
-    requires second { first ≤ second }
-    ensures { result ≡ ahead (first ∷ second ∷ []) (delays_from 1 second (parts 43 text.now)) }
-{
-    match cut(b'+', text) {
-        None => {
-            let Some(third) = delay(second, text) else {
-                return None;
-            };
-            fate_with(&[first, second, third])
-        }
-        Some(_) => None,
-    }
-}
-
-/// The fate of a delay and the one or two in the text.
-fn fate_of_two(first: u8, text: &[u8]) -> Option<Fate>
-    requires { 1 ≤ first }
-    ensures { result ≡ ahead (first ∷ []) (delays_from 2 first (parts 43 text.now)) }
-{
-    match cut(b'+', text) {
-        None => {
-            let Some(second) = delay(first, text) else {
-                return None;
-            };
-            fate_with(&[first, second])
-        }
-        Some((part, rest)) => {
-            let Some(second) = delay(first, part) else {
-                return None;
-            };
-            fate_of_three(first, second, rest)
-        }
-    }
-}
-
-/// The fate of the one to three delays in the text.
-fn fate_of_one(text: &[u8]) -> Option<Fate>
-    ensures { result ≡ ahead [] (delays_from 3 1 (parts 43 text.now)) }
-{
-    match cut(b'+', text) {
-        None => {
-            let Some(first) = delay(1, text) else {
-                return None;
-            };
-            fate_with(&[first])
-        }
-        Some((part, rest)) => {
-            let Some(first) = delay(1, part) else {
-                return None;
-            };
-            fate_of_two(first, rest)
-        }
-    }
-}
-
-/// The fate that the text writes.
-#[tactic(auto, using(crate::proofs::FateLemmas::ahead_none), unfolding(crate::specs::Reading::fate_of))]
-pub(crate) fn fate(text: &[u8]) -> Option<Fate>
-    ensures { result ≡ fate_of text.now }
-{
-    if text == b"-".as_slice() {
-        fate_with(&[])
-    } else {
-        fate_of_one(text)
     }
 }
 

@@ -4,7 +4,7 @@ use std::collections::VecDeque;
 
 /// What comes next of a text.
 #[derive(Clone, Copy)]
-pub(crate) enum Place {
+pub(crate) enum TextPlace {
     /// The head.
     Head,
     /// The line of the entry at this place, or what stands behind the last entry.
@@ -24,7 +24,7 @@ pub(crate) enum Until {
 
 /// Pieces of a text that are made and not yet taken, and what comes after them.
 #[derive(Drop)]
-pub(crate) struct Made {
+pub(crate) struct MadePieces {
     pub(crate) pieces: VecDeque<Vec<u8>>,
-    pub(crate) after: Place,
+    pub(crate) after: TextPlace,
 }

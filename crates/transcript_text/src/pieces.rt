@@ -10,7 +10,7 @@ ghost use Rattle.transcript_text.specs.Pieces.{bytes_of, rest_at, to_come, AreFi
 
 use crate::batch::next_batch;
 use crate::head_writing::put_head;
-use crate::made::{Made, Place, Until};
+use crate::made::{MadePieces, TextPlace, Until};
 use crate::writing::put_end;
 use std::alloc::{AllocError, Global};
 use std::collections::VecDeque;
@@ -26,7 +26,7 @@ pub struct TextPieces<'a, R: Threads + Sync> {
     alloc: Global,
     transcript: &'a Transcript,
     until: Until,
-    made: Made,
+    made: MadePieces,
 }
 
 impl<'a, R: Threads + Sync> Model for TextPieces<'a, R> {
@@ -41,40 +41,40 @@ impl<'a, R: Threads + Sync> Model for TextPieces<'a, R> {
 }
 
 /// One piece, and what comes after it.
-fn one(alloc: Global, piece: Vec<u8>, after: Place) -> Result<Made, AllocError>
+fn one(alloc: Global, piece: Vec<u8>, after: TextPlace) -> Result<MadePieces, AllocError>
     ensures { IfOk result (λ made. (made.pieces.items ≡ piece ∷ []) × (made.after ≡ after)) }
 {
     let mut pieces = VecDeque::new(alloc);
     pieces.push_back(piece)?;
-    Ok(Made { pieces, after })
+    Ok(MadePieces { pieces, after })
 }
 
 /// The head.
-fn head(alloc: Global, transcript: &Transcript) -> Result<Made, AllocError>
-    ensures { IfOk result (AreNextOfBoth transcript.now Place.Head) }
+fn head(alloc: Global, transcript: &Transcript) -> Result<MadePieces, AllocError>
+    ensures { IfOk result (AreNextOfBoth transcript.now TextPlace.Head) }
 {
     let mut piece = Vec::new(alloc);
     put_head(&mut piece, transcript.plan())?;
-    one(alloc, piece, Place::Entry(0))
+    one(alloc, piece, TextPlace::Entry(0))
 }
 
 /// The `end` line, behind the last entry.
-fn end(alloc: Global, transcript: &Transcript, at: usize) -> Result<Made, AllocError>
+fn end(alloc: Global, transcript: &Transcript, at: usize) -> Result<MadePieces, AllocError>
     requires { length transcript.now.entries ≤ at }
-    ensures { IfOk result (AreNext transcript.now Until.EndLine (Place.Entry at)) }
+    ensures { IfOk result (AreNext transcript.now Until.EndLine (TextPlace.Entry at)) }
 {
     let mut piece = Vec::new(alloc);
     put_end(&mut piece, transcript.len())?;
-    one(alloc, piece, Place::End)
+    one(alloc, piece, TextPlace::End)
 }
 
 /// No piece, and nothing after it.
-fn nothing(alloc: Global) -> Made
-    ensures { (result.pieces.items ≡ []) × (result.after ≡ Place.End) }
+fn nothing(alloc: Global) -> MadePieces
+    ensures { (result.pieces.items ≡ []) × (result.after ≡ TextPlace.End) }
 {
-    Made {
+    MadePieces {
         pieces: VecDeque::new(alloc),
-        after: Place::End,
+        after: TextPlace::End,
     }
 }
 
@@ -85,9 +85,9 @@ fn behind_lines(
     transcript: &Transcript,
     until: Until,
     at: usize,
-) -> Result<Made, AllocError>
+) -> Result<MadePieces, AllocError>
     requires { length transcript.now.entries ≤ at }
-    ensures { IfOk result (AreNext transcript.now until (Place.Entry at)) }
+    ensures { IfOk result (AreNext transcript.now until (TextPlace.Entry at)) }
 {
     match until {
         Until::LastEntry => Ok(nothing(alloc)),
@@ -101,16 +101,16 @@ fn next_pieces(
     alloc: Global,
     transcript: &Transcript,
     until: Until,
-    place: Place,
-) -> Result<Made, AllocError>
+    place: TextPlace,
+) -> Result<MadePieces, AllocError>
     requires { All (λ e. IsWritable e.line) transcript.now.entries }
     ensures { IfOk result (AreNext transcript.now until place) }
 {
     match place {
-        Place::Head => head(alloc, transcript),
-        Place::Entry(at) if at < transcript.len() => next_batch(rt, alloc, transcript, at),
-        Place::Entry(at) => behind_lines(alloc, transcript, until, at),
-        Place::End => Ok(nothing(alloc)),
+        TextPlace::Head => head(alloc, transcript),
+        TextPlace::Entry(at) if at < transcript.len() => next_batch(rt, alloc, transcript, at),
+        TextPlace::Entry(at) => behind_lines(alloc, transcript, until, at),
+        TextPlace::End => Ok(nothing(alloc)),
     }
 }
 
@@ -120,7 +120,7 @@ fn refill(
     alloc: Global,
     transcript: &Transcript,
     until: Until,
-    made: &mut Made,
+    made: &mut MadePieces,
 ) -> Result<(), AllocError>
     requires lines { All (λ e. IsWritable e.line) transcript.now.entries }
     requires filled { AreFilled made.old.pieces.items }
@@ -153,7 +153,7 @@ impl<'a, R: Threads + Sync> TextPieces<'a, R> {
         rt: &'a R,
         alloc: Global,
         transcript: &'a Transcript,
-        place: Place,
+        place: TextPlace,
         until: Until,
     ) -> TextPieces<'a, R>
         ensures { result ≡ rest_at transcript.now until place }
@@ -163,7 +163,7 @@ impl<'a, R: Threads + Sync> TextPieces<'a, R> {
             alloc,
             transcript,
             until,
-            made: Made {
+            made: MadePieces {
                 pieces: VecDeque::new(alloc),
                 after: place,
             },
@@ -180,7 +180,7 @@ impl<'a, R: Threads + Sync> TextPieces<'a, R> {
         ensures read_back { read_of Two (transcript_text transcript.now) ≡ Ok transcript.now }
     {
         let _entries = transcript.len();
-        TextPieces::at(rt, alloc, transcript, Place::Head, Until::EndLine)
+        TextPieces::at(rt, alloc, transcript, TextPlace::Head, Until::EndLine)
     }
 
     /// The head and the lines of a part that begins with the first entry, without the `end` line.
@@ -188,7 +188,7 @@ impl<'a, R: Threads + Sync> TextPieces<'a, R> {
     pub fn begun(rt: &'a R, alloc: Global, part: &'a Transcript) -> TextPieces<'a, R>
         ensures { result ≡ begun_text part.now.plan part.now.entries }
     {
-        TextPieces::at(rt, alloc, part, Place::Head, Until::LastEntry)
+        TextPieces::at(rt, alloc, part, TextPlace::Head, Until::LastEntry)
     }
 
     /// The lines of a part, without the head and the `end` line.
@@ -196,7 +196,7 @@ impl<'a, R: Threads + Sync> TextPieces<'a, R> {
     pub fn lines(rt: &'a R, alloc: Global, part: &'a Transcript) -> TextPieces<'a, R>
         ensures { result ≡ lines_text part.now.entries }
     {
-        TextPieces::at(rt, alloc, part, Place::Entry(0), Until::LastEntry)
+        TextPieces::at(rt, alloc, part, TextPlace::Entry(0), Until::LastEntry)
     }
 
     /// What is left of the text behind so many entries: the lines of those after them, and the `end` line.
@@ -215,7 +215,13 @@ impl<'a, R: Threads + Sync> TextPieces<'a, R> {
         ensures read_back { read_of Two (transcript_text transcript.now) ≡ Ok transcript.now }
     {
         let _entries = transcript.len();
-        TextPieces::at(rt, alloc, transcript, Place::Entry(entries), Until::EndLine)
+        TextPieces::at(
+            rt,
+            alloc,
+            transcript,
+            TextPlace::Entry(entries),
+            Until::EndLine,
+        )
     }
 
     /// Puts the next bytes in place of what the piece held: the head, some hundreds of lines, or the `end` line. It is

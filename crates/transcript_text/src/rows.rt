@@ -13,12 +13,12 @@ ghost use Rattle.transcript_text.specs.Reading.{tick_of, group_of, round_of, tag
 use crate::Version;
 use crate::cut::{Fields, split_fields};
 use crate::fault::{Row, RowFault};
-use crate::fields::{closing, ending, fate, kind, sent, verdict};
+use crate::fields::{closing, ending, kind, sent, verdict};
 use crate::written::written;
 use event_schedule::{Entry, Line};
 use field_texts::{read_number, read_number_within};
 use group_plan::{Plan, Tag};
-use link_lanes::Fate;
+use link_lanes::{Fate, read_fate};
 
 /// Field 1, a tick that is not below `last`.
 fn tick(last: u32, fields: &Fields) -> Result<u32, RowFault>
@@ -86,7 +86,7 @@ fn send(version: Version, plan: &Plan, last: u32, fields: &Fields) -> Result<Ent
 {
     let tick = tick(last, fields)?;
     let tag = tag(plan, fields)?;
-    let fate = fate(fields.get(6)).ok_or(RowFault::Field(7))?;
+    let fate = read_fate(fields.get(6)).ok_or(RowFault::Field(7))?;
     let meters = plan.meters(tag.group);
     let frame = sent(version, meters, tag, fate, fields.get(7)).ok_or(RowFault::Field(8))?;
     Ok(Entry {

@@ -12,6 +12,7 @@ use crate::{Version, fields};
 use event_schedule::{Entry, Line};
 use field_texts::cut;
 use group_plan::{Kind, Plan, Tag};
+use link_lanes::read_fate;
 use round_machine::Verdict;
 
 /// The number below 10 that a byte is the digit of.
@@ -116,7 +117,7 @@ fn send(version: Version, plan: &Plan, tick: u32, text: &[u8]) -> Option<Entry>
 {
     let (tag, text) = tag(plan, text)?;
     let (delays, digits) = cut(b',', text)?;
-    let fate = fields::fate(delays)?;
+    let fate = read_fate(delays)?;
     let frame = fields::sent(version, plan.meters(tag.group), tag, fate, digits)?;
     Some(Entry {
         tick,

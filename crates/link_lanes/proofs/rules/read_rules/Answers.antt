@@ -2,7 +2,8 @@ use Rattle.std.proofs.Common.{arith, sym, ap, ◌∙◌, lit<, length, take, Som
 use Rattle.std.proofs.lemmas.Iterator.Splits.{YieldsList-from_str_split}
 use Rattle.std.proofs.lemmas.Iterator.Consumers.{YieldsList-turn, YieldsList-end}
 use Rattle.std.proofs.lemmas.List.{length_push}
-use Rattle.link_lanes.specs.Texts.{parts, each}
+use Rattle.field_texts.specs.Parts.{parts}
+use Rattle.link_lanes.specs.Texts.{each}
 use Rattle.link_lanes.specs.Kinds.{rule_of}
 use Rattle.link_lanes.proofs.TextLemmas.{each-next}
 use Rattle.link_lanes.proofs.RuleLemmas.{too_many_rules, no_rule, all_rules}

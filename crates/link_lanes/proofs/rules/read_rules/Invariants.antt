@@ -1,5 +1,6 @@
 use Rattle.std.proofs.Common.{◌≡◌, ◌≤◌, length, take, Some}
-use Rattle.link_lanes.specs.Texts.{parts, each}
+use Rattle.field_texts.specs.Parts.{parts}
+use Rattle.link_lanes.specs.Texts.{each}
 use Rattle.link_lanes.specs.Kinds.{rule_of}
 use Rattle.link_lanes.proofs.rules.read_rules.Given as goal
 

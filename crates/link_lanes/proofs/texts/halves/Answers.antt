@@ -5,4 +5,4 @@ use Rattle.link_lanes.proofs.texts.halves.Goals as goal
 
 pub returns-in-Some : goal.returns-in-Some
 returns-in-Some c =
-    sym (ap two (c.in_ok-first.ensures ∙ ap (λ ps. c.in_ok-first.first.now ∷ ps) c.in-Some.ensures) ∙ more_than_two _ _ c.args.mark c.in-Some.field-0.1.now)
+    sym (ap two (c.in_ok-first.ensures.0 ∙ ap (λ ps. c.in_ok-first.first.now ∷ ps) c.in-Some.ensures.0) ∙ more_than_two _ _ c.args.mark c.in-Some.field-0.1.now)

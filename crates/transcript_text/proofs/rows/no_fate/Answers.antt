@@ -1,5 +1,5 @@
 use Rattle.std.proofs.Common.{[], refl, arith}
-use Rattle.transcript_text.proofs.FateLemmas.{is_fate}
+use Rattle.link_lanes.proofs.FateLemmas.{is_fate}
 use Rattle.transcript_text.proofs.rows.no_fate.Goals as goal
 
 pub unreachable-requires : goal.unreachable-requires

@@ -1,4 +1,4 @@
-use Rattle.std.proofs.Common.{◌∙◌, sym, ap}
+use Rattle.std.proofs.Common.{◌∙◌, ap}
 use Rattle.std.specs.List.{list_all}
 use Rattle.link_lanes.specs.ArgBytes.{is_arg_byte}
 use Rattle.link_lanes.proofs.ArgLemmas.{graphic, graphic_is_text}

@@ -1,7 +1,7 @@
 use Rattle.std.proofs.Common.{◌≡◌, ℕ, ◌≤◌, ◌-◌, ◌++◌, [], List, length, replicate, sym, ap, subst, ◌∙◌}
 use Rattle.transcript_log.specs.Lines.{LinesView}
 use Rattle.transcript_log.specs.Stamps.{entries_of}
-use Rattle.event_schedule.specs.Transcripts.{IsFate}
+use Rattle.link_lanes.specs.Fates.{IsFate}
 use Rattle.transcript_log.specs.Drafts.{IsDrafted}
 use Rattle.transcript_log.proofs.Drafting.{room, all_drafted, all_added}
 use Rattle.transcript_log.proofs.draft.Draft.push_all.Goals as goal

@@ -2,12 +2,11 @@
 use Rattle.std.proofs.Common.{◌≡◌, ◌∙◌, ◌<◌, ℕ, zero, suc, List, [], ◌∷◌, ◌++◌, length, Option, Some, None, Err, refl, sym, ap, arith, append_assoc}
 use Rattle.link_lanes.specs.declared.FateError.{FateError}
 use Rattle.link_lanes.specs.declared.FateError.TheVariants.{Copies, Delay, Order}
-use Rattle.link_lanes.specs.Fates.{MakesFate}
+use Rattle.link_lanes.specs.Fates.{MakesFate, IsFate}
 use Rattle.field_texts.specs.Numbers.{number_of, within}
 use Rattle.field_texts.specs.Parts.{parts}
-use Rattle.event_schedule.specs.Transcripts.{IsFate}
 use Rattle.field_texts.specs.Sets.{ahead, with_first}
-use Rattle.transcript_text.specs.Reading.{delays_from}
+use Rattle.link_lanes.specs.Texts.{delays_from}
 use Rattle.field_texts.proofs.Cutting.{parts_some}
 
 -- what is a fate is made one

@@ -1,6 +1,6 @@
 use Rattle.std.proofs.Common.{sym, ◌∙◌, [], ◌∷◌}
-use Rattle.transcript_text.proofs.FateLemmas.{delay_last, delay_bad, delay_over}
-use Rattle.transcript_text.proofs.fields.fate_of_three.Goals as goal
+use Rattle.link_lanes.proofs.FateLemmas.{delay_last, delay_bad, delay_over}
+use Rattle.link_lanes.proofs.texts.fate_of_three.Goals as goal
 
 pub returns-in_default : goal.returns-in_default
 returns-in_default c = delay_bad (c.args.first ∷ c.args.second ∷ []) 0 c.args.second c.args.text.now c.args.text.now [] c.in-None.ensures (sym c.in_default.is ∙ c.delay.ensures)
