@@ -1,5 +1,5 @@
--- Frames without words: what is posted stays the frame of its tag.
-use Rattle.std.proofs.Common.{◌≡◌, ◌≢◌, ℕ, Bool, true, false, List, [], ◌∷◌, refl, sym, ap, ◌∙◌, subst, ◌⊎◌, ⊎_elim}
+-- Frames without words: each is sent as the frame of its tag, and what is posted stays it.
+use Rattle.std.proofs.Common.{◌≡◌, ◌≢◌, ℕ, Bool, true, false, List, [], ◌∷◌, ◌++◌, refl, sym, ap, ◌∙◌, subst, append_assoc, append-nil, ◌⊎◌, ⊎_elim}
 use Rattle.std.specs.Prelude.{if◌then◌else◌, Option, Some, None, Result, Ok, Err}
 use Rattle.std.proofs.lemmas.Bool.{false≢true, and_from, and_parts}
 use Rattle.group_plan.specs.declared.Kind.{Kind}
@@ -9,10 +9,11 @@ use Rattle.meter_frames.specs.declared.Frame.{Frame}
 use Rattle.event_schedule.specs.declared.Event.{Event}
 use Rattle.event_schedule.specs.declared.Event.TheVariants.{Send, Take, Close, End}
 use Rattle.event_schedule.specs.declared.Line.{Line}
+use Rattle.event_schedule.specs.declared.Line.TheVariants.{Send as SendLine, Take as TakeLine, Close as CloseLine, End as EndLine}
 use Rattle.event_schedule.specs.Events.{event_of, is_send}
 use Rattle.event_schedule.specs.Schedule.{Shape, shape_of_presence, is_closed, is_announced, is_reading_taken, reaches_floor, may_send, missing}
 use Rattle.event_schedule.specs.Transcript.{set_sent, word_sent, frame}
-use Rattle.event_schedule.specs.Journal.{past_of, core_line}
+use Rattle.event_schedule.specs.Journal.{past_of, core_line, HasFramesOf}
 use Rattle.event_schedule.proofs.EventLemmas.{is_send-true}
 use Rattle.event_schedule.proofs.ScheduleLemmas.{once-more, is_announced-more, is_reading_taken-closed, missing-closed, is_closed-from_taken, is_announced-from_sent, is_announcement_sent-from_taken}
 use Rattle.group_book.specs.declared.answers.SendAnswer.{SendAnswer}
@@ -74,6 +75,35 @@ frame-more s tag f e p h =
     ∙ ap (λ set. Some (record { tag = tag; missing = set; word = 0 })) later.1
     ∙ ap Some (sym now.is)
 
+-- ---- a line more
+
+-- the line, after this journal, has the frame of its tag where it is a Send
+abbrev HasFrame : Shape → List Line → Line → Type 0
+HasFrame s j (SendLine tag f) = f ≡ frame s no_contents tag (past_of j)
+HasFrame s j _ = Unit {0}
+
+frames-push : (s : Shape) (j ls : List Line) (l : Line) → HasFramesOf s no_contents j ls → HasFrame s (j ++ ls) l → HasFramesOf s no_contents j (ls ++ l ∷ [])
+frames-push s j [] (SendLine tag f) has here = (subst (λ q. f ≡ frame s no_contents tag (past_of q)) (append-nil j) here, tt)
+frames-push s j [] (TakeLine tag v) has here = tt
+frames-push s j [] (CloseLine g r v) has here = tt
+frames-push s j [] (EndLine g r v) has here = tt
+frames-push s j (SendLine tag f ∷ ls) l has here = (has.0, frames-push s (j ++ SendLine tag f ∷ []) ls l has.1 (subst (λ q. HasFrame s q l) (sym (append_assoc j (SendLine tag f ∷ []) ls)) here))
+frames-push s j (TakeLine tag v ∷ ls) l has here = frames-push s (j ++ TakeLine tag v ∷ []) ls l has (subst (λ q. HasFrame s q l) (sym (append_assoc j (TakeLine tag v ∷ []) ls)) here)
+frames-push s j (CloseLine g r v ∷ ls) l has here = frames-push s (j ++ CloseLine g r v ∷ []) ls l has (subst (λ q. HasFrame s q l) (sym (append_assoc j (CloseLine g r v ∷ []) ls)) here)
+frames-push s j (EndLine g r v ∷ ls) l has here = frames-push s (j ++ EndLine g r v ∷ []) ls l has (subst (λ q. HasFrame s q l) (sym (append_assoc j (EndLine g r v ∷ []) ls)) here)
+
+-- so has the core's line, where the frame that is given is that one
+core-frame : (s : Shape) (j : List Line) (e : Event) (given : Option Frame)
+    → ((t : Tag) → e ≡ Send t → may_send s t.kind t.group t.round t.meter (past_of j) ≡ true → frame s no_contents t (past_of j) ≡ given) → HasFrame s j (core_line s j e given)
+core-frame s j (Send t) given ok = step (may_send s t.kind t.group t.round t.meter (past_of j)) refl
+  where
+    step : (b : Bool) → may_send s t.kind t.group t.round t.meter (past_of j) ≡ b → (if b then given else None) ≡ frame s no_contents t (past_of j)
+    step true may = sym (ok t refl may)
+    step false may = sym (frame-is s t (past_of j) ∙ ap (λ b. if b then Some (carried s t (past_of j)) else None) may)
+core-frame s j (Take t) given ok = tt
+core-frame s j (Close g r) given ok = tt
+core-frame s j (End g r) given ok = tt
+
 -- ---- one event more
 
 core-event : (s : Shape) (j : List Line) (e : Event) (given : Option Frame) → event_of (core_line s j e given) ≡ e
@@ -108,11 +138,17 @@ makes b c e given blank adds ok = record {
   presence = adds.presence;
   past = past_is;
   spare = adds.spare;
-  blank = λ tag f h.
-      subst (λ p. frame (shape_of c) no_contents tag p ≡ Some f) (sym past_is)
-      (subst (λ v. frame (shape_of_presence v) no_contents tag (e ∷ past b) ≡ Some f) (sym adds.presence)
-      (frame-more (shape_of b) tag f e (past b)
-      (first tag f (posted_in tag b.journal) refl (sym (posted-push tag.group tag.round tag.meter tag.kind b.journal l) ∙ ap (posted_in tag) (sym adds.journal) ∙ h))));
+  blank = record {
+    sent =
+        subst (λ j. HasFramesOf (shape_of c) no_contents [] j) (sym adds.journal)
+        (subst (λ v. HasFramesOf (shape_of_presence v) no_contents [] (b.journal ++ l ∷ [])) (sym adds.presence)
+        (frames-push (shape_of b) [] b.journal l blank.sent (core-frame (shape_of b) b.journal e given ok)));
+    posted = λ tag f h.
+        subst (λ p. frame (shape_of c) no_contents tag p ≡ Some f) (sym past_is)
+        (subst (λ v. frame (shape_of_presence v) no_contents tag (e ∷ past b) ≡ Some f) (sym adds.presence)
+        (frame-more (shape_of b) tag f e (past b)
+        (first tag f (posted_in tag b.journal) refl (sym (posted-push tag.group tag.round tag.meter tag.kind b.journal l) ∙ ap (posted_in tag) (sym adds.journal) ∙ h))));
+  };
 }
   where
     l : Line
@@ -122,7 +158,7 @@ makes b c e given blank adds ok = record {
     past_is = ap past_of adds.journal ∙ past_of-push b.journal l ∙ ap (λ z. z ∷ past b) (core-event (shape_of b) b.journal e given)
 
     first : (tag : Tag) (f : Frame) (o : Option Frame) → posted_in tag b.journal ≡ o → first_of o (posts tag.group tag.round tag.meter tag.kind l) ≡ Some f → frame (shape_of b) no_contents tag (past b) ≡ Some f
-    first tag f (Some p) at h = blank tag f (at ∙ h)
+    first tag f (Some p) at h = blank.posted tag f (at ∙ h)
     first tag f None at h = posted-now (shape_of b) b.journal e given tag f ok h
 
 -- ---- a Send and a Take
@@ -149,7 +185,7 @@ sends b c f tag answer same blank known is ends =
         let is = has (shape_of b) f.tag f (past b) (now e.1) in
         absurd (not_other f.tag.kind set e.3 e.2 (ap (λ z. z.missing) is.is))
     by_answer (Differs p) known now e =
-        let one : Some p ≡ Some f = sym (blank f.tag p e.3) ∙ now e.1 in
+        let one : Some p ≡ Some f = sym (blank.posted f.tag p e.3) ∙ now e.1 in
         absurd (e.4 (cc one))
     by_answer Sent known now e = makes b c (Send f.tag) (Some f) blank e.4 (given now)
 
@@ -166,7 +202,7 @@ takes b c f tag answer same blank known is ends =
     by_answer (Ok v) known now e = makes b c (Take f.tag) None blank e.3 none
     by_answer (Err refused.Unknown) known now e = absurd (false≢true (sym e.0 ∙ known))
     by_answer (Err (refused.Forged p came)) known now e =
-        let posted = blank f.tag p e.1 in
+        let posted = blank.posted f.tag p e.1 in
         let one : Some p ≡ Some f = sym posted ∙ now (has (shape_of b) f.tag p (past b) posted).may in
         absurd (e.2 (cc one))
 

@@ -1,8 +1,8 @@
 -- The loop that makes the events of a transcript again.
-use Rattle.std.proofs.Common.{◌≡◌, ℕ, ◌+◌, ◌<◌, ◌≤◌, List, [], ◌∷◌, ◌++◌, length, get_or, take, sym, ap, ◌∙◌, arith}
+use Rattle.std.proofs.Common.{◌≡◌, ℕ, ◌+◌, ◌<◌, ◌≤◌, List, [], ◌∷◌, ◌++◌, length, get_or, take, sym, ap, ◌∙◌, subst, arith}
 use Rattle.std.specs.Prelude.{reverse, Some, None, nat_lt}
 use Rattle.std.proofs.lemmas.Bool.{and_from, lt-ltb}
-use Rattle.std.proofs.lemmas.List.{map-append, reverse-append, take_more, take_all}
+use Rattle.std.proofs.lemmas.List.{map-append, reverse-append, reverse-reverse, take_more, take_all}
 use Rattle.std.proofs.lemmas.List.Elements.{All-get_or}
 use Rattle.group_plan.specs.declared.Tag.{Tag}
 use Rattle.group_plan.specs.Plans.{PlanView}
@@ -14,9 +14,9 @@ use Rattle.event_schedule.specs.declared.Line.TheVariants.{Send as SendLine, Tak
 use Rattle.event_schedule.specs.declared.Entry.{Entry}
 use Rattle.event_schedule.specs.Events.{event_of, events_of}
 use Rattle.event_schedule.specs.Transcripts.{TranscriptView, FitsLine, Fits, IsTranscript}
-use Rattle.group_book.specs.Books.{BookView, past, posted, posted_in}
-use Rattle.event_schedule.specs.Journal.{past_of}
-use Rattle.ideal_masks.specs.Replaying.{IsOfBook, IsBlank, MakesEvent, HasEvents}
+use Rattle.group_book.specs.Books.{BookView, shape_of, past, posted, posted_in}
+use Rattle.event_schedule.specs.Journal.{past_of, HasFramesOf}
+use Rattle.ideal_masks.specs.Replaying.{no_contents, IsOfBook, IsBlank, MakesEvent, HasEvents, events_in}
 
 -- a book after the first k entries, with room for the rest
 pub record Replaying (x : ReadingsView) (entries : List Entry) (k : ℕ) (b : BookView) : Type 0 where
@@ -35,7 +35,10 @@ replaying-none x entries made room presence journal presence_kept journal_kept s
   presence = presence_kept ∙ presence;
   past = ap past_of (journal_kept ∙ journal);
   spare = omega (arith, spare);
-  blank = λ tag f h. absurd (none_posted tag f (sym (ap (posted_in tag) (journal_kept ∙ journal)) ∙ h));
+  blank = record {
+    sent = subst (λ j. HasFramesOf (shape_of room) no_contents [] j) (sym (journal_kept ∙ journal)) tt;
+    posted = λ tag f h. absurd (none_posted tag f (sym (ap (posted_in tag) (journal_kept ∙ journal)) ∙ h));
+  };
 }
 
 events-push : (xs : List Entry) (e : Entry) → reverse (events_of (xs ++ e ∷ [])) ≡ event_of e.line ∷ reverse (events_of xs)
@@ -53,7 +56,7 @@ replaying-more x entries k e event b c is lt of before makes =
     }
 
 -- an entry that fits the plan is of an event of the book
-of_book : (plan : PlanView) (fate : List ℕ) (l : Line) (b : BookView) → b.presence.plan ≡ plan → FitsLine plan fate l → IsOfBook b (event_of l)
+pub of_book : (plan : PlanView) (fate : List ℕ) (l : Line) (b : BookView) → b.presence.plan ≡ plan → FitsLine plan fate l → IsOfBook b (event_of l)
 of_book plan fate (SendLine tag None) b same fits = rw same fits.0
 of_book plan fate (SendLine tag (Some frame)) b same fits = rw same fits.0
 of_book plan fate (TakeLine tag v) b same fits = rw same fits.0
@@ -71,3 +74,7 @@ replayed x entries k b past_end made = record {
   presence = made.presence;
   past = made.past ∙ ap (λ l. reverse (events_of l)) (take_all k entries past_end);
 }
+
+-- the book's events are these
+pub events-same : (x : ReadingsView) (events : List Event) (b : BookView) → HasEvents x events b → events_in b ≡ events
+events-same x events b has = sym (reverse-reverse (events_in b)) ∙ ap reverse has.past ∙ reverse-reverse events

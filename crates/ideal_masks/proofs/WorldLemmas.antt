@@ -1,4 +1,4 @@
--- The answer of `offsets`, from what its parts answer.
+-- The answer of `offsets_after`, from what its parts answer.
 use Rattle.std.proofs.Common.{◌≡◌, ℕ, Bool, true, false, cond, List, map, get_or, [], refl, sym, ap, ◌∙◌, subst, IfErr}
 use Rattle.std.specs.Prelude.{Option, None, is_some, reverse, Result, Ok, Err}
 use mathlib.Core.Path.{fun_ext}
@@ -130,7 +130,7 @@ ends-no_worlds pool x y events b (Presence g r i) x_fits y_fits same limits has 
 ends-no_worlds pool x y events b (Total g r v w) x_fits y_fits same limits has alike known is = no_worlds pool x y events g r v w x_fits y_fits same limits alike known (first-total pool x y events b g r v w has is)
 ends-no_worlds pool x y events b Memory x_fits y_fits same limits has alike known is = tt
 
--- the end of `offsets`, where nobody is in the pool
+-- the end of `offsets_after`, where nobody is in the pool
 pub ends-nobody : (x y : ReadingsView) (events : List Event) (result : Result (List Offset) Differ) → ((g r i : ℕ) → IsAlike (reading x.table) (reading y.table) g r i)
     → MovesEnd nobody x y events result → OffsetsEnd x y events result
 ends-nobody x y events (Ok list) alike is = is
@@ -147,7 +147,7 @@ pub no_worlds-end : (x y : ReadingsView) (events : List Event) (result : Result 
 no_worlds-end x y events (Ok list) none = none
 no_worlds-end x y events (Err e) none = no_worlds-nobody x y events e none
 
--- and that of `pooled_offsets`
+-- and that of `pooled_offsets_after`
 pub ends-presence : (pool : Pool) (x y : ReadingsView) (events : List Event) (e : Differ) → PresenceEnds x y (Err e) → PooledEnd pool x y events (Err (Other e))
 ends-presence pool x y events (Presence g r i) is = is
 ends-presence pool x y events (Total g r v w) is = absurd is

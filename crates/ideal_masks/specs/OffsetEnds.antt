@@ -1,4 +1,4 @@
--- What `offsets` answers, by cases.
+-- What `offsets_after` answers, by cases.
 use Rattle.std.specs.Prelude.{◌≡◌, ℕ, ◌==◌, nat_lt, Bool, true, ◌&&◌, ◌||◌, List, reverse, is_some, Result, Ok, Err}
 use Rattle.group_plan.specs.Tables.{ReadingsView, reading}
 use Rattle.event_schedule.specs.declared.Event.{Event}

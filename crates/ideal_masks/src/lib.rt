@@ -28,7 +28,7 @@ use pair_keys::KeyId;
 pub use replay::replay_events;
 pub use shifting::{shift, unshift};
 use std::alloc::AllocError;
-pub use worlds::{offsets, pooled_offsets};
+pub use worlds::{offsets, offsets_after, pooled_offsets_after};
 
 /// How much the mask word of a key moves in a round, added modulo 2^64.
 #[derive(Clone, Copy)]

@@ -5,7 +5,7 @@ ghost use Rattle.event_schedule.specs.Events.{events_of};
 ghost use Rattle.event_schedule.specs.Transcript.{frame};
 ghost use Rattle.group_book.specs.Books.{shape_of, past, knows, has_round, allows};
 ghost use Rattle.event_schedule.specs.Schedule.{is_announced, missing};
-ghost use Rattle.ideal_masks.specs.Replaying.{no_contents, IsOfBook, IsBlank, MakesEvent, HasEvents};
+ghost use Rattle.ideal_masks.specs.Replaying.{no_contents, IsOfBook, IsBlank, MakesEvent, HasEvents, HasBlankFrames};
 
 use event_schedule::Event;
 use group_book::Book;
@@ -70,14 +70,15 @@ fn make_event(book: &mut Book, event: &Event)
     }
 }
 
-/// A book of the readings' presence after the events of a transcript. No word of the transcript is read.
+/// A book of the readings' presence after the events of a transcript, with the word 0 in each frame. No word of the transcript is read.
 pub fn replay_events(
     alloc: Global,
     readings: &Readings,
     transcript: &Transcript,
 ) -> Result<Book, AllocError>
     requires { transcript.now.plan ≡ readings.now.plan }
-    ensures { IfOk result (HasEvents readings.now (events_of transcript.now.entries)) }
+    ensures events { IfOk result (HasEvents readings.now (events_of transcript.now.entries)) }
+    ensures frames { IfOk result HasBlankFrames }
 {
     let presence = Presence::of(alloc, readings)?;
     let mut book = Book::new(alloc, readings.plan(), &presence)?;

@@ -30,7 +30,10 @@ loop-at-preserved c =
     replaying-more c.args.readings.now c.args.transcript.now.entries c.loop-at.at c.entry-entry.result c.event.result c.loop-at.book c.make_event.new.book
     c.entry-entry.ensures (omega (arith, long)) c.event.ensures c.loop-at.invariant c.make_event.ensures
 
-pub returns : goal.returns
-returns c =
+pub returns-clause-events : goal.returns-clause-events
+returns-clause-events c =
     let long = c.len-len.ensures.len in
     replayed c.args.readings.now c.args.transcript.now.entries c.loop-at.at c.loop-at.book (omega (arith, long)) c.loop-at.invariant
+
+pub returns-clause-frames : goal.returns-clause-frames
+returns-clause-frames c = c.loop-at.invariant.blank.sent

@@ -15,4 +15,4 @@ returns c =
     let x = c.in_ok-readings.readings in
     let events = events_of t.entries in
     subst (λ s. IfOk c.least_of_book.result (IsLeastOpened c.args.width s (reverse events))) (shape_noted t.plan (lines_of t.entries) x c.in_ok-readings.ensures)
-    (least-moved x events c.args.width c.in_ok-book.book c.least_of_book.result c.in_ok-book.ensures c.least_of_book.ensures)
+    (least-moved x events c.args.width c.in_ok-book.book c.least_of_book.result c.in_ok-book.ensures.events c.least_of_book.ensures)

@@ -17,7 +17,7 @@ returns-in_err-check_sums-clause-ends c =
     let differ : RingDiffer = c.in_err-check_sums.field-0.0 in
     let answered : Err differ ≡ c.from_residual-in_err-check_sums.result = search rules in
     subst (RingOffsetsEnd c.args.width x y events) answered
-    (sums-err c.args.width x y events c.in_ok-book.book differ c.in_ok-book.ensures c.in_ok-check_places.ensures c.in_err-check_sums.ensures)
+    (sums-err c.args.width x y events c.in_ok-book.book differ c.in_ok-book.ensures.events c.in_ok-check_places.ensures c.in_err-check_sums.ensures)
 
 pub of-requires : goal.of-requires
 of-requires c =
@@ -29,8 +29,8 @@ returns-clause-ends c =
     let x = c.args.first.now in
     let y = c.args.second.now in
     let events = events_of c.args.transcript.now.entries in (
-      agreed-on_ring c.args.width x y events c.in_ok-book.book c.in_ok-book.ensures c.in_ok-check_places.ensures c.in_ok-check_sums.ensures,
-      c.of.ensures ∙ c.in_ok-all_moves.ensures ∙ list-on_ring c.args.width x y events c.in_ok-book.book c.in_ok-book.ensures,
+      agreed-on_ring c.args.width x y events c.in_ok-book.book c.in_ok-book.ensures.events c.in_ok-check_places.ensures c.in_ok-check_sums.ensures,
+      c.of.ensures ∙ c.in_ok-all_moves.ensures ∙ list-on_ring c.args.width x y events c.in_ok-book.book c.in_ok-book.ensures.events,
     )
 
 pub returns-clause-places : goal.returns-clause-places
@@ -39,4 +39,4 @@ returns-clause-places c =
     let y = c.args.second.now in
     let events = events_of c.args.transcript.now.entries in
     list-places_on x.plan (ring_offsets c.args.width x.plan.groups (reading x.table) (reading y.table) (reverse events)) c.of.result
-    (c.of.ensures ∙ c.in_ok-all_moves.ensures ∙ list-on_ring c.args.width x y events c.in_ok-book.book c.in_ok-book.ensures)
+    (c.of.ensures ∙ c.in_ok-all_moves.ensures ∙ list-on_ring c.args.width x y events c.in_ok-book.book c.in_ok-book.ensures.events)
