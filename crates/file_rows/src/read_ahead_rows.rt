@@ -2,6 +2,7 @@
 
 use crate::fixtures::check_same;
 use crate::transcript_text_rows::OLD;
+use event_schedule::Entry;
 use row_fixtures::{PLAIN, with_line};
 use std::alloc::Global;
 use std::process::Abort;
@@ -30,6 +31,15 @@ static LINES: [&str; 5] = [
     "",
 ];
 
+// How many entries a batch has.
+fn entry_count(batch: &[Vec<Entry>]) -> usize {
+    let mut count: usize = 0;
+    for entries in batch {
+        count = count.saturating_add(entries.len());
+    }
+    count
+}
+
 // How many entries a text has that is read ahead, or its first fault.
 fn count_ahead<R: Threads + Sync>(
     rt: &R,
@@ -42,9 +52,12 @@ fn count_ahead<R: Threads + Sync>(
         Ok(reader) => reader,
         Err(fault) => return Err(fault),
     };
-    for count in 0..ENTRIES {
-        match reader.next() {
-            Ok(Some(_entry)) => {}
+    let mut count: usize = 0;
+    for _ in 0..ENTRIES {
+        match reader.next_batch() {
+            Ok(Some(batch)) => {
+                count = reader.read_beside(|| count.saturating_add(entry_count(&batch)));
+            }
             Ok(None) => return Ok(count),
             Err(fault) => return Err(fault),
         }

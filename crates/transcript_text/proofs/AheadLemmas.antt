@@ -1,10 +1,10 @@
 -- Pieces of a text, whose entries are read ahead.
-use Rattle.std.proofs.Common.{◌≡◌, Bool, true, false, ◌∙◌, ◌<◌, ◌≤◌, ◌+◌, ◌-◌, ℕ, zero, suc, take, drop, length-drop, slice_get, Some, Vec, map, get_or, IfOk, List, [], ◌∷◌, ◌++◌, length, length-append, All, refl, sym, ap, arith, append_assoc, subst, Result, Ok, Err}
+use Rattle.std.proofs.Common.{◌≡◌, Bool, true, false, ◌∙◌, ◌<◌, ◌≤◌, ◌+◌, ◌-◌, ℕ, zero, suc, take, drop, length-drop, slice_get, Some, Vec, map, IfOk, List, [], ◌∷◌, ◌++◌, length, length-append, All, refl, sym, ap, arith, append_assoc, subst, Result, Ok, Err}
 use Rattle.std.specs.Prelude.{MatchResult}
 use Rattle.std.specs.List.{AllZip, Contains}
 use Rattle.std.specs.declared.alloc.AllocError.{AllocError}
 use Rattle.std.specs.declared.alloc.Global.{Global}
-use Rattle.std.proofs.lemmas.List.{drop_all, take_all}
+use Rattle.std.proofs.lemmas.List.{take_all}
 use Rattle.std.proofs.lemmas.List.Elements.{All-cons, All-head, All-nil, All-tail}
 use Rattle.group_plan.specs.Plans.{PlanView, IsWithinLimits}
 use Rattle.event_schedule.specs.declared.Entry.{Entry}
@@ -24,7 +24,7 @@ use Rattle.transcript_text.proofs.EntriesAgain.{cut_entry}
 use Rattle.transcript_text.proofs.EntriesBack.{line_back}
 use Rattle.transcript_text.proofs.EntryAgain.{IsSmall}
 use Rattle.transcript_text.proofs.EntryBack.{row_back}
-use Rattle.transcript_text.proofs.EntryLoop.{before_before, last-push, next_of, opens}
+use Rattle.transcript_text.proofs.EntryLoop.{before_before, last-push, opens}
 use Rattle.transcript_text.proofs.LineAgain.{row_again}
 use Rattle.transcript_text.proofs.PieceLemmas.{all_there}
 use Rattle.transcript_text.proofs.WrittenFields.{cut_text}
@@ -257,12 +257,3 @@ still_pieces old p new all ps is are true done =
 still_pieces old p new all ps is are false same =
     let old_are = All-tail (IsPieceOf old.version old.plan old.text) p ps (subst (λ (q : List Piece). All (IsPieceOf old.version old.plan old.text) q) is are) in
     subst (λ (v : ReaderView). All (IsPieceOf v.version v.plan v.text) ps) (sym same) old_are
-
--- ---- entries that are handed out
-
--- the next of the entries that are ready comes first
-pub handed_out : (es : List Entry) (at : ℕ) (left : Result (List Entry) ReadError) (e : Entry) → at < length es → get_or es at e ≡ e → before (drop at es) left ≡ before (e ∷ []) (before (drop (at + 1) es) left)
-handed_out es at left e within is = ap (λ (q : List Entry). before q left) (next_of es at e within is) ∙ sym (before_before (e ∷ []) (drop (at + 1) es) left)
-
-pub nothing_ready : (es : List Entry) (at : ℕ) (left : Result (List Entry) ReadError) → length es ≤ at → before (drop at es) left ≡ left
-nothing_ready es at left over = ap (λ (q : List Entry). before q left) (drop_all at es over) ∙ nothing_before left

@@ -75,18 +75,22 @@ pub record AheadView : Type 0 where
   -- no more entries than this are left
   pub most : ℕ
 
--- an entry is handed out: the first of those that were left
-pub record IsNext (old : AheadView) (e : Entry) (new : AheadView) : Type 0 where
-  pub left : old.left ≡ before (e ∷ []) new.left
+-- the entries of some lists, one list after another
+abbrev pub entries_of : List (Vec Entry Global) → List Entry
+entries_of lists = flat_map (λ es. es.items) lists
+
+-- some entries are handed out: the first of those that were left
+pub record IsNextBatch (old : AheadView) (es : List Entry) (new : AheadView) : Type 0 where
+  pub left : old.left ≡ before es new.left
   pub plan : new.plan ≡ old.plan
-  pub fits : Fits old.plan e
+  pub fits : All (Fits old.plan) es
   pub fewer : new.most < old.most
 
--- the next entry; none where all are handed out; or the fault that stands there
-abbrev pub AheadEnds : AheadView → Result (Option Entry) ReadError → AheadView → Type 0
-AheadEnds old (Ok (Some e)) new = IsNext old e new
-AheadEnds old (Ok None) new = (old.left ≡ Ok []) × (new.plan ≡ old.plan)
-AheadEnds old (Err f) new = (old.left ≡ Err f) × (new.plan ≡ old.plan)
+-- the next entries; none where all are handed out; or the fault that stands there
+abbrev pub BatchEnds : AheadView → Result (Option (Vec (Vec Entry Global) Global)) ReadError → AheadView → Type 0
+BatchEnds old (Ok (Some batch)) new = IsNextBatch old (entries_of batch.items) new
+BatchEnds old (Ok None) new = (old.left ≡ Ok []) × (new.plan ≡ old.plan)
+BatchEnds old (Err f) new = Fails f old.left × (new.plan ≡ old.plan)
 
 -- some entries are read; or there are none, and nothing changes
 pub record IsFilled (old : ReaderView) (es : List Entry) (new : ReaderView) : Type 0 where
@@ -101,6 +105,13 @@ pub record IsFilled (old : ReaderView) (es : List Entry) (new : ReaderView) : Ty
 abbrev pub FillEnds : ReaderView → Option (Vec Entry Global) → ReaderView → Type 0
 FillEnds old (Some es) new = IsFilled old es.items new
 FillEnds old None new = new ≡ old
+
+-- the entries of some lists are read, none of which is empty
+pub record AreNextLists (old : ReaderView) (lists : List (Vec Entry Global)) (new : ReaderView) : Type 0 where
+  pub left : old.left ≡ before (entries_of lists) new.left
+  pub plan : new.plan ≡ old.plan
+  pub fits : All (Fits old.plan) (entries_of lists)
+  pub fewer : new.bytes + length lists ≤ old.bytes
 
 -- how the reading of a text begins
 pub record IsAheadBegun (version : Version) (text : List ℕ) (r : AheadView) : Type 0 where

@@ -1,9 +1,8 @@
-//! The entries of a text, read ahead in pieces side by side, and handed out one after another.
+//! The entries of a text, read ahead in pieces side by side, and handed out in batches.
 
-ghost use Rattle.std.specs.Prelude.{◌≡◌, ◌≤◌, ◌+◌, All, Ok, Err, IfOk, length};
-ghost use Rattle.event_schedule.specs.Transcripts.{Fits};
+ghost use Rattle.std.specs.Prelude.{◌≡◌, ◌∷◌, [], All, IfOk};
 ghost use Rattle.transcript_text.specs.Readers.{IsTextOfWhatIsRead};
-ghost use Rattle.transcript_text.specs.Ahead.{AheadView, AheadEnds, AheadBegins, IsPieceOf, FillEnds};
+ghost use Rattle.transcript_text.specs.Ahead.{AheadBegins, AreNextLists, BatchEnds, FillEnds, IsPieceOf, entries_of};
 
 use crate::entry_reader::EntryReader;
 use crate::fault::ReadError;
@@ -11,39 +10,33 @@ use crate::piece::Piece;
 use crate::version::Version;
 use event_schedule::Entry;
 use group_plan::Plan;
-use std::alloc::Global;
+use std::alloc::{AllocError, Global};
 use std::collections::VecDeque;
 use std::marker::Model;
-use std::thread::Threads;
+use std::thread::{Threads, join};
 
-/// A text whose entries are read ahead, in pieces of so many bytes side by side, and handed out one after another. Where memory
-/// for that is wanting, or a line is no entry, the next line is read alone, as an `EntryReader` does.
+/// A text whose entries are read ahead, in pieces of so many bytes side by side, and handed out in batches. Where memory for that is
+/// wanting, or a line is no entry, the next line is read alone, as an `EntryReader` does.
 #[derive(Drop)]
 pub struct EntriesAhead<'a, R: Threads + Sync> {
     rt: &'a R,
     alloc: Global,
     size: usize,
-    /// The text from the first line on of which no entry is ready.
+    /// The text from the first line on whose entry is not handed out.
     reader: EntryReader<'a>,
     /// Pieces of that text.
     pieces: VecDeque<Piece>,
-    /// Entries that are read.
-    ready: Vec<Entry>,
-    /// How many of them are handed out.
-    at: usize,
 }
 
 impl<'a, R: Threads + Sync> Model for EntriesAhead<'a, R> {
-    ghost use Rattle.std.specs.Prelude.{◌≤◌, ◌+◌, ◌-◌, All, length, drop};
-    ghost use Rattle.event_schedule.specs.Transcripts.{Fits};
-    ghost use Rattle.transcript_text.specs.Reading.{before};
+    ghost use Rattle.std.specs.Prelude.{All};
     ghost use Rattle.transcript_text.specs.Ahead.{AheadView, IsPieceOf};
 
     ghost Value = { AheadView };
 
-    ghost view = { λ r. record { plan = r.reader.plan; left = before (drop r.at r.ready.items) r.reader.left; most = r.reader.bytes + (length r.ready.items - r.at) } };
+    ghost view = { λ r. record { plan = r.reader.plan; left = r.reader.left; most = r.reader.bytes } };
 
-    ghost invariant = { λ r. (r.at ≤ length r.ready.items) × All (Fits r.reader.plan) r.ready.items × All (IsPieceOf r.reader.version r.reader.plan r.reader.text) r.pieces.items };
+    ghost invariant = { λ r. All (IsPieceOf r.reader.version r.reader.plan r.reader.text) r.pieces.items };
 }
 
 /// The next pieces, or none where memory is wanting.
@@ -107,6 +100,49 @@ pub(crate) fn next_entries<R: Threads + Sync>(
     first_entries(reader, pieces)
 }
 
+/// The entries of the pieces, a list for each piece, as far as they come next.
+fn next_lists(
+    alloc: Global,
+    reader: &mut EntryReader,
+    pieces: &mut VecDeque<Piece>,
+) -> Result<Vec<Vec<Entry>>, AllocError>
+    requires { All (IsPieceOf reader.old.version reader.old.plan reader.old.text) pieces.old.items }
+    ensures lists { IfOk result (λ lists. AreNextLists reader.old lists.items reader.new) }
+    ensures plan { reader.new.plan ≡ reader.old.plan }
+    ensures pieces { All (IsPieceOf reader.new.version reader.new.plan reader.new.text) pieces.new.items }
+{
+    let mut lists = Vec::with_capacity(alloc, pieces.len())?;
+    'lists: while let Some(entries) = first_entries(reader, pieces) {
+        lists.push(entries)?;
+    }
+    Ok(lists)
+}
+
+/// A batch of one entry.
+fn alone(alloc: Global, entry: Entry) -> Result<Vec<Vec<Entry>>, AllocError>
+    ensures { IfOk result (λ batch. entries_of batch.items ≡ entry ∷ []) }
+{
+    Ok(vec![in alloc; vec![in alloc; entry]?]?)
+}
+
+/// Does some work, and reads the next pieces beside it.
+fn pieces_beside<R: Threads + Sync, T, F: FnOnce() -> T>(
+    rt: &R,
+    alloc: Global,
+    reader: &EntryReader,
+    size: usize,
+    work: F,
+) -> (VecDeque<Piece>, T)
+    requires { F.pre work }
+    ensures pieces { All (IsPieceOf reader.now.version reader.now.plan reader.now.text) result.0.items }
+    ensures done { F.post work result.1 }
+{
+    let read = || -> VecDeque<Piece>
+        ensures { All (IsPieceOf reader.entry.now.version reader.entry.now.plan reader.entry.now.text) result.items }
+    { next_pieces(rt, alloc, reader, size) };
+    join(rt, read, work)
+}
+
 impl<'a, R: Threads + Sync> EntriesAhead<'a, R> {
     /// Reads the head of a text.
     pub fn new(
@@ -129,8 +165,6 @@ impl<'a, R: Threads + Sync> EntriesAhead<'a, R> {
             size,
             reader,
             pieces: VecDeque::new(alloc),
-            ready: Vec::new(alloc),
-            at: 0,
         })
     }
 
@@ -141,38 +175,41 @@ impl<'a, R: Threads + Sync> EntriesAhead<'a, R> {
         self.reader.plan()
     }
 
-    /// Has the entries of a piece ready, where none is and they come next.
-    fn refill(&mut self)
-        ensures plan { self.new.plan ≡ self.old.plan }
-        ensures left { self.new.left ≡ self.old.left }
-        ensures most { self.new.most ≤ self.old.most }
+    /// Hands out the next entries: those of the next pieces, a list for each piece, or one that is read alone. There are none where
+    /// the next line is the last, as it has to be.
+    pub fn next_batch(&mut self) -> Result<Option<Vec<Vec<Entry>>>, ReadError>
+        ensures { BatchEnds self.old result self.new }
     {
-        if self.at < self.ready.len() {
-            return;
-        }
-        if let Some(entries) = next_entries(
+        fill_pieces(
             self.rt,
             self.alloc,
+            &self.reader,
             self.size,
-            &mut self.reader,
             &mut self.pieces,
-        ) {
-            self.ready = entries;
-            self.at = 0;
+        );
+        let lists = next_lists(self.alloc, &mut self.reader, &mut self.pieces)?;
+        self.pieces.clear();
+        if !lists.is_empty() {
+            return Ok(Some(lists));
+        }
+        match self.reader.next() {
+            Ok(Some(entry)) => Ok(Some(alone(self.alloc, entry)?)),
+            Ok(None) => Ok(None),
+            Err(fault) => Err(fault),
         }
     }
 
-    /// Hands out the next entry. There is none where the next line is the last, as it has to be.
-    pub fn next(&mut self) -> Result<Option<Entry>, ReadError>
-        ensures { AheadEnds self.old result self.new }
+    /// Does some work. Where the text goes on for more than a piece, the next pieces are read beside it.
+    pub fn read_beside<T, F: FnOnce() -> T>(&mut self, work: F) -> T
+        requires { F.pre work }
+        ensures done { F.post work result }
+        ensures same { self.new ≡ self.old }
     {
-        self.refill();
-        if self.at < self.ready.len() {
-            let entry = self.ready[self.at];
-            self.at += 1;
-            return Ok(Some(entry));
+        if self.reader.bytes_left() <= self.size {
+            return work();
         }
-        self.pieces.clear();
-        self.reader.next()
+        let (pieces, answer) = pieces_beside(self.rt, self.alloc, &self.reader, self.size, work);
+        self.pieces = pieces;
+        answer
     }
 }

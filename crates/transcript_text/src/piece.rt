@@ -17,8 +17,8 @@ use std::thread::Threads;
 /// As many bytes of a text as a thread reads at a time.
 pub const BYTES_A_PIECE: usize = 64 * 1024;
 
-/// The most pieces that are read side by side, so that their entries take about 3 MB where a piece has `BYTES_A_PIECE`.
-const PIECES_A_BATCH: usize = 32;
+/// The most pieces that are read side by side, so that their entries take about 1.5 MB where a piece has `BYTES_A_PIECE`.
+const PIECES_A_BATCH: usize = 16;
 
 /// So many pieces are worth a thread.
 const PIECES_A_THREAD: usize = 4;
