@@ -6,7 +6,7 @@ use Rattle.std.proofs.lemmas.List.Elements.{All-head, All-tail}
 use Rattle.group_plan.specs.Plans.{PlanView}
 use Rattle.event_schedule.specs.declared.Entry.{Entry}
 use Rattle.transcript_text.specs.declared.version.Version.{Version}
-use Rattle.transcript_text.specs.declared.fault.Row.TheVariants as row
+use Rattle.transcript_text.specs.declared.fault.BodyLine.TheVariants as row
 use Rattle.field_texts.specs.Parts.{parts}
 use Rattle.event_schedule.specs.Transcripts.{Fits, IsEntry, NeverFalls}
 use Rattle.transcript_text.specs.Spelling.{ended, entries_text, entry_text, fields_of}

@@ -8,8 +8,8 @@ use Rattle.std.proofs.lemmas.List.Elements.{All-cons, All-nil}
 use Rattle.group_plan.specs.Plans.{PlanView, size}
 use Rattle.event_schedule.specs.declared.Entry.{Entry}
 use Rattle.transcript_text.specs.declared.version.Version.{Version}
-use Rattle.transcript_text.specs.declared.fault.Row.{Row}
-use Rattle.transcript_text.specs.declared.fault.Row.TheVariants as row
+use Rattle.transcript_text.specs.declared.fault.BodyLine.{BodyLine}
+use Rattle.transcript_text.specs.declared.fault.BodyLine.TheVariants as row
 use Rattle.transcript_text.specs.declared.fault.RowFault.{RowFault}
 use Rattle.transcript_text.specs.declared.fault.ReadError.{ReadError}
 use Rattle.transcript_text.specs.declared.fault.ReadError.TheVariants as fault
@@ -71,7 +71,7 @@ entries_back version plan few n last count [] es is = absurd cc
 entries_back version plan few n last count (x ∷ []) es is = absurd cc
 entries_back version plan few n last count (line ∷ next ∷ more) es is = by_row (row_of version plan last (parts 44 line)) refl is (λ e. entries_back version plan few (n + 1) e.tick (count + 1) (next ∷ more))
   where
-    by_row : (r : Result Row RowFault) → row_of version plan last (parts 44 line) ≡ r → after_row n count (next ∷ more) (λ e. entries_from version plan (n + 1) e.tick (count + 1) (next ∷ more)) r ≡ Ok es
+    by_row : (r : Result BodyLine RowFault) → row_of version plan last (parts 44 line) ≡ r → after_row n count (next ∷ more) (λ e. entries_from version plan (n + 1) e.tick (count + 1) (next ∷ more)) r ≡ Ok es
         → ((e : Entry) (xs : List Entry) → entries_from version plan (n + 1) e.tick (count + 1) (next ∷ more) ≡ Ok xs → AreRead version plan e.tick (count + 1) (next ∷ more) xs)
         → AreRead version plan last count (line ∷ next ∷ more) es
     by_row (Ok (row.Entry e)) r is ih =

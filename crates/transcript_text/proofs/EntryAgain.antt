@@ -15,7 +15,7 @@ use Rattle.round_machine.specs.declared.Closing.{Closing}
 use Rattle.round_machine.specs.declared.Closing.TheVariants as closing
 use Rattle.event_schedule.specs.declared.Line.TheVariants.{Send, Take, Close}
 use Rattle.transcript_text.specs.declared.version.Version.{Version}
-use Rattle.transcript_text.specs.declared.fault.Row.TheVariants as row
+use Rattle.transcript_text.specs.declared.fault.BodyLine.TheVariants as row
 use Rattle.field_texts.specs.Numbers.{number_of, within}
 use Rattle.link_lanes.specs.Fates.{IsFate}
 use Rattle.event_schedule.specs.Transcripts.{FitsClosing, HasPlace, IsLine, IsPlan}

@@ -21,7 +21,7 @@ use Rattle.event_schedule.specs.declared.Line.TheVariants.{Send, Take, Close, En
 use Rattle.event_schedule.specs.declared.Entry.{Entry}
 use Rattle.event_schedule.specs.Events.{is_tag, same_kind}
 use Rattle.transcript_text.specs.declared.version.Version.{Version}
-use Rattle.transcript_text.specs.declared.fault.Row.TheVariants as row
+use Rattle.transcript_text.specs.declared.fault.BodyLine.TheVariants as row
 use Rattle.transcript_text.specs.declared.fault.RowFault.{RowFault}
 use Rattle.transcript_text.specs.declared.fault.RowFault.TheVariants.{Field}
 use Rattle.field_texts.specs.Numbers.{number_of, within}

@@ -8,8 +8,8 @@ use Rattle.field_texts.specs.Parts.{parts}
 use Rattle.field_texts.proofs.Cutting.{parts_some}
 use Rattle.field_texts.proofs.Choices.{pick}
 use Rattle.transcript_text.specs.declared.version.Version.{Version}
-use Rattle.transcript_text.specs.declared.fault.Row.{Row}
-use Rattle.transcript_text.specs.declared.fault.Row.TheVariants as row
+use Rattle.transcript_text.specs.declared.fault.BodyLine.{BodyLine}
+use Rattle.transcript_text.specs.declared.fault.BodyLine.TheVariants as row
 use Rattle.transcript_text.specs.declared.fault.RowFault.{RowFault}
 use Rattle.transcript_text.specs.declared.fault.RowFault.TheVariants as row_fault
 use Rattle.transcript_text.specs.declared.fault.ReadError.{ReadError}
@@ -31,7 +31,7 @@ unfoldable pub entries_read : Version → PlanView → ℕ → ℕ → List Entr
 entries_read version plan n last front ls = with_plan plan (before front (entries_from version plan n last (length front) ls))
 
 -- what follows a line
-abbrev after : Version → PlanView → ℕ → List Entry → List (List ℕ) → Result Row RowFault → Result TranscriptView ReadError
+abbrev after : Version → PlanView → ℕ → List Entry → List (List ℕ) → Result BodyLine RowFault → Result TranscriptView ReadError
 after version plan n front zs (Ok (row.Entry e)) = entries_read version plan (n + 1) e.tick (front ++ e ∷ []) zs
 after version plan n front zs (Ok (row.Last k)) = if k == length front then with_plan plan (before front (ok_or (is_done zs) (fault.After (n + 1)))) else Err (fault.Count n)
 after version plan n front zs (Err f) = Err (in_line n f)
@@ -40,7 +40,7 @@ before_before : (xs ys : List Entry) (z : Result (List Entry) ReadError) → bef
 before_before xs ys (Ok zs) = ap Ok (sym (append_assoc xs ys zs))
 before_before xs ys (Err f) = refl
 
-step : (version : Version) (plan : PlanView) (n last : ℕ) (front : List Entry) (line : List ℕ) (zs : List (List ℕ)) (r : Result Row RowFault) → row_of version plan last (parts 44 line) ≡ r → 0 < length zs
+step : (version : Version) (plan : PlanView) (n last : ℕ) (front : List Entry) (line : List ℕ) (zs : List (List ℕ)) (r : Result BodyLine RowFault) → row_of version plan last (parts 44 line) ≡ r → 0 < length zs
     → entries_read version plan n last front (line ∷ zs) ≡ after version plan n front zs r
 unfolding entries_read entries_from
 step version plan n last front line zs r is some =
@@ -51,7 +51,7 @@ step version plan n last front line zs r is some =
     by_count true x = refl
     by_count false x = refl
 
-    by_row : (r : Result Row RowFault)
+    by_row : (r : Result BodyLine RowFault)
         → with_plan plan (before front (after_row n (length front) zs (λ e. entries_from version plan (n + 1) e.tick (length front + 1) zs) r)) ≡ after version plan n front zs r
     by_row (Ok (row.Entry e)) =
         let long : length (front ++ e ∷ []) ≡ length front + 1 = length-append front (e ∷ []) in
@@ -92,7 +92,7 @@ entries_start version plan n last front (x ∷ []) g e = let is : g ≡ fault.No
 entries_start version plan n last front (line ∷ next ∷ more) g e =
     by_row (row_of version plan last (parts 44 line)) refl (λ e. entries_start version plan (n + 1) e.tick (front ++ e ∷ []) (next ∷ more) g)
   where
-    by_row : (r : Result Row RowFault) → row_of version plan last (parts 44 line) ≡ r
+    by_row : (r : Result BodyLine RowFault) → row_of version plan last (parts 44 line) ≡ r
         → ((x : Entry) → entries_read version plan (n + 1) x.tick (front ++ x ∷ []) (next ∷ more) ≡ Err g → n + 1 ≤ fault_line g) → n ≤ fault_line g
     by_row (Ok (row.Entry x)) is later =
         let le = later x (sym (step version plan n last front line (next ∷ more) (Ok (row.Entry x)) is (omega arith)) ∙ e) in
@@ -145,7 +145,7 @@ entries_located version plan n last front (line ∷ next ∷ more) f some few e 
     start = entries_start version plan n last front
 
     -- the line is wrong whatever follows it
-    wrong : (r : Result Row RowFault) → row_of version plan last (parts 44 line) ≡ r → ((zs : List (List ℕ)) (t : TranscriptView) → after version plan n front zs r ≡ Ok t → ⊥) → fault_line f ≡ n → Located read n (line ∷ next ∷ more) f
+    wrong : (r : Result BodyLine RowFault) → row_of version plan last (parts 44 line) ≡ r → ((zs : List (List ℕ)) (t : TranscriptView) → after version plan n front zs r ≡ Ok t → ⊥) → fault_line f ≡ n → Located read n (line ∷ next ∷ more) f
     wrong r is none at = here read n (line ∷ next ∷ more) f (omega arith) at start
         (λ y ys zs t same many some e. none zs t (sym (step version plan n last front line zs r is some) ∙ (ap (λ q. read (q ∷ zs)) (first_of line y (next ∷ more) ys same) ∙ e)))
         (λ _. ends_here version plan n last front (omega (arith, few)))
@@ -164,7 +164,7 @@ entries_located version plan n last front (line ∷ next ∷ more) f some few e 
         let at : fault.Count n ≡ f = same_fault (fault.Count n) f (rw same at e) in
         wrong (Ok (row.Last k)) is (λ zs t e. no_ok (fault.Count n) t (rw same at e)) (ap fault_line (sym at))
 
-    by_row : (r : Result Row RowFault) → row_of version plan last (parts 44 line) ≡ r
+    by_row : (r : Result BodyLine RowFault) → row_of version plan last (parts 44 line) ≡ r
         → ((x : Entry) → length (front ++ x ∷ []) + length (next ∷ more) ≤ 2 ^ 64 → entries_read version plan (n + 1) x.tick (front ++ x ∷ []) (next ∷ more) ≡ Err f
         → Located (entries_read version plan (n + 1) x.tick (front ++ x ∷ [])) (n + 1) (next ∷ more) f)
         → Located read n (line ∷ next ∷ more) f

@@ -21,7 +21,7 @@ use Rattle.event_schedule.specs.declared.Entry.{Entry}
 use Rattle.event_schedule.specs.Events.{is_tag, same_kind}
 use Rattle.transcript_text.specs.declared.version.Version.{Version}
 use Rattle.transcript_text.specs.declared.version.Version.TheVariants.{One, Two}
-use Rattle.transcript_text.specs.declared.fault.Row.TheVariants as row
+use Rattle.transcript_text.specs.declared.fault.BodyLine.TheVariants as row
 use Rattle.link_lanes.specs.Fates.{IsFate}
 use Rattle.event_schedule.specs.Transcripts.{Fits, FitsClosing, FitsEnding, FitsLine, FitsTag, HasPlace, HasRound, IsEntry, IsLine, IsWithin}
 use Rattle.field_texts.specs.Sets.{numbers_text}

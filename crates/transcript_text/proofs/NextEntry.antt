@@ -3,8 +3,8 @@ use Rattle.std.proofs.Common.{◌≡◌, ◌<◌, ◌+◌, ◌==◌, ℕ, true, 
 use Rattle.event_schedule.specs.declared.Entry.{Entry}
 use Rattle.group_plan.specs.Plans.{PlanView}
 use Rattle.transcript_text.specs.declared.version.Version.{Version}
-use Rattle.transcript_text.specs.declared.fault.Row.{Row}
-use Rattle.transcript_text.specs.declared.fault.Row.TheVariants as row
+use Rattle.transcript_text.specs.declared.fault.BodyLine.{BodyLine}
+use Rattle.transcript_text.specs.declared.fault.BodyLine.TheVariants as row
 use Rattle.transcript_text.specs.declared.fault.RowFault.{RowFault}
 use Rattle.transcript_text.specs.declared.fault.ReadError.TheVariants as fault
 use Rattle.field_texts.specs.Parts.{parts}
@@ -22,7 +22,7 @@ done_some [] none = refl
 done_some (c ∷ cs) none = absurd (omega arith)
 
 module _ (version : Version) (plan : PlanView) (n last count : ℕ) (line after : List ℕ) (lines : List (List ℕ)) (cut : lines ≡ line ∷ parts 10 after) where
-  reads : (r : Result Row RowFault) → r ≡ row_of version plan last (parts 44 line)
+  reads : (r : Result BodyLine RowFault) → r ≡ row_of version plan last (parts 44 line)
       → entries_from version plan n last count lines ≡ after_row n count (parts 10 after) (λ e. entries_from version plan (n + 1) e.tick (count + 1) (parts 10 after)) r
   reads r is = ap (entries_from version plan n last count) cut ∙ opens version plan n last count line (parts 10 after) (parts_some 10 after)
       ∙ ap (after_row n count (parts 10 after) (λ e. entries_from version plan (n + 1) e.tick (count + 1) (parts 10 after))) (sym is)

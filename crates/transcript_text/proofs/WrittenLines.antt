@@ -10,7 +10,7 @@ use Rattle.event_schedule.specs.Transcripts.{HasPlace}
 use Rattle.field_texts.specs.Parts.{parts}
 use Rattle.field_texts.specs.Sets.{numbers_text}
 use Rattle.transcript_text.specs.declared.version.Version.{Version}
-use Rattle.transcript_text.specs.declared.fault.Row.TheVariants as row
+use Rattle.transcript_text.specs.declared.fault.BodyLine.TheVariants as row
 use Rattle.transcript_text.specs.Spelling.{entry_text, joined, sent_fields, tag_fields, verdict_text}
 use Rattle.link_lanes.specs.Texts.{fate_of}
 use Rattle.transcript_text.specs.Reading.{row_of, sent_of}

@@ -9,7 +9,7 @@ use Rattle.transcript_text.specs.declared.version.Version.{Version}
 use Rattle.transcript_text.specs.declared.fault.ReadError.{ReadError}
 use Rattle.transcript_text.specs.declared.piece.Piece.{Piece}
 use Rattle.transcript_text.specs.Spelling.{ended, entry_text}
-use Rattle.transcript_text.specs.declared.fault.Row.TheVariants as row
+use Rattle.transcript_text.specs.declared.fault.BodyLine.TheVariants as row
 use Rattle.field_texts.specs.Parts.{parts}
 use Rattle.transcript_text.specs.Reading.{before, Fails, row_of}
 use Rattle.transcript_text.specs.Heads.{read_of}

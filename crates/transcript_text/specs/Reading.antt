@@ -23,8 +23,8 @@ use Rattle.event_schedule.specs.declared.Entry.{Entry}
 use Rattle.event_schedule.specs.Events.{is_tag}
 use Rattle.transcript_text.specs.declared.version.Version.{Version}
 use Rattle.transcript_text.specs.declared.version.Version.TheVariants.{One, Two}
-use Rattle.transcript_text.specs.declared.fault.Row.{Row}
-use Rattle.transcript_text.specs.declared.fault.Row.TheVariants as row
+use Rattle.transcript_text.specs.declared.fault.BodyLine.{BodyLine}
+use Rattle.transcript_text.specs.declared.fault.BodyLine.TheVariants as row
 use Rattle.transcript_text.specs.declared.fault.RowFault.{RowFault}
 use Rattle.transcript_text.specs.declared.fault.RowFault.TheVariants as row_fault
 use Rattle.transcript_text.specs.declared.fault.ReadError.{ReadError}
@@ -168,12 +168,12 @@ end_of plan last fs = do
   ending ← ending_of (size plan.groups g) (at fs 4) (at fs 5)
   Ok (record { tick = tick; fate = []; line = End g r ending })
 
-abbrev pub as_entry : Result Entry RowFault → Result Row RowFault
+abbrev pub as_entry : Result Entry RowFault → Result BodyLine RowFault
 as_entry (Ok e) = Ok (row.Entry e)
 as_entry (Err f) = Err f
 
 -- a line by its fields, after an entry with the tick last
-unfoldable pub row_of : Version → PlanView → ℕ → List (List ℕ) → Result Row RowFault
+unfoldable pub row_of : Version → PlanView → ℕ → List (List ℕ) → Result BodyLine RowFault
 row_of version plan last fs =
     if (length fs == 2) && bytes_eq (at fs 0) (codes "end") then ok_or (option_map row.Last (number_of (at fs 1))) (row_fault.Field 2)
     else if (length fs == 8) && bytes_eq (at fs 1) (codes "s") then as_entry (send_of version plan last fs)
@@ -198,7 +198,7 @@ abbrev pub is_done : List (List ℕ) → Option (List Entry)
 is_done ([] ∷ []) = Some []
 is_done _ = None
 
-abbrev pub after_row : ℕ → ℕ → List (List ℕ) → (Entry → Result (List Entry) ReadError) → Result Row RowFault → Result (List Entry) ReadError
+abbrev pub after_row : ℕ → ℕ → List (List ℕ) → (Entry → Result (List Entry) ReadError) → Result BodyLine RowFault → Result (List Entry) ReadError
 after_row n count more rest (Ok (row.Entry e)) = before (e ∷ []) (rest e)
 after_row n count more rest (Ok (row.Last k)) = if k == count then ok_or (is_done more) (fault.After (n + 1)) else Err (fault.Count n)
 after_row n count more rest (Err f) = Err (in_line n f)

@@ -5,7 +5,7 @@ ghost use Rattle.transcript_text.specs.Ahead.{IsPieceOf, SkipEnds};
 ghost use Rattle.transcript_text.specs.Reading.{in_line};
 ghost use Rattle.transcript_text.specs.Readers.{ReaderView, Begins, NextEnds, IsTextOfWhatIsRead};
 
-use crate::fault::{ReadError, Row, RowFault};
+use crate::fault::{BodyLine, ReadError, RowFault};
 use crate::head::read_head;
 use crate::piece::{Piece, pieces};
 use crate::rows::row;
@@ -111,14 +111,14 @@ impl<'a> EntryReader<'a> {
             return Err(ReadError::NoEnd(self.line));
         };
         match row(self.version, &self.plan, self.last, line) {
-            Ok(Row::Entry(entry)) => {
+            Ok(BodyLine::Entry(entry)) => {
                 self.line += 1;
                 self.last = entry.tick;
                 self.count += 1;
                 self.rest = after;
                 Ok(Some(entry))
             }
-            Ok(Row::Last(count)) => {
+            Ok(BodyLine::Last(count)) => {
                 if count != self.count {
                     return Err(ReadError::Count(self.line));
                 }

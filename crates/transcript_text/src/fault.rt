@@ -46,7 +46,7 @@ impl<T: Drop> From<AllocFailed<T>> for ReadError {
 
 /// A line after the head.
 #[derive(Clone, Copy)]
-pub(crate) enum Row {
+pub(crate) enum BodyLine {
     Entry(Entry),
     /// The `end` line, with its number.
     Last(u64),

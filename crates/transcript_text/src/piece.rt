@@ -4,7 +4,7 @@ ghost use Rattle.std.specs.Prelude.{◌≡◌, ◌++◌, [], ℕ, List, All, IfO
 ghost use Rattle.transcript_text.specs.ReadBack.{HasHead};
 ghost use Rattle.transcript_text.specs.Ahead.{IsPieceOf, IsReadUpTo, PutEnds};
 
-use crate::fault::Row;
+use crate::fault::BodyLine;
 use crate::rows::row;
 use crate::version::Version;
 use event_schedule::Entry;
@@ -66,12 +66,12 @@ fn put_entry(
     ensures { IfOk result (PutEnds version plan.now last line.now entries.old.items entries.new.items) }
 {
     match row(version, plan, last, line) {
-        Ok(Row::Entry(entry)) => {
+        Ok(BodyLine::Entry(entry)) => {
             let tick = entry.tick;
             entries.push(entry)?;
             Ok(Some(tick))
         }
-        Ok(Row::Last(_)) => Ok(None),
+        Ok(BodyLine::Last(_)) => Ok(None),
         Err(_) => Ok(None),
     }
 }

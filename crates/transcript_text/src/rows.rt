@@ -6,13 +6,13 @@ ghost use Rattle.field_texts.specs.Numbers.{number_of};
 ghost use Rattle.field_texts.specs.Parts.{parts};
 ghost use Rattle.transcript_text.specs.ReadBack.{HasHead};
 ghost use Rattle.transcript_text.specs.Parts.{at, view, AreFields};
-ghost use Rattle.transcript_text.specs.declared.fault.Row.TheVariants as row;
+ghost use Rattle.transcript_text.specs.declared.fault.BodyLine.TheVariants as row;
 ghost use Rattle.transcript_text.specs.declared.fault.RowFault.TheVariants as row_fault;
 ghost use Rattle.transcript_text.specs.Reading.{tick_of, group_of, round_of, tag_of, send_of, take_of, close_of, end_of, as_entry, row_of};
 
 use crate::Version;
 use crate::cut::{Fields, split_fields};
-use crate::fault::{Row, RowFault};
+use crate::fault::{BodyLine, RowFault};
 use crate::fields::{closing, ending, kind, sent, verdict};
 use crate::written::written;
 use event_schedule::{Entry, Line};
@@ -155,24 +155,29 @@ fn end(plan: &Plan, last: u32, fields: &Fields) -> Result<Entry, RowFault>
 }
 
 /// An entry as a row.
-fn as_row(entry: Result<Entry, RowFault>) -> Result<Row, RowFault>
+fn as_row(entry: Result<Entry, RowFault>) -> Result<BodyLine, RowFault>
     ensures { result ≡ as_entry entry }
 {
-    Ok(Row::Entry(entry?))
+    Ok(BodyLine::Entry(entry?))
 }
 
 /// The row of the `end` line.
-fn last_row(fields: &Fields) -> Result<Row, RowFault>
+fn last_row(fields: &Fields) -> Result<BodyLine, RowFault>
     requires { AreFields fields.now }
     ensures { result ≡ ok_or (option_map row.Last (number_of (at (view fields.now) 1))) (row_fault.Field 2) }
 {
     let count = read_number(fields.get(1)).ok_or(RowFault::Field(2))?;
-    Ok(Row::Last(count))
+    Ok(BodyLine::Last(count))
 }
 
 /// A line after an entry with the tick `last`, by its fields.
 #[tactic(auto, using(crate::proofs::Cutting::length_view), unfolding(crate::specs::Reading::row_of))]
-fn row_of_fields(version: Version, plan: &Plan, last: u32, fields: &Fields) -> Result<Row, RowFault>
+fn row_of_fields(
+    version: Version,
+    plan: &Plan,
+    last: u32,
+    fields: &Fields,
+) -> Result<BodyLine, RowFault>
     requires { AreFields fields.now }
     ensures { result ≡ row_of version plan.now last (view fields.now) }
 {
@@ -194,13 +199,18 @@ fn row_of_fields(version: Version, plan: &Plan, last: u32, fields: &Fields) -> R
 
 /// A line after an entry with the tick `last`. One as it is written is read at once, and any other by its fields.
 #[tactic(auto, using(crate::proofs::LineFields::row_many, crate::proofs::WrittenLines::row_written))]
-pub(crate) fn row(version: Version, plan: &Plan, last: u32, line: &[u8]) -> Result<Row, RowFault>
+pub(crate) fn row(
+    version: Version,
+    plan: &Plan,
+    last: u32,
+    line: &[u8],
+) -> Result<BodyLine, RowFault>
     requires { HasHead version plan.now }
     ensures { result ≡ row_of version plan.now last (parts 44 line.now) }
 {
     let _groups = plan.groups();
     if let Some(entry) = written(version, plan, last, line) {
-        return Ok(Row::Entry(entry));
+        return Ok(BodyLine::Entry(entry));
     }
     let Some(fields) = split_fields(line) else {
         return Err(RowFault::Form);
