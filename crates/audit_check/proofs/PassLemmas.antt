@@ -1,29 +1,27 @@
 -- The pass over the text of a transcript, one entry after another.
-use Rattle.std.proofs.Common.{◌≡◌, ℕ, ◌+◌, ◌<◌, List, [], ◌∷◌, ◌++◌, length, take, refl, sym, ap, ◌∙◌, subst, arith, length-append}
-use Rattle.std.specs.Prelude.{Option, Some, None, Result, Ok}
+use Rattle.std.proofs.Common.{◌≡◌, ℕ, suc, ◌+◌, ◌<◌, ◌≤◌, List, [], ◌∷◌, ◌++◌, All, length, take, drop, drop-cons, get_or, refl, sym, ap, ◌∙◌, subst, arith, length-append, append-nil, append_assoc}
+use Rattle.std.specs.Prelude.{false, Option, Some, None, is_some, Ok}
 use Rattle.std.proofs.lemmas.Bool.{and_from, lt-ltb}
 use Rattle.std.proofs.lemmas.List.{take-append-le, take_all}
+use Rattle.std.proofs.lemmas.List.Elements.{All-cons, All-head, All-nil, All-tail}
 use Rattle.group_plan.specs.Plans.{PlanView}
-use Rattle.group_plan.specs.Tables.{PresenceView}
 use Rattle.event_schedule.specs.declared.Entry.{Entry}
 use Rattle.event_schedule.specs.declared.Line.{Line}
 use Rattle.event_schedule.specs.declared.Line.TheVariants.{Send as SendLine, Take as TakeLine, Close as CloseLine, End as EndLine}
 use Rattle.event_schedule.specs.Events.{lines_of}
 use Rattle.event_schedule.specs.Frames.{IsPossible, shape_of_lines}
-use Rattle.event_schedule.specs.Transcripts.{TranscriptView, IsTranscript, FitsLine}
-use Rattle.transcript_text.specs.declared.fault.ReadError.{ReadError}
+use Rattle.event_schedule.specs.Transcripts.{TranscriptView, Fits, IsTranscript, FitsLine}
 use Rattle.transcript_text.specs.declared.version.Version.TheVariants.{Two}
 use Rattle.transcript_text.specs.Heads.{read_of}
-use Rattle.transcript_text.specs.Reading.{before}
 use Rattle.transcript_text.specs.Readers.{IsTextOfWhatIsRead, with_entries}
-use Rattle.transcript_text.specs.Ahead.{AheadView, IsAheadBegun, IsNext}
-use Rattle.audit_check.proofs.ReadLemmas.{one_more, nothing_before}
+use Rattle.transcript_text.specs.Ahead.{AheadView, IsAheadBegun}
 use Rattle.group_book.specs.Books.{BookView}
 use Rattle.audit_check.specs.Steps.{MayFollow}
 use Rattle.audit_check.specs.Ends.{LinesEnd}
 use Rattle.audit_check.specs.Replays.{FitsPlan}
 use Rattle.audit_check.specs.Following.{IsReplay, Follows}
-use Rattle.audit_check.specs.Passes.{HasRead, ReadsOn, PassEnds, IsLineOf, IsReplayOf, ReadsAs}
+use Rattle.audit_check.specs.declared.passing.Pass.{Pass}
+use Rattle.audit_check.specs.Passes.{AreJudged, AreReplayed, CanJudge, IsPassOver, Judges, PassEnds, IsLineOf, IsReplayOf, ReadsAs}
 use Rattle.audit_check.proofs.EndLemmas.{none_possible, lines_long, more_possible, not_possible, first_found, all_replayed}
 
 -- ---- an entry's line
@@ -41,84 +39,110 @@ lines_more (x ∷ xs) ys = ap (λ ls. x.line ∷ ls) (lines_more xs ys)
 
 -- ---- judging
 
-pub has_begun : (r : AheadView) (b : BookView) (seen : PresenceView) (sets : List (List ℕ)) → b.presence.plan ≡ r.plan → b.journal ≡ [] → IsReplay b.presence b.journal seen sets → HasRead r.plan r.left 0 r b seen sets
-has_begun r b seen sets plan journal is = record {
-  front = [];
-  so_far = nothing_before r.left;
-  reads = refl;
-  count = refl;
-  plan = plan;
-  journal = journal;
-  replay = is;
-  possible = none_possible r.plan.groups;
-}
+pub none_judged : (plan : PlanView) (p : Pass) → p.impossible ≡ None → p.count ≡ 0 → p.replay.rounds.presence.plan ≡ plan → p.replay.rounds.journal ≡ []
+    → IsReplay p.replay.rounds.presence p.replay.rounds.journal p.replay.seen p.replay.answered.items → IsPassOver plan [] p
+none_judged plan p none count same journal is =
+    subst (AreJudged plan [] p) (sym none) (record { count = sym count; plan_is = same; journal = journal; replay = is; possible = none_possible plan.groups })
 
-module _ (plan : PlanView) (all : Result (List Entry) ReadError) (at : ℕ) (r : AheadView) (b : BookView) (seen : PresenceView) (sets : List (List ℕ)) (has : HasRead plan all at r b seen sets) where
-  front_long : length (lines_of has.front) ≡ at
-  front_long = lines_long has.front ∙ has.count
+-- the entries that come next behind some others
+module _ (plan : PlanView) (front es : List Entry) where
+  both : lines_of (front ++ es) ≡ lines_of front ++ lines_of es
+  both = lines_more front es
 
-  module _ (e : Entry) (s : AheadView) (read : IsNext r e s) where
-    so_now : before (has.front ++ e ∷ []) s.left ≡ all
-    so_now = one_more has.front r.left all has.so_far e s.left read.left
+  up_to : (n : ℕ) → n ≤ length (lines_of front) → take n (lines_of (front ++ es)) ≡ take n (lines_of front)
+  up_to n le = ap (take n) both ∙ take-append-le n (lines_of front) (lines_of es) le
 
-    now_long : length (lines_of has.front ++ e.line ∷ []) ≡ at + 1
-    now_long = length-append (lines_of has.front) (e.line ∷ []) ∙ ap (λ n. n + 1) front_long
+-- one entry that comes next
+module _ (plan : PlanView) (front : List Entry) (e : Entry) (p : Pass) (are : AreReplayed plan front p) where
+  with_it : lines_of (front ++ e ∷ []) ≡ lines_of front ++ e.line ∷ []
+  with_it = lines_more front (e ∷ [])
 
-    pub has_more : (c : BookView) (now : PresenceView) (new : List (List ℕ)) → Follows b.presence b.journal e.line c now new → HasRead plan all (at + 1) s c now new
-    has_more c now new follows = record {
-      front = has.front ++ e ∷ [];
-      so_far = so_now;
-      reads = read.plan ∙ has.reads;
-      count = length-append has.front (e ∷ []) ∙ ap (λ n. n + 1) has.count;
-      plan = follows.plan ∙ has.plan;
-      journal = follows.journal ∙ ap (λ j. j ++ e.line ∷ []) has.journal ∙ sym (lines_more has.front (e ∷ []));
-      replay = follows.replay;
-      possible = subst (IsPossible plan.groups) (sym (lines_more has.front (e ∷ []))) (more_possible plan b.presence.plan (lines_of has.front) b.journal e.line has.plan has.journal has.possible follows.may);
-    }
+  pub one_replayed : (q : Pass) → Follows p.replay.rounds.presence p.replay.rounds.journal e.line q.replay.rounds q.replay.seen q.replay.answered.items → q.count ≡ p.count + 1 → AreReplayed plan (front ++ e ∷ []) q
+  one_replayed q follows count = record {
+    count = length-append front (e ∷ []) ∙ ap (λ n. n + 1) are.count ∙ sym count;
+    plan_is = follows.plan ∙ are.plan_is;
+    journal = follows.journal ∙ ap (λ j. j ++ e.line ∷ []) are.journal ∙ sym with_it;
+    replay = follows.replay;
+    possible = subst (IsPossible plan.groups) (sym with_it) (more_possible plan p.replay.rounds.presence.plan (lines_of front) p.replay.rounds.journal e.line are.plan_is are.journal are.possible follows.may);
+  }
 
-    -- the line may not follow, and the text is read to its end
-    pub is_stopped : (c : BookView) → (¬ MayFollow (shape_of_lines b.presence.plan.groups (b.journal ++ e.line ∷ [])) b.journal e.line) → ReadsOn s.left (Ok tt) → PassEnds plan all (Ok (Some at)) c
-    is_stopped c may_not (rest, rest_is) = (
-      (has.front ++ e ∷ []) ++ rest,
-      sym so_now ∙ ap (before (has.front ++ e ∷ [])) rest_is,
-      (
-        within,
-        subst (IsPossible plan.groups) (sym up_to) has.possible,
-        λ possible. not_possible plan b.presence.plan (lines_of has.front) b.journal e.line has.plan has.journal may_not (subst (IsPossible plan.groups) up_to_here possible),
-      ),
-    )
-      where
-        split : lines_of ((has.front ++ e ∷ []) ++ rest) ≡ (lines_of has.front ++ e.line ∷ []) ++ lines_of rest
-        split = lines_more (has.front ++ e ∷ []) rest ∙ ap (λ ls. ls ++ lines_of rest) (lines_more has.front (e ∷ []))
+  pub one_stops : (c : BookView) → (¬ MayFollow (shape_of_lines p.replay.rounds.presence.plan.groups (p.replay.rounds.journal ++ e.line ∷ [])) p.replay.rounds.journal e.line)
+      → LinesEnd plan (lines_of (front ++ e ∷ [])) (Some p.count) c
+  one_stops c may_not =
+      let long : length (lines_of front) ≡ p.count = lines_long front ∙ are.count in
+      let all : length (lines_of (front ++ e ∷ [])) ≡ length (lines_of front) + 1 = ap length with_it ∙ length-append (lines_of front) (e.line ∷ []) in
+      let before = up_to plan front (e ∷ []) p.count (omega (arith, long)) ∙ take_all p.count (lines_of front) (omega (arith, long)) in
+      let whole = take_all (p.count + 1) (lines_of (front ++ e ∷ [])) (omega (arith, all, long)) ∙ with_it in (
+        omega (arith, all, long),
+        subst (IsPossible plan.groups) (sym before) are.possible,
+        λ possible. not_possible plan p.replay.rounds.presence.plan (lines_of front) p.replay.rounds.journal e.line are.plan_is are.journal may_not (subst (IsPossible plan.groups) whole possible),
+      )
 
-        within : at < length (lines_of ((has.front ++ e ∷ []) ++ rest))
-        within =
-            let long = ap length split ∙ length-append (lines_of has.front ++ e.line ∷ []) (lines_of rest) in
-            let now = now_long in
-            omega (arith, long, now)
+pub one_may : (p q : Pass) (e : Entry) → p.impossible ≡ None → q.impossible ≡ None
+    → Follows p.replay.rounds.presence p.replay.rounds.journal e.line q.replay.rounds q.replay.seen q.replay.answered.items → q.count ≡ p.count + 1 → Judges p (e ∷ []) q
+one_may p q e none still follows count = λ plan front over.
+    subst (AreJudged plan (front ++ e ∷ []) q) (sym still) (one_replayed plan front e p (subst (AreJudged plan front p) none over) q follows count)
 
-        up_to_here : take (at + 1) (lines_of ((has.front ++ e ∷ []) ++ rest)) ≡ lines_of has.front ++ e.line ∷ []
-        up_to_here =
-            let now = now_long in
-            ap (take (at + 1)) split ∙ take-append-le (at + 1) (lines_of has.front ++ e.line ∷ []) (lines_of rest) (omega (arith, now)) ∙ take_all (at + 1) (lines_of has.front ++ e.line ∷ []) (omega (arith, now))
+pub one_may_not : (p q : Pass) (e : Entry) → p.impossible ≡ None → q.impossible ≡ Some p.count
+    → (¬ MayFollow (shape_of_lines p.replay.rounds.presence.plan.groups (p.replay.rounds.journal ++ e.line ∷ [])) p.replay.rounds.journal e.line) → Judges p (e ∷ []) q
+one_may_not p q e none stops may_not = λ plan front over.
+    subst (AreJudged plan (front ++ e ∷ []) q) (sym stops) (one_stops plan front e p (subst (AreJudged plan front p) none over) q.replay.rounds may_not)
 
-        up_to : take at (lines_of ((has.front ++ e ∷ []) ++ rest)) ≡ lines_of has.front
-        up_to =
-            let now = now_long in
-            let front = front_long in
-            ap (take at) split ∙ take-append-le at (lines_of has.front ++ e.line ∷ []) (lines_of rest) (omega (arith, now))
-            ∙ take-append-le at (lines_of has.front) (e.line ∷ []) (omega (arith, front)) ∙ take_all at (lines_of has.front) (omega (arith, front))
+pub not_some : (o : Option ℕ) → is_some o ≡ false → o ≡ None
+not_some None is = refl
+not_some (Some k) is = absurd cc
+
+-- ---- entries one after another
+
+-- the one at a place, and those behind it
+pub next_of : {X : Type 0} (xs : List X) (at : ℕ) (x : X) → at < length xs → get_or xs at x ≡ x → drop at xs ≡ x ∷ drop (at + 1) xs
+next_of xs at x within is =
+    let one : suc at ≡ at + 1 = omega arith in
+    drop-cons xs at x within ∙ ap (λ y. y ∷ drop (suc at) xs) is ∙ ap (λ n. x ∷ drop n xs) one
+
+all_before : (P : Entry → Type 0) (xs ys : List Entry) → All P (xs ++ ys) → All P xs
+all_before P [] ys all = All-nil P
+all_before P (x ∷ xs) ys all = All-cons P x xs (All-head P x (xs ++ ys) all) (all_before P xs ys (All-tail P x (xs ++ ys) all))
+
+all_behind : (P : Entry → Type 0) (xs ys : List Entry) → All P (xs ++ ys) → All P ys
+all_behind P [] ys all = all
+all_behind P (x ∷ xs) ys all = all_behind P xs ys (All-tail P x (xs ++ ys) all)
+
+-- of all these entries those are left to judge
+pub record IsOn (first : Pass) (all : List Entry) (p : Pass) (left : List Entry) : Type 0 where
+  pub can : CanJudge p left
+  pub so_far : (last : Pass) → Judges p left last → Judges first all last
+
+pub is_on : (p : Pass) (es : List Entry) → CanJudge p es → IsOn p es p es
+is_on p es can = record { can = can; so_far = λ last judges. judges }
+
+pub all_judged : (first p : Pass) (all left : List Entry) → IsOn first all p left → left ≡ [] → Judges first all p
+all_judged first p all left on none = on.so_far p (λ plan front over. subst (λ es. IsPassOver plan es p) (sym (append-nil front) ∙ ap (λ q. front ++ q) (sym none)) over)
+
+module _ (first p : Pass) (all left xs ys : List Entry) (on : IsOn first all p left) (is : left ≡ xs ++ ys) where
+  fit : All (Fits on.can.plan) (xs ++ ys)
+  fit = subst (All (Fits on.can.plan)) is on.can.fits
+
+  pub can_now : CanJudge p xs
+  can_now = record { plan = on.can.plan; front = on.can.front; over = on.can.over; fits = all_before (Fits on.can.plan) xs ys fit }
+
+  pub goes_on : (q : Pass) → Judges p xs q → IsOn first all q ys
+  goes_on q judges = record {
+    can = record { plan = on.can.plan; front = on.can.front ++ xs; over = judges on.can.plan on.can.front on.can.over; fits = all_behind (Fits on.can.plan) xs ys fit };
+    so_far = λ last rest. on.so_far last (λ plan front over.
+        subst (λ es. IsPassOver plan es last) (append_assoc front xs ys ∙ ap (λ q. front ++ q) (sym is)) (rest plan (front ++ xs) (judges plan front over)));
+  }
 
 -- ---- the whole text
 
-pub text_replayed : (text : List ℕ) (r : AheadView) (found number : Option ℕ) (b : BookView) → IsAheadBegun Two text r → IsTextOfWhatIsRead Two text → PassEnds r.plan r.left (Ok found) b
-    → IsLineOf r.plan found number → ReadsAs text (record { rounds = b; impossible = number })
+pub text_replayed : (text : List ℕ) (r : AheadView) (p : Pass) (number : Option ℕ) (b : BookView) → IsAheadBegun Two text r → IsTextOfWhatIsRead Two text → PassEnds r.plan r.left (Ok p)
+    → b ≡ p.replay.rounds → IsLineOf r.plan p.impossible number → ReadsAs text (record { rounds = b; impossible = number })
 unfolding IsTextOfWhatIsRead
-text_replayed text r found number b begun is ends line =
+text_replayed text r p number b begun is ends same line =
     let t : TranscriptView = record { plan = r.plan; entries = ends.0 } in
     let read : read_of Two text ≡ Ok t = begun.read ∙ ap (with_entries r.plan) ends.1 in
     let both = is t read in
-    record { transcript = t; read = read; sound = both.0; is = both.1; kept = kept t both.0 found number ends.2 line }
+    record { transcript = t; read = read; sound = both.0; is = both.1; kept = kept t both.0 p.impossible number (subst (LinesEnd t.plan (lines_of t.entries) p.impossible) (sym same) ends.2) line }
   where
     kept : (t : TranscriptView) → IsTranscript t → (found number : Option ℕ) → LinesEnd t.plan (lines_of t.entries) found b → IsLineOf t.plan found number → IsReplayOf t (record { rounds = b; impossible = number })
     kept t sound None number ends line = subst (λ n. IsReplayOf t (record { rounds = b; impossible = n })) (sym line) (all_replayed t b sound ends)

@@ -1,43 +1,54 @@
 -- The pass over the text of a transcript: each line is judged as it is read.
-use Rattle.std.specs.Prelude.{◌≡◌, ℕ, List, length, Option, Some, None, Result, Ok, Err}
+use Rattle.std.specs.Prelude.{◌≡◌, ℕ, List, ◌++◌, length, All, Option, Some, None, Result, Ok, Err}
 use Rattle.group_plan.specs.Plans.{PlanView}
-use Rattle.group_plan.specs.Tables.{PresenceView}
 use Rattle.event_schedule.specs.declared.Entry.{Entry}
 use Rattle.event_schedule.specs.Events.{lines_of}
 use Rattle.event_schedule.specs.Frames.{IsPossible}
-use Rattle.event_schedule.specs.Transcripts.{TranscriptView, IsTranscript}
+use Rattle.event_schedule.specs.Transcripts.{TranscriptView, Fits, IsTranscript}
 use Rattle.transcript_text.specs.declared.version.Version.TheVariants.{Two}
 use Rattle.transcript_text.specs.declared.fault.ReadError.{ReadError}
 use Rattle.transcript_text.specs.EntryLines.{entry_line}
 use Rattle.transcript_text.specs.Heads.{read_of}
 use Rattle.transcript_text.specs.Spelling.{transcript_text}
-use Rattle.transcript_text.specs.Reading.{Fails, before}
-use Rattle.transcript_text.specs.Ahead.{AheadView}
+use Rattle.transcript_text.specs.Reading.{Fails}
 use Rattle.group_book.specs.Books.{BookView}
+use Rattle.audit_check.specs.declared.passing.Pass.{Pass}
 use Rattle.audit_check.specs.Audits.{IsFirstImpossible}
 use Rattle.audit_check.specs.Ends.{LinesEnd, IsReplayed}
 use Rattle.audit_check.specs.Following.{IsReplay}
 
--- so many entries are read, and their lines are possible and replayed
-pub record HasRead (head : PlanView) (all : Result (List Entry) ReadError) (at : ℕ) (r : AheadView) (b : BookView) (seen : PresenceView) (sets : List (List ℕ)) : Type 0 where
-  pub front : List Entry
-  pub so_far : before front r.left ≡ all
-  pub reads : r.plan ≡ head
-  pub count : length front ≡ at
-  pub plan : b.presence.plan ≡ head
-  pub journal : b.journal ≡ lines_of front
-  pub replay : IsReplay b.presence b.journal seen sets
-  pub possible : IsPossible head.groups (lines_of front)
+-- the lines of these entries are possible and replayed
+pub record AreReplayed (plan : PlanView) (es : List Entry) (p : Pass) : Type 0 where
+  pub count : length es ≡ p.count
+  pub plan_is : p.replay.rounds.presence.plan ≡ plan
+  pub journal : p.replay.rounds.journal ≡ lines_of es
+  pub replay : IsReplay p.replay.rounds.presence p.replay.rounds.journal p.replay.seen p.replay.answered.items
+  pub possible : IsPossible plan.groups (lines_of es)
 
--- all entries that were left are read; or the fault that stands among them
-abbrev pub ReadsOn : Result (List Entry) ReadError → Result (Unit {0}) ReadError → Type 0
-ReadsOn left (Ok _) = (es : List Entry) × (left ≡ Ok es)
-ReadsOn left (Err f) = Fails f left
+-- these entries are judged: their lines are possible and replayed, or those up to one are possible and no further
+abbrev pub AreJudged : PlanView → List Entry → Pass → Option ℕ → Type 0
+AreJudged plan es p None = AreReplayed plan es p
+AreJudged plan es p (Some k) = LinesEnd plan (lines_of es) (Some k) p.replay.rounds
+
+-- the pass is over these entries
+abbrev pub IsPassOver : PlanView → List Entry → Pass → Type 0
+IsPassOver plan es p = AreJudged plan es p p.impossible
+
+-- the pass is over some entries, and these may come next
+pub record CanJudge (p : Pass) (es : List Entry) : Type 0 where
+  pub plan : PlanView
+  pub front : List Entry
+  pub over : IsPassOver plan front p
+  pub fits : All (Fits plan) es
+
+-- the pass is over these entries too
+abbrev pub Judges : Pass → List Entry → Pass → Type 0
+Judges old es new = (plan : PlanView) (front : List Entry) → IsPassOver plan front old → IsPassOver plan (front ++ es) new
 
 -- all entries that were left are read, and all their lines are possible and replayed, or those up to one are possible and no further
-abbrev pub PassEnds : PlanView → Result (List Entry) ReadError → Result (Option ℕ) ReadError → BookView → Type 0
-PassEnds plan left (Ok found) b = (es : List Entry) × (left ≡ Ok es) × LinesEnd plan (lines_of es) found b
-PassEnds plan left (Err f) b = Fails f left
+abbrev pub PassEnds : PlanView → Result (List Entry) ReadError → Result Pass ReadError → Type 0
+PassEnds plan left (Ok p) = (es : List Entry) × (left ≡ Ok es) × LinesEnd plan (lines_of es) p.impossible p.replay.rounds
+PassEnds plan left (Err f) = Fails f left
 
 -- the number of the line of an entry, where there is one
 abbrev pub IsLineOf : PlanView → Option ℕ → Option ℕ → Type 0

@@ -1,67 +1,104 @@
 //! The text of a transcript, read once: each line is judged as it is read, and not kept.
 
-ghost use Rattle.std.specs.Prelude.{◌≡◌, ◌+◌, [], IfOk, IfErr};
-ghost use Rattle.transcript_text.specs.declared.fault.ReadError.TheVariants.{Memory};
-ghost use Rattle.audit_check.specs.Following.{IsReplay};
-ghost use Rattle.audit_check.specs.Passes.{ReadsOn, PassEnds, IsLineOf, ReplayedText};
+ghost use Rattle.std.specs.Prelude.{◌≡◌, ◌+◌, ◌∷◌, [], IfOk, OnOk};
+ghost use Rattle.transcript_text.specs.Ahead.{entries_of};
+ghost use Rattle.audit_check.specs.Passes.{CanJudge, IsPassOver, Judges, PassEnds, IsLineOf, ReplayedText};
 
 use crate::auditing::Replayed;
 use crate::replay::Replay;
+use event_schedule::Entry;
 use group_plan::Plan;
-use std::alloc::Global;
+use std::alloc::{AllocError, Global};
 use std::thread::Threads;
 use transcript_text::{BYTES_A_PIECE, EntriesAhead, ReadError, Version, entry_line};
 
-// Reads what is left of a text.
-fn read_on<R: Threads + Sync>(reader: &mut EntriesAhead<R>) -> Result<(), ReadError>
-    ensures ends { ReadsOn reader.old.left result }
-    ensures plan { reader.new.plan ≡ reader.old.plan }
+/// What is kept of entries while they are judged.
+#[derive(Drop)]
+struct Pass {
+    replay: Replay,
+    /// How many lines are replayed.
+    count: u32,
+    /// The place of the first entry whose line is not possible. Nothing is replayed from there on.
+    impossible: Option<u32>,
+}
+
+// One more. Want of memory stands for more than 2^32 entries, which no text has.
+fn one_more(count: u32) -> Result<u32, AllocError>
+    ensures { IfOk result (λ more. more ≡ count + 1) }
 {
-    'entries: loop {
-        match reader.next() {
-            Ok(Some(_entry)) => {}
-            Ok(None) => return Ok(()),
-            Err(fault) => return Err(fault),
+    count.checked_add(1).ok_or(AllocError)
+}
+
+impl Pass {
+    // A pass over no entry.
+    fn new(alloc: Global, plan: &Plan) -> Result<Pass, AllocError>
+        ensures { IfOk result (IsPassOver plan.now []) }
+    {
+        let replay = Replay::new(alloc, plan)?;
+        Ok(Pass {
+            replay,
+            count: 0,
+            impossible: None,
+        })
+    }
+
+    // Judges the next entry.
+    fn entry(&mut self, entry: &Entry) -> Result<(), AllocError>
+        requires { CanJudge self.old (entry.now ∷ []) }
+        ensures { OnOk result (Judges self.old (entry.now ∷ []) self.new) }
+    {
+        if self.impossible.is_some() {
+            return Ok(());
         }
+        if self.replay.line(&entry.line)? {
+            self.count = one_more(self.count)?;
+        } else {
+            self.impossible = Some(self.count);
+        }
+        Ok(())
+    }
+
+    // Judges the next entries.
+    fn entries(&mut self, entries: &[Entry]) -> Result<(), AllocError>
+        requires { CanJudge self.old entries.now }
+        ensures { OnOk result (Judges self.old entries.now self.new) }
+    {
+        for entry in entries {
+            self.entry(entry)?;
+        }
+        Ok(())
+    }
+
+    // The pass over the next batch too.
+    fn over(mut self, batch: &[Vec<Entry>]) -> Result<Pass, AllocError>
+        requires { CanJudge self (entries_of batch.now) }
+        ensures { IfOk result (Judges self (entries_of batch.now)) }
+    {
+        for entries in batch {
+            self.entries(entries)?;
+        }
+        Ok(self)
     }
 }
 
-// The place of the entry after one. Want of memory stands for more than 2^32 entries, which no text has.
-fn next_place(at: u32) -> Result<u32, ReadError>
-    ensures next { IfOk result (λ next. next ≡ at + 1) }
-    ensures memory { IfErr result (λ fault. fault ≡ Memory) }
-{
-    match at.checked_add(1) {
-        Some(next) => Ok(next),
-        None => Err(ReadError::Memory),
-    }
-}
-
-// The first of the entries that are left to read whose line is not possible, where there is one. All are read.
-fn first_impossible<R: Threads + Sync>(
-    reader: &mut EntriesAhead<R>,
-    replay: &mut Replay,
-) -> Result<Option<u32>, ReadError>
-    requires plan { replay.old.rounds.presence.plan ≡ reader.old.plan }
-    requires journal { replay.old.rounds.journal ≡ [] }
-    requires replay { IsReplay replay.old.rounds.presence replay.old.rounds.journal replay.old.seen replay.old.answered.items }
-    ensures ends { PassEnds reader.old.plan reader.old.left result replay.new.rounds }
+// The pass over the entries that are left to read. While those of a batch are judged, the next are read.
+fn judge_all<R: Threads + Sync>(reader: &mut EntriesAhead<R>, pass: Pass) -> Result<Pass, ReadError>
+    requires { IsPassOver reader.old.plan [] pass }
+    ensures ends { PassEnds reader.old.plan reader.old.left result }
     ensures head { reader.new.plan ≡ reader.old.plan }
 {
-    let mut at = 0;
-    'entries: loop {
-        let entry = match reader.next() {
-            Ok(Some(entry)) => entry,
-            Ok(None) => return Ok(None),
+    let mut pass = pass;
+    'batches: loop {
+        let batch = match reader.next_batch() {
+            Ok(Some(batch)) => batch,
+            Ok(None) => return Ok(pass),
             Err(fault) => return Err(fault),
         };
-        if !replay.line(&entry.line)? {
-            return match read_on(reader) {
-                Ok(()) => Ok(Some(at)),
-                Err(fault) => Err(fault),
-            };
-        }
-        at = next_place(at)?;
+        let work = move || -> Result<Pass, AllocError>
+            requires { CanJudge pass (entries_of batch.items) }
+            ensures { IfOk result (Judges pass (entries_of batch.items)) }
+        { pass.over(&batch) };
+        pass = reader.read_beside(work)?;
     }
 }
 
@@ -88,11 +125,11 @@ pub fn replay_text<R: Threads + Sync>(
         Ok(reader) => reader,
         Err(fault) => return Err(fault),
     };
-    let mut replay = Replay::new(alloc, reader.plan())?;
-    let impossible = match first_impossible(&mut reader, &mut replay) {
-        Ok(impossible) => impossible,
+    let pass = Pass::new(alloc, reader.plan())?;
+    let pass = match judge_all(&mut reader, pass) {
+        Ok(pass) => pass,
         Err(fault) => return Err(fault),
     };
-    let line = line_of(reader.plan(), impossible);
-    Ok(Replayed::new(replay.rounds, line))
+    let line = line_of(reader.plan(), pass.impossible);
+    Ok(Replayed::new(pass.replay.rounds, line))
 }
