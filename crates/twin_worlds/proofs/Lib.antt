@@ -1,7 +1,6 @@
-pub mod PostedFrames
-pub mod EventSteps
-pub mod ReplayLoop
-pub mod WorldFrames
+pub mod FilledLines
+pub mod AnswerRows
+pub mod WorldWords
 pub mod CompareLemmas
 pub mod MovedLemmas
 pub mod TwinLemmas

@@ -10,6 +10,7 @@ use Rattle.event_schedule.specs.Tables.{Masks, IsMasks}
 use Rattle.event_schedule.specs.Transcript.{transcript}
 use Rattle.event_schedule.proofs.ScheduleLemmas.{after-reverse}
 use Rattle.event_schedule.specs.Transcripts.{TranscriptView}
+use Rattle.group_book.specs.Books.{BookView}
 use Rattle.ideal_masks.specs.declared.Offset.{Offset}
 use Rattle.ideal_masks.specs.Pools.{Pool}
 use Rattle.ideal_masks.specs.Offsets.{AgreeFor, offsets_for}
@@ -22,7 +23,7 @@ use Rattle.twin_worlds.specs.MovedRows.{rows_of, AreMoved}
 use Rattle.twin_worlds.specs.declared.answers.PoolTwinError.{PoolTwinError}
 use Rattle.twin_worlds.specs.declared.answers.PoolTwinError.TheVariants as pool_twin
 use Rattle.twin_worlds.specs.Twins.{IsTextOf, lines_under, IsRecord, shifted_for, SameWorldEnds, TwinEnds, PooledTwinEnds}
-use Rattle.twin_worlds.specs.Ends.{HeadEnds, LinesEnd, AgreementEnds, PooledAgreementEnds}
+use Rattle.twin_worlds.specs.Ends.{HeadEnds, LinesEnd, BookEnds, WorldBookEnds, AgreementEnds, PooledAgreementEnds}
 use Rattle.twin_worlds.proofs.MovedLemmas.{are-moved}
 
 -- ---- the stream words of keys
@@ -52,6 +53,11 @@ lines-refused m x text t (twin.NotThis line expected found tick fate) text_of pl
 lines-refused m x text t (twin.Differ cause) text_of plan_is ends = absurd ends
 lines-refused m x text t twin.Memory text_of plan_is ends = tt
 
+-- a book of the lines is one of the text
+pub world-book : (m : Masks) (x : ReadingsView) (text : List ℕ) (t : TranscriptView) (result : Result BookView TwinError) → IsTextOf t text → t.plan ≡ x.plan → BookEnds m x t result → WorldBookEnds m x text result
+world-book m x text t (Ok b) text_of plan_is ends = (t, record { text_of = text_of; plan_is = plan_is; lines_are = ends.0 }, ends.1)
+world-book m x text t (Err e) text_of plan_is ends = lines-refused m x text t e text_of plan_is ends
+
 pub world-refused : (m : Masks) (x y : ReadingsView) (text : List ℕ) (e : TwinError) → SameWorldEnds m x text (Err e) → TwinEnds m x y text (Err e)
 world-refused m x y text (twin.Transcript refusal) ends = ends
 world-refused m x y text twin.Head ends = ends
@@ -69,14 +75,14 @@ world-refused_for pool m x y text twin.Memory ends = tt
 -- ---- the second world
 
 -- the tables don't agree
-pub tables-refused : (m : Masks) (x y : ReadingsView) (text : List ℕ) (t : TranscriptView) (e : TwinError) → IsRecord m x text t → AgreementEnds x y t (Err e) → TwinEnds m x y text (Err e)
+pub tables-refused : (m : Masks) (x y : ReadingsView) (text : List ℕ) (t : TranscriptView) (e : TwinError) → IsRecord m x text t → AgreementEnds x y (events_of t.entries) (Err e) → TwinEnds m x y text (Err e)
 tables-refused m x y text t (twin.Transcript refusal) is ends = absurd ends
 tables-refused m x y text t twin.Head is ends = absurd ends
 tables-refused m x y text t (twin.NotThis line expected found tick fate) is ends = absurd ends
 tables-refused m x y text t (twin.Differ cause) is ends = (t, is, ends)
 tables-refused m x y text t twin.Memory is ends = tt
 
-pub tables-refused_for : (pool : Pool) (m : Masks) (x y : ReadingsView) (text : List ℕ) (t : TranscriptView) (e : PoolTwinError) → IsRecord m x text t → PooledAgreementEnds pool x y t (Err e) → PooledTwinEnds pool m x y text (Err e)
+pub tables-refused_for : (pool : Pool) (m : Masks) (x y : ReadingsView) (text : List ℕ) (t : TranscriptView) (e : PoolTwinError) → IsRecord m x text t → PooledAgreementEnds pool x y (events_of t.entries) (Err e) → PooledTwinEnds pool m x y text (Err e)
 tables-refused_for pool m x y text t (pool_twin.Known g r i) is ends = (t, is, ends)
 tables-refused_for pool m x y text t (pool_twin.Other (twin.Transcript refusal)) is ends = absurd ends
 tables-refused_for pool m x y text t (pool_twin.Other twin.Head) is ends = absurd ends
@@ -86,7 +92,7 @@ tables-refused_for pool m x y text t (pool_twin.Other twin.Memory) is ends = tt
 
 -- the tables agree, and these are the moved words
 pub twins-are : (pool : Pool) (m : Masks) (x y : ReadingsView) (text : List ℕ) (t : TranscriptView) (list : List Offset) (rows : List MovedRow) → IsMasks m → IsReadingTable x.plan x.table → y.plan ≡ x.plan
-    → IsRecord m x text t → PooledAgreementEnds pool x y t (Ok list) → rows ≡ rows_of m list → PooledTwinEnds pool m x y text (Ok rows)
+    → IsRecord m x text t → PooledAgreementEnds pool x y (events_of t.entries) (Ok list) → rows ≡ rows_of m list → PooledTwinEnds pool m x y text (Ok rows)
 twins-are pool m x y text t list rows small table plans record_is agreed rows_are =
     let events = events_of t.entries in
     let groups = x.plan.groups in

@@ -2,6 +2,7 @@
 use Rattle.std.specs.Prelude.{◌≡◌, ◌≢◌, ℕ, List, reverse, Result, Ok, Err, ⊤}
 use Rattle.group_plan.specs.Plans.{PlanView}
 use Rattle.group_plan.specs.Tables.{ReadingsView, reading}
+use Rattle.event_schedule.specs.declared.Event.{Event}
 use Rattle.event_schedule.specs.Events.{lines_of, events_of}
 use Rattle.event_schedule.specs.Tables.{Masks}
 use Rattle.transcript_text.specs.declared.version.Version.TheVariants.{Two}
@@ -9,16 +10,18 @@ use Rattle.transcript_text.specs.declared.fault.ReadError.TheVariants as fault
 use Rattle.event_schedule.specs.Transcripts.{TranscriptView}
 use Rattle.transcript_text.specs.EntryLines.{entry_line}
 use Rattle.transcript_text.specs.Heads.{read_of}
+use Rattle.group_book.specs.Books.{BookView}
 use Rattle.ideal_masks.specs.declared.Offset.{Offset}
 use Rattle.ideal_masks.specs.Pools.{Pool}
 use Rattle.ideal_masks.specs.Offsets.{AgreeFor, Agree}
 use Rattle.ideal_masks.specs.Order.{AreOfPlan}
 use Rattle.ideal_masks.specs.Isolation.{offsets_between_for, offsets_between}
+use Rattle.ideal_masks.specs.Replaying.{HasEvents}
 use Rattle.twin_worlds.specs.declared.answers.TwinError.{TwinError}
 use Rattle.twin_worlds.specs.declared.answers.TwinError.TheVariants as twin
 use Rattle.twin_worlds.specs.declared.answers.PoolTwinError.{PoolTwinError}
 use Rattle.twin_worlds.specs.declared.answers.PoolTwinError.TheVariants as pool_twin
-use Rattle.twin_worlds.specs.Twins.{IsTextOf, lines_under, IsFirstOther, Disagree, DisagreeFor, KnowsApart}
+use Rattle.twin_worlds.specs.Twins.{IsTextOf, lines_under, IsRecord, IsFirstOther, DisagreeAfter, DisagreeForAfter, KnowsApart, SameWorldEnds}
 
 -- the bytes are the text of a transcript, or are refused so; want of memory is free
 abbrev pub TextEnds : List ℕ → Result TranscriptView TwinError → Type 0
@@ -42,21 +45,31 @@ LinesEnd m x t (Err (twin.NotThis line expected found tick fate)) = (k : ℕ) ×
 LinesEnd m x t (Err twin.Memory) = ⊤
 LinesEnd m x t (Err _) = ⊥
 
--- the tables agree, and these are their offsets; or they don't, by this cause
-abbrev pub AgreementEnds : ReadingsView → ReadingsView → TranscriptView → Result (List Offset) TwinError → Type 0
-AgreementEnds x y t (Ok list) =
-    Agree x.plan.groups (reading x.table) (reading y.table) (reverse (events_of t.entries))
-    × (list ≡ offsets_between x.plan x.table y.table (events_of t.entries)) × AreOfPlan x.plan list
-AgreementEnds x y t (Err (twin.Differ cause)) = Disagree x y t cause
-AgreementEnds x y t (Err twin.Memory) = ⊤
-AgreementEnds x y t (Err _) = ⊥
+-- a book of the events of t, whose lines are those of x under m; or the lines end so
+abbrev pub BookEnds : Masks → ReadingsView → TranscriptView → Result BookView TwinError → Type 0
+BookEnds m x t (Ok b) = (lines_of t.entries ≡ lines_under x m t) × HasEvents x (events_of t.entries) b
+BookEnds m x t (Err e) = LinesEnd m x t (Err e)
+
+-- a book of the events of a transcript of these bytes that x gives under m; or none is answered
+abbrev pub WorldBookEnds : Masks → ReadingsView → List ℕ → Result BookView TwinError → Type 0
+WorldBookEnds m x text (Ok b) = (t : TranscriptView) × IsRecord m x text t × HasEvents x (events_of t.entries) b
+WorldBookEnds m x text (Err e) = SameWorldEnds m x text (Err e)
+
+-- after these events the tables agree, and these are their offsets; or they don't, by this cause
+abbrev pub AgreementEnds : ReadingsView → ReadingsView → List Event → Result (List Offset) TwinError → Type 0
+AgreementEnds x y events (Ok list) =
+    Agree x.plan.groups (reading x.table) (reading y.table) (reverse events)
+    × (list ≡ offsets_between x.plan x.table y.table events) × AreOfPlan x.plan list
+AgreementEnds x y events (Err (twin.Differ cause)) = DisagreeAfter x y events cause
+AgreementEnds x y events (Err twin.Memory) = ⊤
+AgreementEnds x y events (Err _) = ⊥
 
 -- the same for a pool
-abbrev pub PooledAgreementEnds : Pool → ReadingsView → ReadingsView → TranscriptView → Result (List Offset) PoolTwinError → Type 0
-PooledAgreementEnds pool x y t (Ok list) =
-    AgreeFor pool x.plan.groups (reading x.table) (reading y.table) (reverse (events_of t.entries))
-    × (list ≡ offsets_between_for pool x.plan x.table y.table (events_of t.entries)) × AreOfPlan x.plan list
-PooledAgreementEnds pool x y t (Err (pool_twin.Known g r i)) = KnowsApart pool x y g r i
-PooledAgreementEnds pool x y t (Err (pool_twin.Other (twin.Differ cause))) = DisagreeFor pool x y t cause
-PooledAgreementEnds pool x y t (Err (pool_twin.Other twin.Memory)) = ⊤
-PooledAgreementEnds pool x y t (Err _) = ⊥
+abbrev pub PooledAgreementEnds : Pool → ReadingsView → ReadingsView → List Event → Result (List Offset) PoolTwinError → Type 0
+PooledAgreementEnds pool x y events (Ok list) =
+    AgreeFor pool x.plan.groups (reading x.table) (reading y.table) (reverse events)
+    × (list ≡ offsets_between_for pool x.plan x.table y.table events) × AreOfPlan x.plan list
+PooledAgreementEnds pool x y events (Err (pool_twin.Known g r i)) = KnowsApart pool x y g r i
+PooledAgreementEnds pool x y events (Err (pool_twin.Other (twin.Differ cause))) = DisagreeForAfter pool x y events cause
+PooledAgreementEnds pool x y events (Err (pool_twin.Other twin.Memory)) = ⊤
+PooledAgreementEnds pool x y events (Err _) = ⊥

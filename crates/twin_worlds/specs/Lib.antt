@@ -1,8 +1,8 @@
 pub mod MovedRows
 pub mod MasksText
 pub mod Twins
+pub mod Answers
 pub mod Worlds
-pub mod Replaying
 pub mod Comparing
 pub mod Ends
 pub mod Statements

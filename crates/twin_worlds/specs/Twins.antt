@@ -1,6 +1,7 @@
 -- How `twin` ends: x and y are the two tables of readings, m the mask words, and t the transcript whose text is judged.
 use Rattle.std.specs.Prelude.{◌≡◌, ◌≢◌, ℕ, List, take, reverse, slice_get, Some, Result, Ok, Err, ⊤}
 use Rattle.group_plan.specs.Tables.{ReadingsView, reading}
+use Rattle.event_schedule.specs.declared.Event.{Event}
 use Rattle.event_schedule.specs.declared.Line.{Line}
 use Rattle.event_schedule.specs.Events.{lines_of, events_of}
 use Rattle.event_schedule.specs.Tables.{Masks}
@@ -76,18 +77,25 @@ pub record IsFirstOther (m : Masks) (x : ReadingsView) (t : TranscriptView) (k :
   pub other : expected ≢ found
   pub writable : IsWritable expected
 
--- the first place where one table alone has a reading, or else the first opened round with other totals: then no masks at all make the transcripts one
-pub record Disagree (x y : ReadingsView) (t : TranscriptView) (cause : Differ) : Type 0 where
+-- the first place where one table alone has a reading, or else the first round that these events open with other totals: then no masks at all make
+-- the transcripts one
+pub record DisagreeAfter (x y : ReadingsView) (events : List Event) (cause : Differ) : Type 0 where
   pub known : cause ≢ differ.Memory
-  pub ends : OffsetsEnd x y (events_of t.entries) (Err cause)
-  pub no_worlds : HasNoWorlds x y (events_of t.entries) cause
+  pub ends : OffsetsEnd x y events (Err cause)
+  pub no_worlds : HasNoWorlds x y events cause
+
+abbrev pub Disagree : ReadingsView → ReadingsView → TranscriptView → Differ → Type 0
+Disagree x y t cause = DisagreeAfter x y (events_of t.entries) cause
 
 -- the first place where one table alone has a reading; or else, where the pool knows the same readings of both, the first round open to it
 -- with other totals: then no masks at all that give the pool the same words make the transcripts one
-pub record DisagreeFor (pool : Pool) (x y : ReadingsView) (t : TranscriptView) (cause : Differ) : Type 0 where
+pub record DisagreeForAfter (pool : Pool) (x y : ReadingsView) (events : List Event) (cause : Differ) : Type 0 where
   pub known : cause ≢ differ.Memory
-  pub ends : PooledEnd pool x y (events_of t.entries) (Err (pool_differ.Other cause))
-  pub no_worlds : HasNoWorldsFor pool x y (events_of t.entries) cause
+  pub ends : PooledEnd pool x y events (Err (pool_differ.Other cause))
+  pub no_worlds : HasNoWorldsFor pool x y events cause
+
+abbrev pub DisagreeFor : Pool → ReadingsView → ReadingsView → TranscriptView → Differ → Type 0
+DisagreeFor pool x y t cause = DisagreeForAfter pool x y (events_of t.entries) cause
 
 -- the tables have the same presence, and this is the first place of a meter of the pool where they have another reading
 pub record KnowsApart (pool : Pool) (x y : ReadingsView) (g r i : ℕ) : Type 0 where

@@ -1,11 +1,11 @@
 //! Two worlds: the mask words under which other readings give a stored transcript, line by line.
 #![tactic(auto)]
 
+mod answer_words;
 mod answers;
 mod comparing;
 mod heads;
 mod moving;
-mod replay;
 mod rows;
 mod tables;
 mod twins;

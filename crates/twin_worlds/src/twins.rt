@@ -2,21 +2,23 @@
 
 ghost use Rattle.std.specs.Prelude.{◌≡◌};
 ghost use Rattle.pair_keys.specs.Keys.{table_of};
+ghost use Rattle.group_plan.specs.Tables.{presence_of};
 ghost use Rattle.mask_stream.specs.KeyStreams.{streams};
 ghost use Rattle.ideal_masks.specs.Pools.{pool_of};
-ghost use Rattle.twin_worlds.specs.Ends.{TextEnds, HeadEnds, LinesEnd, AgreementEnds, PooledAgreementEnds};
+ghost use Rattle.ideal_masks.specs.Replaying.{events_in};
+ghost use Rattle.twin_worlds.specs.Ends.{TextEnds, HeadEnds, WorldBookEnds, AgreementEnds, PooledAgreementEnds};
 ghost use Rattle.twin_worlds.specs.Twins.{SameWorldEnds, TwinEnds, PooledTwinEnds};
 
-use crate::comparing::confirm;
+use crate::comparing::book_of;
 use crate::heads::is_same_plan;
 use crate::moving::moved_rows;
 use crate::{MovedWords, PoolTwinError, ReadingTables, TwinError};
+use group_book::Book;
 use group_plan::{Plan, Readings};
-use ideal_masks::{Differ, Offsets, PoolDiffer, offsets, pooled_offsets};
+use ideal_masks::{Differ, Offsets, PoolDiffer, offsets_after, pooled_offsets_after};
 use mask_stream::{ChaMasks, Masks};
 use missing_round::MeterSet;
 use pair_keys::KeyTable;
-use plan_meters::{HiddenReadings, Known};
 use std::alloc::Global;
 use std::thread::Threads;
 use transcript_log::Transcript;
@@ -54,37 +56,37 @@ pub fn transcript_of_plan<R: Threads + Sync>(
     }
 }
 
-// The offsets between two tables that agree.
+// The offsets between two tables that agree after the events of a book.
 fn agreed_offsets(
     alloc: Global,
     first: &Readings,
     second: &Readings,
-    transcript: &Transcript,
+    book: &Book,
 ) -> Result<Offsets, TwinError>
-    requires first { first.now.plan ≡ transcript.now.plan }
-    requires second { second.now.plan ≡ transcript.now.plan }
-    ensures { AgreementEnds first.now second.now transcript.now result }
+    requires first { book.now.presence ≡ presence_of first.now }
+    requires second { second.now.plan ≡ first.now.plan }
+    ensures { AgreementEnds first.now second.now (events_in book.now) result }
 {
-    match offsets(alloc, first, second, transcript) {
+    match offsets_after(alloc, first, second, book) {
         Ok(offsets) => Ok(offsets),
         Err(Differ::Memory) => Err(TwinError::Memory),
         Err(cause) => Err(TwinError::Differ(cause)),
     }
 }
 
-// The offsets between two tables that agree for a pool.
+// The offsets between two tables that agree for a pool after the events of a book.
 fn agreed_pooled_offsets(
     alloc: Global,
     known: &[MeterSet],
     first: &Readings,
     second: &Readings,
-    transcript: &Transcript,
+    book: &Book,
 ) -> Result<Offsets, PoolTwinError>
-    requires first { first.now.plan ≡ transcript.now.plan }
-    requires second { second.now.plan ≡ transcript.now.plan }
-    ensures { PooledAgreementEnds (pool_of known.now) first.now second.now transcript.now result }
+    requires first { book.now.presence ≡ presence_of first.now }
+    requires second { second.now.plan ≡ first.now.plan }
+    ensures { PooledAgreementEnds (pool_of known.now) first.now second.now (events_in book.now) result }
 {
-    match pooled_offsets(alloc, known, first, second, transcript) {
+    match pooled_offsets_after(alloc, known, first, second, book) {
         Ok(offsets) => Ok(offsets),
         Err(
             PoolDiffer::Known {
@@ -102,26 +104,6 @@ fn agreed_pooled_offsets(
     }
 }
 
-// Whether the lines of a transcript are those that the first table gives under these masks, or else the first that isn't.
-fn confirm_under<R: Threads + Sync, M: Masks + Sync>(
-    rt: &R,
-    alloc: Global,
-    masks: &M,
-    first: &Readings,
-    transcript: &Transcript,
-) -> Result<(), TwinError>
-    requires masks { M.plan masks.now ≡ first.now.plan }
-    requires transcript { transcript.now.plan ≡ first.now.plan }
-    ensures { LinesEnd (M.table masks.now) first.now transcript.now result }
-{
-    let world = Known {
-        readings: first,
-        masks,
-        hidden: HiddenReadings::new(rt, alloc, first, masks)?,
-    };
-    confirm(alloc, &world, transcript)
-}
-
 /// The transcript of a text, where it is of this plan and the first table of readings gives it under these masks; else
 /// `Transcript`, `Head`, `NotThis` or `Memory`, the first in this order.
 pub fn same_world<R: Threads + Sync, M: Masks + Sync>(
@@ -137,8 +119,23 @@ pub fn same_world<R: Threads + Sync, M: Masks + Sync>(
     ensures { SameWorldEnds (M.table masks.now) first.now text.now result }
 {
     let transcript = transcript_of_plan(rt, alloc, plan, text)?;
-    confirm_under(rt, alloc, masks, first, &transcript)?;
+    let _book = book_of(rt, alloc, masks, first, &transcript)?;
     Ok(transcript)
+}
+
+// A book of the events of a text, where it is the text of the first table's transcript under these masks.
+fn world_book<R: Threads + Sync, M: Masks + Sync>(
+    rt: &R,
+    alloc: Global,
+    masks: &M,
+    first: &Readings,
+    text: &[u8],
+) -> Result<Book, TwinError>
+    requires { M.plan masks.now ≡ first.now.plan }
+    ensures { WorldBookEnds (M.table masks.now) first.now text.now result }
+{
+    let transcript = transcript_of_plan(rt, alloc, first.plan(), text)?;
+    book_of(rt, alloc, masks, first, &transcript)
 }
 
 /// The mask words that move so that the second table of readings gives the transcript of this text, where the first table
@@ -157,8 +154,8 @@ pub fn twin<R: Threads + Sync>(
     let first = tables.first;
     let _groups = first.plan().groups();
     let masks = ChaMasks::new(keys);
-    let transcript = same_world(rt, alloc, first.plan(), &masks, first, text)?;
-    let offsets = agreed_offsets(alloc, first, tables.second, &transcript)?;
+    let book = world_book(rt, alloc, &masks, first, text)?;
+    let offsets = agreed_offsets(alloc, first, tables.second, &book)?;
     Ok(moved_rows(alloc, &masks, &offsets)?)
 }
 
@@ -180,7 +177,7 @@ pub fn pooled_twin<R: Threads + Sync>(
     let first = tables.first;
     let _groups = first.plan().groups();
     let masks = ChaMasks::new(keys);
-    let transcript = same_world(rt, alloc, first.plan(), &masks, first, text)?;
-    let offsets = agreed_pooled_offsets(alloc, known, first, tables.second, &transcript)?;
+    let book = world_book(rt, alloc, &masks, first, text)?;
+    let offsets = agreed_pooled_offsets(alloc, known, first, tables.second, &book)?;
     Ok(moved_rows(alloc, &masks, &offsets)?)
 }
