@@ -1,6 +1,6 @@
 //! A part of a draft.
 
-ghost use Rattle.std.specs.Prelude.{◌≡◌, ◌≤◌, ◌++◌, ◌∷◌, [], OnOk, IfOk};
+ghost use Rattle.std.specs.Prelude.{◌≡◌, ◌≤◌, ◌++◌, ◌∷◌, [], OnOk};
 ghost use Rattle.event_schedule.specs.Events.{lines_of};
 ghost use Rattle.event_schedule.specs.Transcripts.{last_tick_from, Fits};
 ghost use Rattle.transcript_log.specs.Lines.{HasOwnTag};
@@ -34,16 +34,6 @@ const AGAIN: Line = Line::Take {
     verdict: Verdict::Again,
 };
 
-// The fate of a line that has no copies.
-fn no_copies() -> Result<Fate, Fail>
-    ensures { IfOk result (λ fate. fate ≡ []) }
-{
-    match Fate::new(&[]) {
-        Ok(fate) => Ok(fate),
-        Err(_) => Err(Fail::new("no fate")),
-    }
-}
-
 // Adds an entry to a draft of this plan and to the journal of its lines.
 fn add(plan: &Plan, draft: &mut Draft, journal: &mut Lines, entry: Entry) -> Result<(), AllocError>
     requires plan { draft.old.plan ≡ plan.now }
@@ -70,7 +60,7 @@ fn fill(plan: &Plan, draft: &mut Draft, journal: &mut Lines) -> Result<(), Fail>
     if !plan.holds(TAG) {
         return Err(Fail::new("another plan"));
     }
-    let fate = no_copies()?;
+    let fate = Fate::lost();
     let first = Entry {
         tick: 7,
         fate,

@@ -238,7 +238,7 @@ fn check_late_text(rt: &impl Abort, alloc: Global, fate: Fate) -> Result<(), Fai
 
 #[test]
 fn entry_pushed(rt: HostRuntime) -> Result<(), Fail> {
-    let fate = Fate::new(&[]).ok().ok_or("no fate")?;
+    let fate = Fate::lost();
     check_late_line(&rt, rt.alloc(), fate)?;
     check_late_text(&rt, rt.alloc(), fate)
 }

@@ -6,8 +6,8 @@ use crate::Fate;
 
 // Fates that need no test.
 impl Fate {
-    // No copy.
-    pub(crate) fn lost() -> Fate
+    /// The fate of a frame that is lost, and of a line that is no Send: no copy.
+    pub fn lost() -> Fate
         ensures { result ≡ [] }
     {
         Fate {

@@ -40,16 +40,6 @@ impl Model for Draft {
     ghost invariant = { λ d. IsDrafted d.plan d.stamps d.lines.value.items };
 }
 
-/// The fate of a line that is no Send.
-fn no_copies() -> Fate
-    ensures { result ≡ [] }
-{
-    match Fate::new(&[]) {
-        Ok(fate) => fate,
-        Err(_) => unreachable!(),
-    }
-}
-
 /// Adds a stamp until there are so many. `AllocError` also where 2^32 or more are added, since a stretch counts fewer.
 fn add_stamps(stamps: &mut Stretches, count: usize, stamp: Stamp) -> Result<(), AllocError>
     requires { length stamps.old ≤ count }
@@ -105,7 +95,7 @@ impl Draft {
     {
         journal.are_lines();
         tick_is(tick);
-        let fate = no_copies();
+        let fate = Fate::lost();
         fate_is(fate);
         add_stamps(&mut self.stamps, journal.len(), Stamp { tick, fate })?;
         self.lines = Snapshot::of(journal);

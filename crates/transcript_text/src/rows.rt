@@ -68,16 +68,6 @@ fn tag(plan: &Plan, fields: &Fields) -> Result<Tag, RowFault>
     })
 }
 
-/// The fate of a line without copies.
-pub(crate) fn no_fate() -> Fate
-    ensures { result ≡ [] }
-{
-    match Fate::new(&[]) {
-        Ok(fate) => fate,
-        Err(_) => unreachable!(),
-    }
-}
-
 /// The entry of a Send line.
 #[tactic(auto, unfolding(crate::specs::Reading::send_of))]
 fn send(version: Version, plan: &Plan, last: u32, fields: &Fields) -> Result<Entry, RowFault>
@@ -107,7 +97,7 @@ fn take(plan: &Plan, last: u32, fields: &Fields) -> Result<Entry, RowFault>
     let verdict = verdict(fields.get(6)).ok_or(RowFault::Field(7))?;
     Ok(Entry {
         tick,
-        fate: no_fate(),
+        fate: Fate::lost(),
         line: Line::Take { tag, verdict },
     })
 }
@@ -124,7 +114,7 @@ fn close(plan: &Plan, last: u32, fields: &Fields) -> Result<Entry, RowFault>
     let closing = closing(plan.meters(group), fields.get(4), fields.get(5))?;
     Ok(Entry {
         tick,
-        fate: no_fate(),
+        fate: Fate::lost(),
         line: Line::Close {
             group,
             round,
@@ -145,7 +135,7 @@ fn end(plan: &Plan, last: u32, fields: &Fields) -> Result<Entry, RowFault>
     let ending = ending(plan.meters(group), fields.get(4), fields.get(5))?;
     Ok(Entry {
         tick,
-        fate: no_fate(),
+        fate: Fate::lost(),
         line: Line::End {
             group,
             round,

@@ -7,12 +7,11 @@ ghost use Rattle.event_schedule.specs.Transcripts.{HasPlace};
 ghost use Rattle.transcript_text.specs.Spelling.{kind_text, verdict_text, tag_fields};
 ghost use Rattle.transcript_text.specs.Written.{ahead_of, IsWritten};
 
-use crate::rows::no_fate;
 use crate::{Version, fields};
 use event_schedule::{Entry, Line};
 use field_texts::cut;
 use group_plan::{Kind, Plan, Tag};
-use link_lanes::read_fate;
+use link_lanes::{Fate, read_fate};
 use round_machine::Verdict;
 
 /// The number below 10 that a byte is the digit of.
@@ -135,7 +134,7 @@ fn take(version: Version, plan: &Plan, tick: u32, text: &[u8]) -> Option<Entry>
     let verdict = verdict(text)?;
     Some(Entry {
         tick,
-        fate: no_fate(),
+        fate: Fate::lost(),
         line: Line::Take { tag, verdict },
     })
 }

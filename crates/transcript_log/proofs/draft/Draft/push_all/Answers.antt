@@ -16,14 +16,14 @@ added : (c : goal.After-drop-self-inside) → c.add_stamps.new.stamps
     ≡ c.self.inside.stamps ++ replicate (length c.args.journal.now.items - length c.self.inside.stamps) (record { tick = c.args.tick; fate = [] })
 added c =
     c.in_ok-add_stamps.ensures.ok
-    ∙ ap (λ n. c.self.inside.stamps ++ replicate (n - length c.self.inside.stamps) (record { tick = c.args.tick; fate = c.no_copies-fate.result })) c.len.ensures.len
-    ∙ ap (λ (fate : List ℕ). c.self.inside.stamps ++ replicate (length c.args.journal.now.items - length c.self.inside.stamps) (record { tick = c.args.tick; fate = fate })) c.no_copies-fate.ensures
+    ∙ ap (λ n. c.self.inside.stamps ++ replicate (n - length c.self.inside.stamps) (record { tick = c.args.tick; fate = c.lost-fate.result })) c.len.ensures.len
+    ∙ ap (λ (fate : List ℕ). c.self.inside.stamps ++ replicate (length c.args.journal.now.items - length c.self.inside.stamps) (record { tick = c.args.tick; fate = fate })) c.lost-fate.ensures
 
 pub invariant_of-self-2 : goal.invariant_of-self-2
 invariant_of-self-2 c =
     subst (λ (j : LinesView). IsDrafted c.self.inside.plan c.add_stamps.new.stamps j.items) (sym c.of.ensures)
     (all_drafted c.self.inside.plan c.self.inside.stamps c.add_stamps.new.stamps c.self.inside.lines.value.items c.args.journal.now.items c.args.self.now c.args.tick c.self.view_is c.self.invariant c.requires.before (added c)
-    c.requires.fits c.are_lines.ensures c.tick_is.ensures (subst IsFate c.no_copies-fate.ensures c.fate_is.ensures) c.requires.tick)
+    c.requires.fits c.are_lines.ensures c.tick_is.ensures (subst IsFate c.lost-fate.ensures c.fate_is.ensures) c.requires.tick)
 
 pub returns-clause-ok : goal.returns-clause-ok
 returns-clause-ok c =
