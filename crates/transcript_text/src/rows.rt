@@ -1,5 +1,5 @@
 //! The lines after the head.
-ghost use Rattle.std.specs.Prelude.{◌≡◌, []};
+ghost use Rattle.std.specs.Prelude.{◌≡◌};
 ghost use Rattle.std.specs.Option.{ok_or, option_map};
 ghost use Rattle.group_plan.specs.Plans.{size};
 ghost use Rattle.field_texts.specs.Numbers.{number_of};
