@@ -79,14 +79,27 @@ member,0,1,0,1
 """
 
 
-def pick_span(draw, length):
-    start = draw.randrange(length + 1)
-    return start, min(length, start + draw.choice((1, 1, 2, 5, 40)))
+# A text behind its head is read in pieces of so many bytes, which are cut at the ends of lines.
+PIECE = 64 * 1024
+
+
+def pick_place(draw, data):
+    """A place in the bytes: in a text of several pieces mostly one near a cut."""
+    begin = data.find(b"begin\n") + len(b"begin\n")
+    cuts = range(begin + PIECE, len(data), PIECE)
+    if begin < len(b"begin\n") or not cuts or draw.random() < 0.25:
+        return draw.randrange(len(data) + 1)
+    return min(len(data), draw.choice(cuts) + draw.randrange(-300, 300))
+
+
+def pick_span(draw, data):
+    start = pick_place(draw, data)
+    return start, min(len(data), start + draw.choice((1, 1, 2, 5, 40)))
 
 
 def changed_bytes(draw, data):
     """The bytes with one small change."""
-    start, stop = pick_span(draw, len(data))
+    start, stop = pick_span(draw, data)
     some = data[start:stop]
     return draw.choice((
         lambda: data[:start] + bytes(byte ^ 1 << draw.randrange(8) for byte in some) + data[stop:],
@@ -119,7 +132,7 @@ def changed_field(draw, line):
 def changed_lines(draw, data):
     """The bytes with one line changed, gone, doubled or moved."""
     lines = data.split(b"\n")
-    at = draw.randrange(len(lines))
+    at = draw.randrange(len(lines)) if len(data) < PIECE else data.count(b"\n", 0, pick_place(draw, data))
     what = draw.randrange(8)
     if what < 5:
         lines[at] = changed_field(draw, lines[at])
@@ -297,7 +310,7 @@ def one_case(draw, known, sets, room):
     """Writes the files of a case, and gives its command, words and statuses."""
     command, statuses = draw.choice(known)
     # A small example is as good as the large one for most changes, and much faster.
-    files = sets[draw.choice((0, 0, 0, 1, 2, 2, 2, 2))]
+    files = sets[draw.choice((0, 0, 0, 1, 1, 2, 2, 2))]
     read = names_in(command, "<+")
     files = {name: files[name] for name in read}
     words = words_of(command)
