@@ -3,17 +3,17 @@ use Rattle.std.proofs.Common.{◌≡◌, ◌∙◌, ◌<◌, ◌≤◌, ◌+◌,
 use Rattle.std.proofs.lemmas.Bool.Decides.{nat_tests}
 use Rattle.std.specs.List.{find, flat_map, range_with_len}
 use Rattle.group_plan.specs.declared.plan.members.Span.{Span}
-use Rattle.plan_files.specs.declared.fault.FileError.{FileError}
+use Rattle.plan_files.specs.declared.fault.FileFault.{FileFault}
 use Rattle.meter_files.specs.PartFiles.{Gathered, OwnerView, gather, spans_of, take_entry}
 use Rattle.meter_files.specs.declared.part_row.PartEntry.{PartEntry}
 use Rattle.meter_files.specs.declared.part_row.PartEntry.TheVariants.{Own, Pair, Member}
 use Rattle.meter_files.proofs.PartRowsRead.{one_unless}
 
 -- these entries add up to this, wherever the row of the first of them is
-abbrev pub Gives : OwnerView → Gathered → List PartEntry → Result Gathered FileError → Type 0
+abbrev pub Gives : OwnerView → Gathered → List PartEntry → Result Gathered FileFault → Type 0
 Gives owner before entries value = (n : ℕ) → gather owner None n before entries ≡ value
 
-pub own_gives : (owner : OwnerView) (pairs : List (Option (List ℕ))) (key : List ℕ) (entries : List PartEntry) (value : Result Gathered FileError)
+pub own_gives : (owner : OwnerView) (pairs : List (Option (List ℕ))) (key : List ℕ) (entries : List PartEntry) (value : Result Gathered FileFault)
     → Gives owner (record { own = Some key; pairs = pairs; members = 0 }) entries value → Gives owner (record { own = None; pairs = pairs; members = 0 }) (Own key ∷ entries) value
 unfolding gather take_entry
 own_gives owner pairs key entries value more n = more (n + 1)
@@ -45,7 +45,7 @@ abbrev pub pair_entry : (ℕ → List ℕ) → ℕ → PartEntry
 pair_entry key j = Pair j (key j)
 
 -- one pair more
-pair_gives : (owner : OwnerView) (own : Option (List ℕ)) (members a : ℕ) (key : List ℕ) (front rest : List (Option (List ℕ))) (entries : List PartEntry) (value : Result Gathered FileError)
+pair_gives : (owner : OwnerView) (own : Option (List ℕ)) (members a : ℕ) (key : List ℕ) (front rest : List (Option (List ℕ))) (entries : List PartEntry) (value : Result Gathered FileFault)
     → length front ≡ a → (a == owner.meter) ≡ false → a < owner.meters
     → Gives owner (record { own = own; pairs = front ++ Some key ∷ rest; members = members }) entries value
     → Gives owner (record { own = own; pairs = front ++ None ∷ rest; members = members }) (Pair a key ∷ entries) value
@@ -54,7 +54,7 @@ pair_gives owner own members a key front rest entries value long other within mo
     let inside : nat_lt a owner.meters ≡ true = grind (arith, nat_tests, within) in
     rw (other, inside, there front rest None a long, set_there front rest None (Some key) a long) (more (n + 1))
 
-pub pairs_give : (owner : OwnerView) (own : Option (List ℕ)) (members : ℕ) (key : ℕ → List ℕ) (more : List PartEntry) (value : Result Gathered FileError) (front : List (Option (List ℕ))) (a k : ℕ)
+pub pairs_give : (owner : OwnerView) (own : Option (List ℕ)) (members : ℕ) (key : ℕ → List ℕ) (more : List PartEntry) (value : Result Gathered FileFault) (front : List (Option (List ℕ))) (a k : ℕ)
     → length front ≡ a → a + k ≤ owner.meters
     → Gives owner (record { own = own; pairs = front ++ map (kept_pair (λ j. j == owner.meter) key) (range_with_len a k); members = members }) more value
     → Gives owner (record { own = own; pairs = front ++ replicate k None; members = members }) (flat_map (one_unless (λ j. j == owner.meter) (pair_entry key)) (range_with_len a k) ++ more) value

@@ -1,5 +1,5 @@
 -- The rows of a meter file, taken in turn.
-use Rattle.std.proofs.Common.{◌≡◌, ◌<◌, ◌≤◌, ◌+◌, ◌-◌, nat_lt, ℕ, zero, suc, true, false, List, [], ◌∷◌, ◌++◌, length, drop, Option, Some, None, Result, Ok, Err, IfOk, IfErr, refl, sym, ap, arith, append_assoc, append-nil, ◌∙◌, subst}
+use Rattle.std.proofs.Common.{◌≡◌, ◌<◌, ◌≤◌, ◌+◌, ◌-◌, nat_lt, ℕ, zero, suc, true, false, List, [], ◌∷◌, ◌++◌, length, drop, Option, Some, None, Result, Ok, Err, refl, sym, ap, arith, append_assoc, append-nil, ◌∙◌}
 use Rattle.std.proofs.lemmas.Bool.{lt-ltb}
 use Rattle.std.proofs.lemmas.Bool.Decides.{nat_tests}
 use Rattle.std.specs.List.{find, range_with_len}
@@ -11,25 +11,26 @@ use Rattle.group_plan.specs.declared.plan.Plan.{Plan}
 use Rattle.group_plan.specs.declared.plan.PlanError.TheVariants.{TooManyGroups}
 use Rattle.group_plan.specs.declared.plan.members.Span.{Span}
 use Rattle.group_plan.specs.declared.plan.members.SpanError.{SpanError}
-use Rattle.plan_files.specs.Faults.{◌>>=◌, ButMemory, in_row}
+use Rattle.plan_files.specs.Faults.{◌>>=◌, Ends, Fails, in_row}
 use Rattle.plan_files.specs.Gathering.{Settles, settled}
 use Rattle.plan_files.specs.PlanFiles.{stated_plan}
 use Rattle.plan_files.specs.PlanForms.{after, first_due}
 use Rattle.plan_files.specs.PlanRows.{rounds_row}
+use Rattle.plan_files.specs.declared.fault.Failed.{Failed}
 use Rattle.plan_files.specs.declared.fault.FileCause.TheVariants as cause
 use Rattle.plan_files.specs.declared.head.PlanHead.{PlanHead}
 use Rattle.plan_files.specs.declared.fault.FileCause.{FileCause}
-use Rattle.plan_files.specs.declared.fault.FileError.{FileError}
+use Rattle.plan_files.specs.declared.fault.FileFault.{FileFault}
+use Rattle.plan_files.proofs.FormLemmas.{fails_too}
 use Rattle.meter_files.specs.PartRows.{entries_from, entry_in, head_of, home_in, self_in, title_in}
-use Rattle.meter_files.specs.PartFiles.{Gathered, MeterFileView, OwnerView, PartEnds, StatesHome, completed, filled_in, gather, lacks, missing_pair, nothing, spans_of, stated_home, take_entry, with_entries}
+use Rattle.meter_files.specs.PartFiles.{Gathered, OwnerView, completed, filled_in, gather, lacks, missing_pair, nothing, spans_of, stated_home, take_entry, with_entries}
 use Rattle.meter_files.specs.Spelling.{pair_of}
-use Rattle.meter_files.specs.declared.part_file.MeterFile.{MeterFile}
 use Rattle.meter_files.specs.declared.part_row.HomeGroup.{HomeGroup}
 use Rattle.meter_files.specs.declared.part_row.PartEntry.{PartEntry}
 
 -- ---- the form
 
-after_one : {A : Type 0} (xs : List A) (x : A) (rest : Result (List A) FileError)
+after_one : {A : Type 0} (xs : List A) (x : A) (rest : Result (List A) FileFault)
     → after xs (rest >>= (λ more. Ok (x ∷ more))) ≡ after (xs ++ x ∷ []) rest
 after_one xs x (Ok more) = ap Ok (sym (append_assoc xs (x ∷ []) more))
 after_one xs x (Err fault) = refl
@@ -77,21 +78,21 @@ gather_end owner fault n before (e ∷ es) none = absurd (omega arith)
 
 -- ---- the first rows
 
-pub no_title : (rows : List (List (List ℕ))) (error : FileError) → Err error ≡ first_due title_in 1 rows → head_of rows ≡ Err error
+pub no_title : (rows : List (List (List ℕ))) (error : FileFault) → Err error ≡ first_due title_in 1 rows → head_of rows ≡ Err error
 unfolding head_of
 no_title rows error wrong = rw (← wrong) refl
 
-pub no_rounds : (rows second : List (List (List ℕ))) (error : FileError) → Ok tt ≡ first_due title_in 1 rows → second ≡ drop 1 rows
+pub no_rounds : (rows second : List (List (List ℕ))) (error : FileFault) → Ok tt ≡ first_due title_in 1 rows → second ≡ drop 1 rows
     → Err error ≡ first_due rounds_row 2 second → head_of rows ≡ Err error
 unfolding head_of
 no_rounds rows second error title is wrong = rw (← title, ← is, ← wrong) refl
 
-pub no_home : (rows second third : List (List (List ℕ))) (rounds : ℕ) (error : FileError) → Ok tt ≡ first_due title_in 1 rows → second ≡ drop 1 rows
+pub no_home : (rows second third : List (List (List ℕ))) (rounds : ℕ) (error : FileFault) → Ok tt ≡ first_due title_in 1 rows → second ≡ drop 1 rows
     → Ok rounds ≡ first_due rounds_row 2 second → third ≡ drop 1 second → Err error ≡ first_due home_in 3 third → head_of rows ≡ Err error
 unfolding head_of
 no_home rows second third rounds error title is read next wrong = rw (← title, ← is, ← read, ← next, ← wrong) refl
 
-pub no_self : (rows second third fourth : List (List (List ℕ))) (rounds : ℕ) (home : HomeGroup) (error : FileError) → Ok tt ≡ first_due title_in 1 rows → second ≡ drop 1 rows
+pub no_self : (rows second third fourth : List (List (List ℕ))) (rounds : ℕ) (home : HomeGroup) (error : FileFault) → Ok tt ≡ first_due title_in 1 rows → second ≡ drop 1 rows
     → Ok rounds ≡ first_due rounds_row 2 second → third ≡ drop 1 second → Ok home ≡ first_due home_in 3 third → fourth ≡ drop 1 third
     → Err error ≡ first_due self_in 4 fourth → head_of rows ≡ Err error
 unfolding head_of
@@ -116,12 +117,10 @@ too_many rounds n home many is = rw (lt-ltb 255 home.number many, is) refl
 abbrev pub alone : ℕ → PlanHead
 alone rounds = record { rounds = rounds; windows = record { reading = 1; recovery = 2 } }
 
-pub is_stated : (rounds : ℕ) (home : HomeGroup) (r : Result Plan FileError) → home.number ≤ 255
-    → IfOk r (λ plan. stated_plan (alone rounds) (home.group ∷ []) ≡ Ok plan) → IfErr r (λ error. ButMemory error.cause (stated_plan (alone rounds) (home.group ∷ []) ≡ Err error))
-    → StatesHome rounds home r
+pub is_stated : (rounds : ℕ) (home : HomeGroup) (r : Result Plan (Failed FileFault)) → home.number ≤ 255 → Ends (stated_plan (alone rounds) (home.group ∷ [])) r
+    → Ends (stated_home rounds home) r
 unfolding stated_home
-is_stated rounds home (Ok plan) few made refused = rw (within 255 home.number few) made
-is_stated rounds home (Err error) few made refused = rw (within 255 home.number few) refused
+is_stated rounds home r few ends = rw (within 255 home.number few) ends
 
 -- ---- what is missing
 
@@ -160,8 +159,14 @@ filled home new owner fault entries spans less is settles =
     (ap (λ (s : List Span). filled_in (settled home s) owner (span_fault home s) entries) (sym is)
     ∙ (ap (λ (p : PlanView). filled_in p owner (span_fault home spans) entries) (sym settles.plan) ∙ ap (λ (f : Option SpanError). filled_in new owner f entries) (sym settles.faulty)))
 
-pub good_entries : (home new : PlanView) (owner : OwnerView) (fault : Option SpanError) (entries : List PartEntry) (spans : List Span) (gathered : Gathered) (r : Result MeterFile FileError)
-    → owner.meter < owner.meters → spans ≡ spans_of entries → Settles home spans new fault
-    → gather owner fault 5 (nothing owner.meters) entries ≡ Ok gathered → PartEnds (completed new owner gathered) r → PartEnds (with_entries home owner entries) r
-good_entries home new owner fault entries spans gathered r less is settles right ends =
-    subst (λ (v : Result MeterFileView FileError). PartEnds v r) (sym (filled home new owner fault entries spans less is settles ∙ ap (λ (g : Result Gathered FileError). g >>= completed new owner) right)) ends
+pub good_entries : (home new : PlanView) (owner : OwnerView) (fault : Option SpanError) (entries : List PartEntry) (spans : List Span) (gathered : Gathered) → owner.meter < owner.meters → spans ≡ spans_of entries
+    → Settles home spans new fault → gather owner fault 5 (nothing owner.meters) entries ≡ Ok gathered → with_entries home owner entries ≡ completed new owner gathered
+good_entries home new owner fault entries spans gathered less is settles right =
+    filled home new owner fault entries spans less is settles ∙ ap (λ (g : Result Gathered FileFault). g >>= completed new owner) right
+
+pub bad_entries : (home new : PlanView) (owner : OwnerView) (fault : Option SpanError) (entries : List PartEntry) (spans : List Span) (failed : Failed FileFault) → owner.meter < owner.meters → spans ≡ spans_of entries
+    → Settles home spans new fault → Fails (gather owner fault 5 (nothing owner.meters) entries) failed → Fails (with_entries home owner entries) failed
+bad_entries home new owner fault entries spans failed less is settles wrong =
+    fails_too (gather owner fault 5 (nothing owner.meters) entries) (with_entries home owner entries) failed
+    (λ first (w : gather owner fault 5 (nothing owner.meters) entries ≡ Err first).
+    filled home new owner fault entries spans less is settles ∙ ap (λ (g : Result Gathered FileFault). g >>= completed new owner) w) wrong

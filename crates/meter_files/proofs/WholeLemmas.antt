@@ -13,11 +13,12 @@ use Rattle.group_plan.specs.declared.plan.members.Span.{Span}
 use Rattle.group_plan.specs.declared.plan.members.SpanError.{SpanError}
 use Rattle.group_plan.proofs.WithSpans.{length-with, size-with}
 use Rattle.pair_keys.specs.declared.KeyId.{KeyId}
-use Rattle.plan_files.specs.Faults.{◌>>=◌, in_row, plan_cause, unless}
+use Rattle.plan_files.specs.Faults.{◌>>=◌, in_row, unless}
 use Rattle.plan_files.specs.Gathering.{settled, settled_by}
 use Rattle.plan_files.specs.PlanFiles.{stated_plan}
+use Rattle.plan_files.specs.declared.fault.Failed.{Failed}
 use Rattle.plan_files.specs.declared.fault.FileCause.TheVariants as cause
-use Rattle.plan_files.specs.declared.fault.FileError.{FileError}
+use Rattle.plan_files.specs.declared.fault.FileFault.{FileFault}
 use Rattle.meter_files.specs.PartRows.{behind, entries_from, head_of}
 use Rattle.meter_files.specs.PartFiles.{MeterFileView, OwnerView, PartEnds, completed, completed_by, filled_in, gather, missing_pair, nothing, owner_of, part_from, spans_of, stated_home, unless_missing, view_of, with_entries}
 use Rattle.meter_files.specs.Whole.{IsWhole, owner_in}
@@ -27,12 +28,12 @@ use Rattle.meter_files.specs.declared.part_row.PartEntry.{PartEntry}
 
 -- ---- a step after one that went well
 
-record Went {A B : Type 0} (first : Result A FileError) (next : A → Result B FileError) (value : B) : Type 0 where
+record Went {A B : Type 0} (first : Result A FileFault) (next : A → Result B FileFault) (value : B) : Type 0 where
   before : A
   first_is : first ≡ Ok before
   next_is : next before ≡ Ok value
 
-went : {A B : Type 0} (first : Result A FileError) (next : A → Result B FileError) (value : B) → (first >>= next) ≡ Ok value → Went first next value
+went : {A B : Type 0} (first : Result A FileFault) (next : A → Result B FileFault) (value : B) → (first >>= next) ≡ Ok value → Went first next value
 went (Ok before) next value is = record { before = before; first_is = refl; next_is = is }
 went (Err fault) next value is = absurd cc
 
@@ -45,7 +46,7 @@ settled_long home spans = by (span_fault home spans)
     by None = (length-with home spans, size-with home spans 0)
     by (Some fault) = (refl, refl)
 
-unless_one : (fault : Option FileError) (plan home : PlanView) → length plan.groups ≡ 1 → unless fault plan ≡ Ok home → length home.groups ≡ 1
+unless_one : (fault : Option FileFault) (plan home : PlanView) → length plan.groups ≡ 1 → unless fault plan ≡ Ok home → length home.groups ≡ 1
 unless_one None plan home one is = let same : plan ≡ home = cc in ap (λ (p : PlanView). length p.groups) (sym same) ∙ one
 unless_one (Some fault) plan home one is = absurd cc
 
@@ -53,9 +54,9 @@ stated_one : (rounds : ℕ) (group : HomeGroup) (home : PlanView) → stated_hom
 unfolding stated_home stated_plan
 stated_one rounds group home is = by (nat_lt 255 group.number) (in_row 0 (cause.Plan (TooManyGroups (group.number + 1)))) is
   where
-    by : (b : Bool) (fault : FileError) → (if b then Err fault else stated_plan (record { rounds = rounds; windows = record { reading = 1; recovery = 2 } }) (group.group ∷ [])) ≡ Ok home → length home.groups ≡ 1
+    by : (b : Bool) (fault : FileFault) → (if b then Err fault else stated_plan (record { rounds = rounds; windows = record { reading = 1; recovery = 2 } }) (group.group ∷ [])) ≡ Ok home → length home.groups ≡ 1
     by true fault is = absurd cc
-    by false fault is = unless_one (option_map (λ e. in_row 0 (plan_cause e)) (first_fault (group.group ∷ []) rounds 1 2)) (new.plan_of (group.group ∷ []) rounds 1 2) home refl is
+    by false fault is = unless_one (option_map (λ e. in_row 0 (cause.Plan e)) (first_fault (group.group ∷ []) rounds 1 2)) (new.plan_of (group.group ∷ []) rounds 1 2) home refl is
 
 -- ---- the file
 
@@ -98,7 +99,7 @@ entries_whole : (home : PlanView) (owner : OwnerView) (entries : List PartEntry)
 unfolding with_entries
 entries_whole home owner entries file one meters is = by (nat_lt owner.meter owner.meters) (in_row 4 (cause.Key Range)) refl is
   where
-    by : (b : Bool) (fault : FileError) → nat_lt owner.meter owner.meters ≡ b → (if b then filled_in (settled home (spans_of entries)) owner (span_fault home (spans_of entries)) entries else Err fault) ≡ Ok file → IsWhole file
+    by : (b : Bool) (fault : FileFault) → nat_lt owner.meter owner.meters ≡ b → (if b then filled_in (settled home (spans_of entries)) owner (span_fault home (spans_of entries)) entries else Err fault) ≡ Ok file → IsWhole file
     by true fault inside is =
         let made = went (gather owner (span_fault home (spans_of entries)) 5 (nothing owner.meters) entries) (completed (settled home (spans_of entries)) owner) file is in
         whole home (spans_of entries) owner file one meters (ltb-true owner.meter owner.meters inside)
@@ -113,6 +114,6 @@ rows_whole rows file is =
     let home = went (stated_home head.before.rounds head.before.home) _ file entries.next_is in
     entries_whole home.before (owner_of head.before (size home.before.groups 0)) entries.before file (stated_one head.before.rounds head.before.home home.before home.first_is) refl home.next_is
 
-pub ends_whole : (rows : List (List (List ℕ))) (r : Result MeterFile FileError) → PartEnds (part_from rows) r → IfOk r (λ file. IsWhole (view_of file))
+pub ends_whole : (rows : List (List (List ℕ))) (r : Result MeterFile (Failed FileFault)) → PartEnds (part_from rows) r → IfOk r (λ file. IsWhole (view_of file))
 ends_whole rows (Ok file) ends = rows_whole rows (view_of file) ends
 ends_whole rows (Err fault) ends = tt

@@ -10,14 +10,14 @@ use Rattle.group_plan.specs.declared.plan.members.SpanError.{SpanError}
 use Rattle.pair_keys.specs.declared.KeyError.TheVariants as of_key
 use Rattle.pair_keys.specs.declared.KeyId.{KeyId}
 use Rattle.pair_keys.specs.declared.KeyId.TheVariants as id
-use Rattle.plan_files.specs.Faults.{◌>>=◌, ButMemory, at_row, in_row}
+use Rattle.plan_files.specs.Faults.{◌>>=◌, Fails, at_row, in_row}
 use Rattle.plan_files.specs.Gathering.{member_fault, settled}
 use Rattle.plan_files.specs.PlanFiles.{stated_plan}
 use Rattle.plan_files.specs.Rows.{file_rows}
+use Rattle.plan_files.specs.declared.fault.Failed.{Failed}
 use Rattle.plan_files.specs.declared.fault.FileCause.{FileCause}
 use Rattle.plan_files.specs.declared.fault.FileCause.TheVariants as cause
-use Rattle.plan_files.specs.declared.fault.FileError.{FileError}
-use Rattle.group_plan.specs.declared.plan.Plan.{Plan}
+use Rattle.plan_files.specs.declared.fault.FileFault.{FileFault}
 use Rattle.meter_files.specs.PartRows.{PartHead, behind, entries_from, head_of}
 use Rattle.meter_files.specs.Spelling.{pair_of}
 use Rattle.meter_files.specs.declared.part_file.MeterFile.{MeterFile}
@@ -39,7 +39,7 @@ pub record MeterFileView : Type 0 where
 -- ---- the plan
 
 -- the plan of the group alone, with the least windows, which mean nothing; a group's number is below 256
-unfoldable pub stated_home : ℕ → HomeGroup → Result PlanView FileError
+unfoldable pub stated_home : ℕ → HomeGroup → Result PlanView FileFault
 stated_home rounds home =
     if nat_lt 255 home.number then Err (in_row 0 (cause.Plan (of_plan.TooManyGroups (home.number + 1))))
     else stated_plan (record { rounds = rounds; windows = record { reading = 1; recovery = 2 } }) (home.group ∷ [])
@@ -90,7 +90,7 @@ take_entry owner fault before (Pair j key) = put_pair owner before j key
 take_entry owner fault before (Member span) = put_member fault before
 
 -- all these rows more, of which the first is row n of the file, up to the first that is refused
-unfoldable pub gather : OwnerView → Option SpanError → ℕ → Gathered → List PartEntry → Result Gathered FileError
+unfoldable pub gather : OwnerView → Option SpanError → ℕ → Gathered → List PartEntry → Result Gathered FileFault
 gather owner fault n before [] = Ok before
 gather owner fault n before (entry ∷ entries) = do
   more ← at_row n (take_entry owner fault before entry)
@@ -112,16 +112,16 @@ spans_of (Member span ∷ entries) = span ∷ spans_of entries
 spans_of (Own key ∷ entries) = spans_of entries
 spans_of (Pair j key ∷ entries) = spans_of entries
 
-abbrev pub unless_missing : PlanView → OwnerView → List ℕ → List (Option (List ℕ)) → Option KeyId → Result MeterFileView FileError
+abbrev pub unless_missing : PlanView → OwnerView → List ℕ → List (Option (List ℕ)) → Option KeyId → Result MeterFileView FileFault
 unless_missing home owner own pairs (Some which) = Err (in_row 0 (cause.Key (of_key.Missing which)))
 unless_missing home owner own pairs None = Ok (record { home = home; group = owner.group; meter = owner.meter; own = own; pairs = pairs })
 
 -- the file of what is gathered, unless a key is missing
-abbrev pub completed_by : PlanView → OwnerView → Option (List ℕ) → List (Option (List ℕ)) → Result MeterFileView FileError
+abbrev pub completed_by : PlanView → OwnerView → Option (List ℕ) → List (Option (List ℕ)) → Result MeterFileView FileFault
 completed_by home owner None pairs = Err (in_row 0 (cause.Key (of_key.Missing (id.Own owner.group owner.meter))))
 completed_by home owner (Some own) pairs = unless_missing home owner own pairs (missing_pair owner pairs)
 
-abbrev pub completed : PlanView → OwnerView → Gathered → Result MeterFileView FileError
+abbrev pub completed : PlanView → OwnerView → Gathered → Result MeterFileView FileFault
 completed home owner gathered = completed_by home owner gathered.own gathered.pairs
 
 -- the meter of these first rows in a group of so many
@@ -129,17 +129,17 @@ abbrev pub owner_of : PartHead → ℕ → OwnerView
 owner_of head meters = record { group = head.home.number; meter = head.meter; meters = meters }
 
 -- what the rows after the first four say to a plan whose spans have this fault or none
-abbrev pub filled_in : PlanView → OwnerView → Option SpanError → List PartEntry → Result MeterFileView FileError
+abbrev pub filled_in : PlanView → OwnerView → Option SpanError → List PartEntry → Result MeterFileView FileFault
 filled_in home owner fault entries = gather owner fault 5 (nothing owner.meters) entries >>= completed home owner
 
 -- the same to a plan before its members' spans are known; the meter is one of its group
-unfoldable pub with_entries : PlanView → OwnerView → List PartEntry → Result MeterFileView FileError
+unfoldable pub with_entries : PlanView → OwnerView → List PartEntry → Result MeterFileView FileFault
 with_entries home owner entries =
     if nat_lt owner.meter owner.meters then filled_in (settled home (spans_of entries)) owner (span_fault home (spans_of entries)) entries
     else Err (in_row 4 (cause.Key of_key.Range))
 
 -- what the rows of a file say: first the form of all, then the plan, then the meter, then the rows after the first four
-unfoldable pub part_from : List (List (List ℕ)) → Result MeterFileView FileError
+unfoldable pub part_from : List (List (List ℕ)) → Result MeterFileView FileFault
 part_from rows = do
   head ← head_of rows
   entries ← entries_from 5 (behind (behind (behind (behind rows))))
@@ -147,15 +147,10 @@ part_from rows = do
   with_entries home (owner_of head (size home.groups 0)) entries
 
 -- what the bytes of a meter file say, or their first fault
-unfoldable pub part_of : List ℕ → Result MeterFileView FileError
+unfoldable pub part_of : List ℕ → Result MeterFileView FileFault
 part_of bytes = part_from (file_rows bytes)
 
 -- ---- how the steps end
-
--- the plan is stated, or refused; want of memory is free
-abbrev pub StatesHome : ℕ → HomeGroup → Result Plan FileError → Type 0
-StatesHome rounds home (Ok plan) = stated_home rounds home ≡ Ok plan
-StatesHome rounds home (Err fault) = ButMemory fault.cause (stated_home rounds home ≡ Err fault)
 
 -- what is gathered
 abbrev pub gathered_by : PartKeys → Gathered
@@ -174,6 +169,6 @@ abbrev pub view_of : MeterFile → MeterFileView
 view_of file = record { home = file.home; group = file.group; meter = file.meter; own = file.own; pairs = file.pairs.items }
 
 -- how the reading of a meter file ends; want of memory is free
-abbrev pub PartEnds : Result MeterFileView FileError → Result MeterFile FileError → Type 0
+abbrev pub PartEnds : Result MeterFileView FileFault → Result MeterFile (Failed FileFault) → Type 0
 PartEnds value (Ok file) = value ≡ Ok (view_of file)
-PartEnds value (Err fault) = ButMemory fault.cause (value ≡ Err fault)
+PartEnds value (Err failed) = Fails value failed

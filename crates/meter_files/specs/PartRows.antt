@@ -6,7 +6,7 @@ use Rattle.plan_files.specs.PlanForms.{first_due}
 use Rattle.plan_files.specs.PlanRows.{has_fields, key_in, name_in, number_in, rounds_row, starts_with}
 use Rattle.plan_files.specs.declared.fault.FileCause.{FileCause}
 use Rattle.plan_files.specs.declared.fault.FileCause.TheVariants as cause
-use Rattle.plan_files.specs.declared.fault.FileError.{FileError}
+use Rattle.plan_files.specs.declared.fault.FileFault.{FileFault}
 use Rattle.meter_files.specs.Spelling.{title_row}
 use Rattle.meter_files.specs.declared.part_row.HomeGroup.{HomeGroup}
 use Rattle.meter_files.specs.declared.part_row.PartEntry.{PartEntry}
@@ -80,7 +80,7 @@ pub record PartHead : Type 0 where
   pub home : HomeGroup
   pub meter : ℕ
 
-unfoldable pub head_of : List (List (List ℕ)) → Result PartHead FileError
+unfoldable pub head_of : List (List (List ℕ)) → Result PartHead FileFault
 head_of rows = do
   _ ← first_due title_in 1 rows
   rounds ← first_due rounds_row 2 (behind rows)
@@ -89,7 +89,7 @@ head_of rows = do
   Ok (record { rounds = rounds; home = home; meter = meter })
 
 -- the rows after the first four, of which the first is row n of the file
-unfoldable pub entries_from : ℕ → List (List (List ℕ)) → Result (List PartEntry) FileError
+unfoldable pub entries_from : ℕ → List (List (List ℕ)) → Result (List PartEntry) FileFault
 entries_from n [] = Ok []
 entries_from n (row ∷ rows) = do
   entry ← at_row n (entry_in row)

@@ -1,14 +1,14 @@
 //! The reader of a meter file.
 
 ghost use Rattle.std.specs.Prelude.{◌≡◌, ◌≤◌, ◌<◌, ◌+◌, ◌^◌, Ok, Err, IfErr, IfOk, OnOk, None, length, slice_index_or};
-ghost use Rattle.plan_files.specs.Faults.{ButMemory, in_row};
+ghost use Rattle.plan_files.specs.Faults.{Ends, Fails, in_row};
 ghost use Rattle.plan_files.specs.RowsLeft.{IsSound, rows_left};
 ghost use Rattle.meter_files.specs.PartRows.{behind, entries_from, head_of};
 ghost use Rattle.pair_keys.specs.declared.KeyError.{KeyError};
 ghost use Rattle.pair_keys.specs.declared.KeyId.{KeyId};
 ghost use Rattle.plan_files.specs.declared.fault.FileCause.{FileCause};
 ghost use Rattle.meter_files.specs.Spelling.{pair_of};
-ghost use Rattle.meter_files.specs.PartFiles.{PartEnds, StatesHome, TakesKey, completed, gather, gathered_by, is_other, lacks, missing_pair, nothing, owner_view, part_from, part_of, put_member, put_own, put_pair, spans_of, take_entry, view_of, with_entries};
+ghost use Rattle.meter_files.specs.PartFiles.{PartEnds, TakesKey, completed, gather, gathered_by, is_other, lacks, missing_pair, nothing, owner_view, part_from, part_of, put_member, put_own, put_pair, spans_of, stated_home, take_entry, view_of, with_entries};
 ghost use Rattle.meter_files.specs.Whole.{IsWhole};
 
 use crate::part_row::{
@@ -17,7 +17,7 @@ use crate::part_row::{
 use group_plan::{Plan, PlanError, Span, SpanError};
 use pair_keys::{KeyError, KeyId};
 use plan_files::rows::{PlanHead, RowReader, Windows, check_member, settle, stated_plan};
-use plan_files::{FileCause, FileError, NO_MEMORY};
+use plan_files::{Failed, FileCause, FileFault};
 use std::alloc::{AllocError, Global};
 
 /// What a meter file says.
@@ -44,31 +44,20 @@ struct PartHead {
 }
 
 /// Reads the first four rows.
-fn read_head(rows: &mut RowReader<'_>) -> Result<PartHead, FileError>
+fn read_head(rows: &mut RowReader<'_>) -> Result<PartHead, Failed<FileFault>>
     requires { IsSound rows.old }
     ensures read { IfOk result (λ head. head_of (rows_left rows.old) ≡ Ok (record { rounds = head.rounds; home = head.home; meter = head.meter })) }
     ensures rest { OnOk result (rows_left rows.new ≡ behind (behind (behind (behind (rows_left rows.old))))) }
     ensures sound { OnOk result (IsSound rows.new) }
-    ensures fault { IfErr result (λ fault. ButMemory fault.cause (head_of (rows_left rows.old) ≡ Err fault)) }
+    ensures fault { IfErr result (λ failed. Fails (head_of (rows_left rows.old)) failed) }
 {
-    if let Err(fault) = due_title(rows) {
-        return Err(fault);
-    }
+    due_title(rows)?;
     rows.advance()?;
-    let rounds = match due_rounds(rows) {
-        Ok(rounds) => rounds,
-        Err(fault) => return Err(fault),
-    };
+    let rounds = due_rounds(rows)?;
     rows.advance()?;
-    let home = match due_home(rows) {
-        Ok(home) => home,
-        Err(fault) => return Err(fault),
-    };
+    let home = due_home(rows)?;
     rows.advance()?;
-    let meter = match due_self(rows) {
-        Ok(meter) => meter,
-        Err(fault) => return Err(fault),
-    };
+    let meter = due_self(rows)?;
     rows.advance()?;
     Ok(PartHead {
         rounds,
@@ -78,23 +67,22 @@ fn read_head(rows: &mut RowReader<'_>) -> Result<PartHead, FileError>
 }
 
 /// Reads the rows that are left, up to the first fault of form. The first of them is row 5 of the file.
-fn read_entries(alloc: Global, rows: &mut RowReader<'_>) -> Result<Vec<PartEntry>, FileError>
+fn read_entries(
+    alloc: Global,
+    rows: &mut RowReader<'_>,
+) -> Result<Vec<PartEntry>, Failed<FileFault>>
     requires sound { IsSound rows.old }
     requires few { length (rows_left rows.old) ≤ 2 ^ 28 + 1 }
     ensures read { IfOk result (λ entries. entries_from 5 (rows_left rows.old) ≡ Ok entries.items) }
     ensures few { IfOk result (λ entries. length entries.items ≤ length (rows_left rows.old)) }
-    ensures fault { IfErr result (λ fault. ButMemory fault.cause (entries_from 5 (rows_left rows.old) ≡ Err fault)) }
+    ensures fault { IfErr result (λ failed. Fails (entries_from 5 (rows_left rows.old)) failed) }
 {
     let mut entries = Vec::new(alloc);
     let mut number = 5;
     while let Some(row) = rows.current() {
         match read_entry(row) {
-            Ok(entry) => {
-                if entries.push(entry).is_err() {
-                    return Err(NO_MEMORY);
-                }
-            }
-            Err(cause) => return Err(FileError { row: number, cause }),
+            Ok(entry) => entries.push(entry)?,
+            Err(cause) => return Err(Failed::Fault(FileFault { row: number, cause })),
         }
         number += 1;
         rows.advance()?;
@@ -104,15 +92,15 @@ fn read_entries(alloc: Global, rows: &mut RowReader<'_>) -> Result<Vec<PartEntry
 
 /// The plan of the meter's group alone, which the first rows state.
 #[tactic(auto, using(crate::proofs::PartLemmas::too_many, crate::proofs::PartLemmas::is_stated))]
-fn stated_home(alloc: Global, rounds: u32, home: &HomeGroup) -> Result<Plan, FileError>
-    ensures stated { StatesHome rounds home.now result }
+fn stated_home(alloc: Global, rounds: u32, home: &HomeGroup) -> Result<Plan, Failed<FileFault>>
+    ensures stated { Ends (stated_home rounds home.now) result }
     ensures few { OnOk result (home.now.number ≤ 255) }
 {
     if home.number > 255 {
-        return Err(FileError {
+        return Err(Failed::Fault(FileFault {
             row: 0,
             cause: FileCause::Plan(PlanError::TooManyGroups(u64::from(home.number) + 1)),
-        });
+        }));
     }
     let head = PlanHead {
         rounds,
@@ -288,18 +276,16 @@ fn gather(
     owner: Owner,
     fault: Option<SpanError>,
     entries: Vec<PartEntry>,
-) -> Result<PartKeys, FileError>
+) -> Result<PartKeys, Failed<FileFault>>
     requires { length entries.items ≤ 2 ^ 28 + 1 }
     ensures whole { IfOk result (λ keys. gather (owner_view owner) fault 5 (nothing owner.meters) entries.items ≡ Ok (gathered_by keys)) }
-    ensures refused { IfErr result (λ error. ButMemory error.cause (gather (owner_view owner) fault 5 (nothing owner.meters) entries.items ≡ Err error)) }
+    ensures refused { IfErr result (λ failed. Fails (gather (owner_view owner) fault 5 (nothing owner.meters) entries.items) failed) }
 {
-    let Ok(mut keys) = no_keys(alloc, owner.meters) else {
-        return Err(NO_MEMORY);
-    };
+    let mut keys = no_keys(alloc, owner.meters)?;
     let mut number = 5;
     for entry in entries {
         if let Err(cause) = keys.take(owner, fault, &entry) {
-            return Err(FileError { row: number, cause });
+            return Err(Failed::Fault(FileFault { row: number, cause }));
         }
         number += 1;
     }
@@ -327,20 +313,21 @@ fn missing_pair(owner: Owner, pairs: &[Option<[u8; 32]>]) -> Option<KeyId>
 }
 
 /// The fault of a file without this key.
-fn missing(which: KeyId) -> FileError
+fn missing(which: KeyId) -> FileFault
     ensures { result ≡ in_row 0 (FileCause.Key (KeyError.Missing which)) }
 {
-    FileError {
+    FileFault {
         row: 0,
         cause: FileCause::Key(KeyError::Missing(which)),
     }
 }
 
 /// The file of what is gathered, unless a key is missing.
-fn complete(home: Plan, owner: Owner, keys: PartKeys) -> Result<MeterFile, FileError>
+fn complete(home: Plan, owner: Owner, keys: PartKeys) -> Result<MeterFile, FileFault>
     requires group { owner.group < 2 ^ 16 }
     requires meter { owner.meter < 2 ^ 8 }
-    ensures { PartEnds (completed home (owner_view owner) (gathered_by keys)) result }
+    ensures file { IfOk result (λ file. completed home (owner_view owner) (gathered_by keys) ≡ Ok (view_of file)) }
+    ensures missing { IfErr result (λ fault. completed home (owner_view owner) (gathered_by keys) ≡ Err fault) }
 {
     let PartKeys {
         own,
@@ -369,49 +356,34 @@ fn with_entries(
     home: Plan,
     owner: Owner,
     entries: Vec<PartEntry>,
-) -> Result<MeterFile, FileError>
+) -> Result<MeterFile, Failed<FileFault>>
     requires group { owner.group < 2 ^ 16 }
     requires meters { owner.meters ≤ 256 }
     requires few { length entries.items ≤ 2 ^ 28 + 1 }
     ensures { PartEnds (with_entries home (owner_view owner) entries.items) result }
 {
     if owner.meter >= owner.meters {
-        return Err(FileError {
+        return Err(Failed::Fault(FileFault {
             row: 4,
             cause: FileCause::Key(KeyError::Range),
-        });
+        }));
     }
-    let Ok(spans) = member_spans(alloc, &entries) else {
-        return Err(NO_MEMORY);
-    };
-    let Ok((home, fault)) = settle(home, &spans) else {
-        return Err(NO_MEMORY);
-    };
-    match gather(alloc, owner, fault, entries) {
-        Ok(keys) => complete(home, owner, keys),
-        Err(fault) => Err(fault),
-    }
+    let spans = member_spans(alloc, &entries)?;
+    let (home, fault) = settle(home, &spans)?;
+    let keys = gather(alloc, owner, fault, entries)?;
+    Ok(complete(home, owner, keys)?)
 }
 
 /// What the rows of a meter file say.
 #[tactic(auto, unfolding(crate::specs::PartFiles::part_from))]
-fn part_from(alloc: Global, rows: &mut RowReader<'_>) -> Result<MeterFile, FileError>
+fn part_from(alloc: Global, rows: &mut RowReader<'_>) -> Result<MeterFile, Failed<FileFault>>
     requires sound { IsSound rows.old }
     requires few { length (rows_left rows.old) ≤ 2 ^ 28 + 1 }
     ensures { PartEnds (part_from (rows_left rows.old)) result }
 {
-    let head = match read_head(rows) {
-        Ok(head) => head,
-        Err(fault) => return Err(fault),
-    };
-    let entries = match read_entries(alloc, rows) {
-        Ok(entries) => entries,
-        Err(fault) => return Err(fault),
-    };
-    let home = match stated_home(alloc, head.rounds, &head.home) {
-        Ok(home) => home,
-        Err(fault) => return Err(fault),
-    };
+    let head = read_head(rows)?;
+    let entries = read_entries(alloc, rows)?;
+    let home = stated_home(alloc, head.rounds, &head.home)?;
     let owner = Owner {
         group: head.home.number,
         meter: head.meter,
@@ -422,7 +394,7 @@ fn part_from(alloc: Global, rows: &mut RowReader<'_>) -> Result<MeterFile, FileE
 
 /// What the bytes of a meter file say, or their first fault.
 #[tactic(auto, unfolding(crate::specs::PartFiles::part_of))]
-pub fn read_meter(alloc: Global, bytes: &[u8]) -> Result<MeterFile, FileError>
+pub fn read_meter(alloc: Global, bytes: &[u8]) -> Result<MeterFile, Failed<FileFault>>
     requires { length bytes.now ≤ 2 ^ 28 }
     ensures file { PartEnds (part_of bytes.now) result }
     ensures whole { IfOk result (λ file. IsWhole (view_of file)) }

@@ -13,7 +13,7 @@ use plan_files::rows::{
     FileRow, RowReader, check_fields, is_long, is_word, key_field, name_field, number_field,
     read_rounds,
 };
-use plan_files::{FileCause, FileError};
+use plan_files::{FileCause, FileFault};
 
 /// The meter's group, and the number by which frames name it.
 #[derive(Clone, Copy)]
@@ -142,17 +142,17 @@ pub(crate) fn read_entry(row: &FileRow<'_>) -> Result<PartEntry, FileCause>
 }
 
 // The row that is due with this number, where there is none.
-fn short(row: u32) -> FileError
+fn short(row: u32) -> FileFault
     ensures { result ≡ record { row = row; cause = FileCause.Short } }
 {
-    FileError {
+    FileFault {
         row,
         cause: FileCause::Short,
     }
 }
 
 /// Whether the file starts with its title.
-pub(crate) fn due_title(rows: &RowReader<'_>) -> Result<(), FileError>
+pub(crate) fn due_title(rows: &RowReader<'_>) -> Result<(), FileFault>
     requires { IsSound rows.now }
     ensures { result ≡ first_due title_in 1 (rows_left rows.now) }
 {
@@ -161,12 +161,12 @@ pub(crate) fn due_title(rows: &RowReader<'_>) -> Result<(), FileError>
     };
     match check_title(row) {
         Ok(()) => Ok(()),
-        Err(cause) => Err(FileError { row: 1, cause }),
+        Err(cause) => Err(FileFault { row: 1, cause }),
     }
 }
 
 /// The rounds, in the second row.
-pub(crate) fn due_rounds(rows: &RowReader<'_>) -> Result<u32, FileError>
+pub(crate) fn due_rounds(rows: &RowReader<'_>) -> Result<u32, FileFault>
     requires { IsSound rows.now }
     ensures { result ≡ first_due rounds_row 2 (rows_left rows.now) }
 {
@@ -175,12 +175,12 @@ pub(crate) fn due_rounds(rows: &RowReader<'_>) -> Result<u32, FileError>
     };
     match read_rounds(row) {
         Ok(rounds) => Ok(rounds),
-        Err(cause) => Err(FileError { row: 2, cause }),
+        Err(cause) => Err(FileFault { row: 2, cause }),
     }
 }
 
 /// The meter's group, in the third row.
-pub(crate) fn due_home(rows: &RowReader<'_>) -> Result<HomeGroup, FileError>
+pub(crate) fn due_home(rows: &RowReader<'_>) -> Result<HomeGroup, FileFault>
     requires { IsSound rows.now }
     ensures { result ≡ first_due home_in 3 (rows_left rows.now) }
 {
@@ -189,12 +189,12 @@ pub(crate) fn due_home(rows: &RowReader<'_>) -> Result<HomeGroup, FileError>
     };
     match read_home(row) {
         Ok(home) => Ok(home),
-        Err(cause) => Err(FileError { row: 3, cause }),
+        Err(cause) => Err(FileFault { row: 3, cause }),
     }
 }
 
 /// The meter itself, in the fourth row.
-pub(crate) fn due_self(rows: &RowReader<'_>) -> Result<u32, FileError>
+pub(crate) fn due_self(rows: &RowReader<'_>) -> Result<u32, FileFault>
     requires { IsSound rows.now }
     ensures { result ≡ first_due self_in 4 (rows_left rows.now) }
 {
@@ -203,6 +203,6 @@ pub(crate) fn due_self(rows: &RowReader<'_>) -> Result<u32, FileError>
     };
     match read_self(row) {
         Ok(meter) => Ok(meter),
-        Err(cause) => Err(FileError { row: 4, cause }),
+        Err(cause) => Err(FileFault { row: 4, cause }),
     }
 }

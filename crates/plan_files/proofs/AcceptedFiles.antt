@@ -26,7 +26,7 @@ use Rattle.pair_keys.specs.Ids.{same_id}
 use Rattle.pair_keys.specs.Keys.{IsComplete, Keys}
 use Rattle.pair_keys.specs.declared.KeyId.{KeyId}
 use Rattle.plan_files.specs.AcceptedFiles.{AcceptedPlansAreWhole, AcceptedReadingsAreTables, AreReadingsOf, IsWhole}
-use Rattle.plan_files.specs.Faults.{◌>>=◌, at_row, in_row, plan_cause, unless}
+use Rattle.plan_files.specs.Faults.{◌>>=◌, at_row, in_row, unless}
 use Rattle.plan_files.specs.Gathering.{Gathered, gather, nothing, settled, settled_by, spans_of}
 use Rattle.plan_files.specs.MissingKeys.{first_missing, plan_keys}
 use Rattle.plan_files.specs.PlanFiles.{Opened, PlanFileView, completed, opened_from, plan_from, plan_of, stated_plan, unless_missing, with_entries}
@@ -37,7 +37,7 @@ use Rattle.plan_files.specs.Rows.{file_rows}
 use Rattle.plan_files.specs.declared.entry.PlanRow.{PlanRow}
 use Rattle.plan_files.specs.declared.fault.FileCause.{FileCause}
 use Rattle.plan_files.specs.declared.fault.FileCause.TheVariants as cause
-use Rattle.plan_files.specs.declared.fault.FileError.{FileError}
+use Rattle.plan_files.specs.declared.fault.FileFault.{FileFault}
 use Rattle.plan_files.specs.declared.form.PlanForm.TheVariants.{Whole}
 use Rattle.plan_files.specs.declared.head.PlanHead.{PlanHead}
 use Rattle.plan_files.proofs.GatherLemmas.{gather_keeps}
@@ -57,7 +57,7 @@ row_well n (Err what) a h = absurd cc
 
 -- ---- readings
 
-no_fault : {X : Type 0} (fault : Option FileError) (value other : X) → unless fault value ≡ Ok other → value ≡ other
+no_fault : {X : Type 0} (fault : Option FileFault) (value other : X) → unless fault value ≡ Ok other → value ≡ other
 no_fault None value other h = cc
 no_fault (Some e) value other h = absurd cc
 
@@ -263,7 +263,7 @@ all_there keys none y is = none_lacks keys (plan_keys keys.plan) y none (keys_al
 
 -- ---- the whole file
 
-stated_well : (fault : Option PlanError) (plan other : PlanView) → unless (option_map (λ e. in_row 0 (plan_cause e)) fault) plan ≡ Ok other → (fault ≡ None) × (plan ≡ other)
+stated_well : (fault : Option PlanError) (plan other : PlanView) → unless (option_map (λ e. in_row 0 (cause.Plan e)) fault) plan ≡ Ok other → (fault ≡ None) × (plan ≡ other)
 stated_well None plan other h = (refl, let e : plan ≡ other = cc in e)
 stated_well (Some e) plan other h = absurd cc
 
@@ -275,7 +275,7 @@ none_is_missing : (missing : Option KeyId) (gathered : Gathered) (file : PlanFil
 none_is_missing None gathered file h = (refl, let e : said gathered ≡ file = cc in e)
 none_is_missing (Some which) gathered file h = absurd cc
 
-same_ok : (one other : Opened) (r : Result Opened FileError) → r ≡ Ok one → r ≡ Ok other → one ≡ other
+same_ok : (one other : Opened) (r : Result Opened FileFault) → r ≡ Ok one → r ≡ Ok other → one ≡ other
 same_ok one other r first second = cc
 
 pub accepted_plans : AcceptedPlansAreWhole
@@ -283,10 +283,10 @@ unfolding plan_of plan_from opened_from stated_plan with_entries
 accepted_plans bytes file is =
     let rows = file_rows bytes in
     let opened : PlanView → List GroupPlan → List PlanRow → Opened = λ plan groups entries. record { plan = plan; first = 4 + length groups; entries = entries } in
-    let filled : Opened → Result PlanFileView FileError = λ o. with_entries o.plan o.first o.entries in
-    let last : PlanHead → List GroupPlan → List PlanRow → Result Opened FileError = λ head groups entries. stated_plan head groups >>= (λ plan. Ok (opened plan groups entries)) in
-    let third : PlanHead → List GroupPlan → Result Opened FileError = λ head groups. entries_from Whole (4 + length groups) (drop (3 + length groups) rows) >>= last head groups in
-    let second : PlanHead → Result Opened FileError = λ head. groups_from 4 (drop 3 rows) >>= third head in
+    let filled : Opened → Result PlanFileView FileFault = λ o. with_entries o.plan o.first o.entries in
+    let last : PlanHead → List GroupPlan → List PlanRow → Result Opened FileFault = λ head groups entries. stated_plan head groups >>= (λ plan. Ok (opened plan groups entries)) in
+    let third : PlanHead → List GroupPlan → Result Opened FileFault = λ head groups. entries_from Whole (4 + length groups) (drop (3 + length groups) rows) >>= last head groups in
+    let second : PlanHead → Result Opened FileFault = λ head. groups_from 4 (drop 3 rows) >>= third head in
     let o = went_well (opened_from Whole rows) filled file is in
     let a = went_well (head_of Whole rows) second o.0 o.1 in
     let b = went_well (groups_from 4 (drop 3 rows)) (third a.0) o.0 a.2 in

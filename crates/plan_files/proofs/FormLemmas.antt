@@ -8,14 +8,16 @@ use Rattle.group_plan.specs.declared.plan.GroupPlan.{GroupPlan}
 use Rattle.link_lanes.specs.ArgBytes.{is_arg_byte}
 use Rattle.link_lanes.specs.Args.{MakesArg}
 use Rattle.link_lanes.specs.declared.row.ArgError.{ArgError}
-use Rattle.link_lanes.specs.declared.row.ArgError.TheVariants.{Byte, Memory}
-use Rattle.plan_files.specs.Faults.{◌>>=◌, ButMemory, at_row, in_row}
+use Rattle.link_lanes.specs.declared.row.ArgError.TheVariants as of_arg
+use Rattle.plan_files.specs.Faults.{◌>>=◌, Fails, at_row, failed_in_row, in_row}
 use Rattle.plan_files.specs.PlanForms.{after, entries_from, first_due, groups_from, head_of, row_due}
 use Rattle.plan_files.specs.PlanRows.{entry_of, group_row, rounds_row, starts_with, version_row, windows_row}
 use Rattle.plan_files.specs.declared.entry.PlanRow.{PlanRow}
+use Rattle.plan_files.specs.declared.fault.Failed.{Failed}
+use Rattle.plan_files.specs.declared.fault.Failed.TheVariants.{Memory, Fault}
 use Rattle.plan_files.specs.declared.fault.FileCause.{FileCause}
 use Rattle.plan_files.specs.declared.fault.FileCause.TheVariants as cause
-use Rattle.plan_files.specs.declared.fault.FileError.{FileError}
+use Rattle.plan_files.specs.declared.fault.FileFault.{FileFault}
 use Rattle.plan_files.specs.declared.form.PlanForm.{PlanForm}
 use Rattle.plan_files.specs.declared.head.Windows.{Windows}
 
@@ -24,15 +26,15 @@ not_true true h = cc
 not_true false h = cc
 
 -- a text with another byte is no argument
-pub no_argument : (text : List ℕ) (error : ArgError) (at : ℕ) → error ≡ Byte at → MakesArg text (Err error) → list_all is_arg_byte text ≡ false
-no_argument text (Byte other) at is found =
+pub no_argument : (text : List ℕ) (error : ArgError) (at : ℕ) → error ≡ of_arg.Byte at → MakesArg text (Err error) → list_all is_arg_byte text ≡ false
+no_argument text (of_arg.Byte other) at is found =
     let first = position-Some (λ b. not (is_arg_byte b)) text other 0 found in
     list_all_at is_arg_byte text other 0 first.0 (not_true _ first.1)
-no_argument text Memory at is found = cc
+no_argument text of_arg.Memory at is found = cc
 
 -- ---- rows in turn
 
-after_one : {A : Type 0} (xs : List A) (x : A) (rest : Result (List A) FileError)
+after_one : {A : Type 0} (xs : List A) (x : A) (rest : Result (List A) FileFault)
     → after xs (rest >>= (λ more. Ok (x ∷ more))) ≡ after (xs ++ x ∷ []) rest
 after_one xs x (Ok more) = ap Ok (sym (append_assoc xs (x ∷ []) more))
 after_one xs x (Err fault) = refl
@@ -73,16 +75,16 @@ unfolding row_due
 third_row rows second third is next =
     due_at windows_row rows 2 3 ∙ ap (first_due windows_row 3) (sym (next ∙ ap (drop 1) is ∙ drop-drop 1 1 rows))
 
-pub no_version : (form : PlanForm) (rows : List (List (List ℕ))) (error : FileError) → first_due (version_row form) 1 rows ≡ Err error → head_of form rows ≡ Err error
+pub no_version : (form : PlanForm) (rows : List (List (List ℕ))) (error : FileFault) → first_due (version_row form) 1 rows ≡ Err error → head_of form rows ≡ Err error
 unfolding head_of
 no_version form rows error wrong = rw (first_row form rows, wrong) refl
 
-pub no_rounds : (form : PlanForm) (rows second : List (List (List ℕ))) (error : FileError) → first_due (version_row form) 1 rows ≡ Ok tt → second ≡ drop 1 rows
+pub no_rounds : (form : PlanForm) (rows second : List (List (List ℕ))) (error : FileFault) → first_due (version_row form) 1 rows ≡ Ok tt → second ≡ drop 1 rows
     → first_due rounds_row 2 second ≡ Err error → head_of form rows ≡ Err error
 unfolding head_of
 no_rounds form rows second error version is wrong = rw (first_row form rows, version, second_row rows second is, wrong) refl
 
-pub no_windows : (form : PlanForm) (rows second third : List (List (List ℕ))) (rounds : ℕ) (error : FileError) → first_due (version_row form) 1 rows ≡ Ok tt → second ≡ drop 1 rows
+pub no_windows : (form : PlanForm) (rows second third : List (List (List ℕ))) (rounds : ℕ) (error : FileFault) → first_due (version_row form) 1 rows ≡ Ok tt → second ≡ drop 1 rows
     → first_due rounds_row 2 second ≡ Ok rounds → third ≡ drop 1 second → first_due windows_row 3 third ≡ Err error → head_of form rows ≡ Err error
 unfolding head_of
 no_windows form rows second third rounds error version is read next wrong = rw (first_row form rows, version, second_row rows second is, read, third_row rows second third is next, wrong) refl
@@ -133,40 +135,13 @@ entries_end form rows n entries none = rw none (after_none entries)
 
 -- ---- want of memory
 
--- what always holds
-pub always : {A : Type 0} (what : FileCause) → A → ButMemory what A
-always cause.Memory a = tt
-always cause.Row a = a
-always cause.Fields a = a
-always cause.Number a = a
-always cause.Name a = a
-always cause.Hex a = a
-always (cause.Plan e) a = a
-always (cause.Key e) a = a
-always cause.LaneSpan a = a
-always cause.Range a = a
-always cause.Short a = a
-always cause.Extra a = a
-always (cause.Member e) a = a
-always cause.NotMember a = a
+-- what fails here fails there, where each fault of the one is the other's
+pub fails_too : {A B E : Type 0} (here : Result A E) (there : Result B E) (failed : Failed E) → ((fault : E) → here ≡ Err fault → there ≡ Err fault) → Fails here failed → Fails there failed
+fails_too here there Memory same wrong = tt
+fails_too here there (Fault fault) same wrong = same fault wrong
 
--- what follows from what holds but for want of memory
-pub through_memory : {A : Type 0} (B : Type 0) (what : FileCause) → (A → ButMemory what B) → ButMemory what A → ButMemory what B
-through_memory B cause.Memory f a = tt
-through_memory B cause.Row f a = f a
-through_memory B cause.Fields f a = f a
-through_memory B cause.Number f a = f a
-through_memory B cause.Name f a = f a
-through_memory B cause.Hex f a = f a
-through_memory B (cause.Plan e) f a = f a
-through_memory B (cause.Key e) f a = f a
-through_memory B cause.LaneSpan f a = f a
-through_memory B cause.Range f a = f a
-through_memory B cause.Short f a = f a
-through_memory B cause.Extra f a = f a
-through_memory B (cause.Member e) f a = f a
-through_memory B cause.NotMember f a = f a
-
--- what holds but for want of memory may be weakened
-pub but_memory : {A B : Type 0} (what : FileCause) → (A → B) → ButMemory what A → ButMemory what B
-but_memory {B = B} what f a = through_memory B what (λ x. always what (f x)) a
+-- the same of a row and its file
+pub row_fails : {A B : Type 0} (n : ℕ) (row : Result A FileCause) (file : Result B FileFault) (failed : Failed FileCause) → ((what : FileCause) → row ≡ Err what → file ≡ Err (in_row n what))
+    → Fails row failed → Fails file (failed_in_row n failed)
+row_fails n row file Memory same wrong = tt
+row_fails n row file (Fault what) same wrong = same what wrong

@@ -12,14 +12,15 @@ use Rattle.group_plan.specs.declared.plan.members.Span.{Span}
 use Rattle.group_plan.specs.declared.plan.members.SpanError.{SpanError}
 use Rattle.link_lanes.specs.declared.row.LaneRow.{LaneRow}
 use Rattle.pair_keys.specs.declared.KeyId.TheVariants as id
-use Rattle.plan_files.proofs.FormLemmas.{always, but_memory}
+use Rattle.plan_files.proofs.FormLemmas.{fails_too}
 use Rattle.plan_files.specs.Faults.{◌>>=◌, at_row, in_row}
-use Rattle.plan_files.specs.Gathering.{Gathered, HangsLane, PutsKey, TakesEntry, gather, hang_lane, member_fault, put_key, spans_of, take_entry}
+use Rattle.plan_files.specs.Gathering.{Gathered, HangsLane, TakesEntry, gather, hang_lane, member_fault, put_key, spans_of, take_entry}
+use Rattle.plan_files.specs.declared.fault.Failed.{Failed}
 use Rattle.plan_files.specs.declared.fault.FileCause.{FileCause}
 use Rattle.plan_files.specs.declared.entry.PlanRow.{PlanRow}
 use Rattle.plan_files.specs.declared.entry.PlanRow.TheVariants as entry
 use Rattle.plan_files.specs.declared.fault.FileCause.TheVariants as cause
-use Rattle.plan_files.specs.declared.fault.FileError.{FileError}
+use Rattle.plan_files.specs.declared.fault.FileFault.{FileFault}
 
 -- ---- keys
 
@@ -42,23 +43,32 @@ spans_end (e ∷ es) (suc i) h = spans_end es i (omega arith)
 
 -- ---- a row more
 
-pub took_own : (last : ℕ) (fault : Option SpanError) (before : Gathered) (group meter : ℕ) (key : List ℕ) (result : Result (Unit {0}) FileCause) (new : Keys)
-    → PutsKey before.keys (id.Own group meter) key result new → TakesEntry last fault before (entry.Own group meter key) result (record before { keys = new })
+pub took_own : (last : ℕ) (fault : Option SpanError) (before : Gathered) (group meter : ℕ) (key : List ℕ) (new : Keys) → put_key before.keys (id.Own group meter) key ≡ Ok new
+    → take_entry last fault before (entry.Own group meter key) ≡ Ok (record before { keys = new })
 unfolding take_entry
-took_own last fault before group meter key (Ok done) new put = rw put refl
-took_own last fault before group meter key (Err what) new put = always what (rw put refl)
+took_own last fault before group meter key new put = rw put refl
 
-pub took_pair : (last : ℕ) (fault : Option SpanError) (before : Gathered) (group low high : ℕ) (key : List ℕ) (result : Result (Unit {0}) FileCause) (new : Keys)
-    → PutsKey before.keys (id.Pair group low high) key result new → TakesEntry last fault before (entry.Pair group low high key) result (record before { keys = new })
+pub own_refused : (last : ℕ) (fault : Option SpanError) (before : Gathered) (group meter : ℕ) (key : List ℕ) (what : FileCause) → put_key before.keys (id.Own group meter) key ≡ Err what
+    → take_entry last fault before (entry.Own group meter key) ≡ Err what
 unfolding take_entry
-took_pair last fault before group low high key (Ok done) new put = rw put refl
-took_pair last fault before group low high key (Err what) new put = always what (rw put refl)
+own_refused last fault before group meter key what wrong = rw wrong refl
 
-pub took_lane : (last : ℕ) (fault : Option SpanError) (before : Gathered) (lane : LaneRow) (result : Result (Unit {0}) FileCause) (new : List LaneRow)
+pub took_pair : (last : ℕ) (fault : Option SpanError) (before : Gathered) (group low high : ℕ) (key : List ℕ) (new : Keys) → put_key before.keys (id.Pair group low high) key ≡ Ok new
+    → take_entry last fault before (entry.Pair group low high key) ≡ Ok (record before { keys = new })
+unfolding take_entry
+took_pair last fault before group low high key new put = rw put refl
+
+pub pair_refused : (last : ℕ) (fault : Option SpanError) (before : Gathered) (group low high : ℕ) (key : List ℕ) (what : FileCause) → put_key before.keys (id.Pair group low high) key ≡ Err what
+    → take_entry last fault before (entry.Pair group low high key) ≡ Err what
+unfolding take_entry
+pair_refused last fault before group low high key what wrong = rw wrong refl
+
+pub took_lane : (last : ℕ) (fault : Option SpanError) (before : Gathered) (lane : LaneRow) (result : Result (Unit {0}) (Failed FileCause)) (new : List LaneRow)
     → HangsLane before.lanes lane last result new → TakesEntry last fault before (entry.Lane lane) result (record before { lanes = new })
 unfolding take_entry
 took_lane last fault before lane (Ok done) new hung = rw hung refl
-took_lane last fault before lane (Err what) new hung = but_memory what (λ refused. rw refused refl) hung
+took_lane last fault before lane (Err failed) new hung =
+    fails_too (hang_lane last before.lanes lane) (take_entry last fault before (entry.Lane lane)) failed (λ what (refused : hang_lane last before.lanes lane ≡ Err what). rw refused refl) hung
 
 pub took_member : (last : ℕ) (fault : Option SpanError) (before : Gathered) (span : Span) → member_fault fault before.members ≡ Ok tt
     → take_entry last fault before (entry.Member span) ≡ Ok (record before { members = before.members + 1 })
@@ -140,4 +150,4 @@ gather_ok last fault n before (e ∷ es) =
     (take_keeps last fault before e)))
 
 pub gather_keeps : (last : ℕ) (fault : Option SpanError) (n : ℕ) (before after : Gathered) (entries : List PlanRow) → gather last fault n before entries ≡ Ok after → after.keys.plan ≡ before.keys.plan
-gather_keeps last fault n before after entries is = subst (λ (r : Result Gathered FileError). IfOk r (HasPlan before.keys.plan)) is (gather_ok last fault n before entries)
+gather_keeps last fault n before after entries is = subst (λ (r : Result Gathered FileFault). IfOk r (HasPlan before.keys.plan)) is (gather_ok last fault n before entries)

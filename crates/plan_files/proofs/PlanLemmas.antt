@@ -11,16 +11,17 @@ use Rattle.group_plan.specs.declared.plan.members.Span.{Span}
 use Rattle.group_plan.specs.declared.plan.members.SpanError.{SpanError}
 use Rattle.group_plan.specs.declared.plan.members.SpanError.TheVariants as of_span
 use Rattle.pair_keys.specs.Keys.{Keys}
-use Rattle.plan_files.specs.Faults.{◌>>=◌, ButMemory, in_row, plan_cause}
-use Rattle.plan_files.proofs.FormLemmas.{but_memory}
+use Rattle.plan_files.specs.Faults.{◌>>=◌, Fails, in_row}
+use Rattle.plan_files.proofs.FormLemmas.{fails_too}
 use Rattle.plan_files.specs.Gathering.{Gathered, Settles, gather, nothing, settled, settled_by, spans_of}
 use Rattle.plan_files.specs.MissingKeys.{first_missing}
 use Rattle.plan_files.specs.PlanFiles.{Opened, PlanEnds, PlanFileView, completed, filled_in, opened_from, place_of, stated_plan, with_entries, with_members}
 use Rattle.plan_files.specs.PlanForms.{entries_from, groups_from, head_of}
 use Rattle.plan_files.specs.declared.entry.PlanRow.{PlanRow}
 use Rattle.plan_files.specs.declared.entry.PlanRow.TheVariants as entry
+use Rattle.plan_files.specs.declared.fault.Failed.{Failed}
 use Rattle.plan_files.specs.declared.fault.FileCause.TheVariants as cause
-use Rattle.plan_files.specs.declared.fault.FileError.{FileError}
+use Rattle.plan_files.specs.declared.fault.FileFault.{FileFault}
 use Rattle.plan_files.specs.declared.form.PlanForm.{PlanForm}
 use Rattle.plan_files.specs.declared.head.PlanHead.{PlanHead}
 
@@ -29,19 +30,19 @@ pub stated : (head : PlanHead) (groups : List GroupPlan) (plan : PlanView) → M
 unfolding stated_plan
 stated head groups plan made = rw made.0 (ap Ok (sym made.1))
 
-pub not_stated : (head : PlanHead) (groups : List GroupPlan) (error : PlanError) → MakesPlan groups head.rounds head.windows.reading head.windows.recovery (Err error)
-    → ButMemory (plan_cause error) (stated_plan head groups ≡ Err (in_row 0 (plan_cause error)))
+pub not_stated : (head : PlanHead) (groups : List GroupPlan) (error : PlanError) → (error ≡ of_plan.Memory → ⊥) → MakesPlan groups head.rounds head.windows.reading head.windows.recovery (Err error)
+    → stated_plan head groups ≡ Err (in_row 0 (cause.Plan error))
 unfolding stated_plan
-not_stated head groups of_plan.NoGroup wrong = rw wrong refl
-not_stated head groups (of_plan.TooManyGroups n) wrong = rw wrong refl
-not_stated head groups (of_plan.SameName g h) wrong = rw wrong refl
-not_stated head groups (of_plan.Meters g) wrong = rw wrong refl
-not_stated head groups (of_plan.Floor g) wrong = rw wrong refl
-not_stated head groups of_plan.Rounds wrong = rw wrong refl
-not_stated head groups of_plan.Window wrong = rw wrong refl
-not_stated head groups (of_plan.TooManyReadings n) wrong = rw wrong refl
-not_stated head groups of_plan.Memory wrong = tt
-not_stated head groups (of_plan.TooManyPairs n) wrong = rw wrong refl
+not_stated head groups of_plan.NoGroup other wrong = rw wrong refl
+not_stated head groups (of_plan.TooManyGroups n) other wrong = rw wrong refl
+not_stated head groups (of_plan.SameName g h) other wrong = rw wrong refl
+not_stated head groups (of_plan.Meters g) other wrong = rw wrong refl
+not_stated head groups (of_plan.Floor g) other wrong = rw wrong refl
+not_stated head groups of_plan.Rounds other wrong = rw wrong refl
+not_stated head groups of_plan.Window other wrong = rw wrong refl
+not_stated head groups (of_plan.TooManyReadings n) other wrong = rw wrong refl
+not_stated head groups of_plan.Memory other wrong = absurd (other refl)
+not_stated head groups (of_plan.TooManyPairs n) other wrong = rw wrong refl
 
 -- all keys are there
 pub whole_file : (gathered : Gathered) (plan : PlanView) (keys : Keys) → first_missing gathered.keys ≡ None → gathered.keys.plan ≡ plan → keys ≡ gathered.keys
@@ -53,12 +54,12 @@ whole_file gathered plan keys none same table =
 -- ---- the steps in turn
 
 -- the fault of a step is that of all
-pub fails : {A B : Type 0} (x : Result A FileError) (f : A → Result B FileError) (error : FileError) → ButMemory error.cause (x ≡ Err error) → ButMemory error.cause ((x >>= f) ≡ Err error)
-fails x f error wrong = but_memory error.cause (λ (w : x ≡ Err error). rw w refl) wrong
+pub fails : {A B : Type 0} (x : Result A FileFault) (f : A → Result B FileFault) (failed : Failed FileFault) → Fails x failed → Fails (x >>= f) failed
+fails x f failed wrong = fails_too x (x >>= f) failed (λ fault (w : x ≡ Err fault). rw w refl) wrong
 
 -- the same behind steps that went well
-behind : (u v : Result PlanFileView FileError) (error : FileError) → u ≡ v → ButMemory error.cause (v ≡ Err error) → ButMemory error.cause (u ≡ Err error)
-behind u v error same wrong = subst (λ (r : Result PlanFileView FileError). ButMemory error.cause (r ≡ Err error)) (sym same) wrong
+behind : (u v : Result PlanFileView FileFault) (failed : Failed FileFault) → u ≡ v → Fails v failed → Fails u failed
+behind u v failed same wrong = subst (λ (r : Result PlanFileView FileFault). Fails r failed) (sym same) wrong
 
 pub filled : (plan new : PlanView) (fault : Option SpanError) (n : ℕ) (entries : List PlanRow) (spans : List Span) → spans ≡ spans_of entries → Settles plan spans new fault
     → with_entries plan n entries ≡ filled_in new fault n entries
@@ -67,10 +68,10 @@ filled plan new fault n entries spans is settles =
     ap (λ (s : List Span). filled_in (settled plan s) (span_fault plan s) n entries) (sym is)
     ∙ (ap (λ (p : PlanView). filled_in p (span_fault plan spans) n entries) (sym settles.plan) ∙ ap (λ (f : Option SpanError). filled_in new f n entries) (sym settles.faulty))
 
-pub bad_entries : (plan new : PlanView) (fault : Option SpanError) (n : ℕ) (entries : List PlanRow) (spans : List Span) (error : FileError) → spans ≡ spans_of entries → Settles plan spans new fault
-    → ButMemory error.cause (gather (last_tick new) fault n (nothing new) entries ≡ Err error) → PlanEnds (with_entries plan n entries) (Err error)
-bad_entries plan new fault n entries spans error is settles wrong =
-    behind (with_entries plan n entries) (filled_in new fault n entries) error (filled plan new fault n entries spans is settles) (fails (gather (last_tick new) fault n (nothing new) entries) completed error wrong)
+pub bad_entries : (plan new : PlanView) (fault : Option SpanError) (n : ℕ) (entries : List PlanRow) (spans : List Span) (failed : Failed FileFault) → spans ≡ spans_of entries → Settles plan spans new fault
+    → Fails (gather (last_tick new) fault n (nothing new) entries) failed → PlanEnds (with_entries plan n entries) (Err failed)
+bad_entries plan new fault n entries spans failed is settles wrong =
+    behind (with_entries plan n entries) (filled_in new fault n entries) failed (filled plan new fault n entries spans is settles) (fails (gather (last_tick new) fault n (nothing new) entries) completed failed wrong)
 
 pub good_entries : (plan new : PlanView) (fault : Option SpanError) (n : ℕ) (entries : List PlanRow) (spans : List Span) (gathered : Gathered) → spans ≡ spans_of entries → Settles plan spans new fault
     → gather (last_tick new) fault n (nothing new) entries ≡ Ok gathered → with_entries plan n entries ≡ completed gathered
@@ -116,9 +117,9 @@ members_refused plan new n spans e is = let some : span_fault plan spans ≡ Som
 
 -- ---- the rows of a file
 
-pub bad_head : (form : PlanForm) (rows : List (List (List ℕ))) (error : FileError) → ButMemory error.cause (head_of form rows ≡ Err error) → ButMemory error.cause (opened_from form rows ≡ Err error)
+pub bad_head : (form : PlanForm) (rows : List (List (List ℕ))) (failed : Failed FileFault) → Fails (head_of form rows) failed → Fails (opened_from form rows) failed
 unfolding opened_from
-bad_head form rows error wrong = but_memory error.cause (λ (w : head_of form rows ≡ Err error). rw w refl) wrong
+bad_head form rows failed wrong = fails_too (head_of form rows) (opened_from form rows) failed (λ fault (w : head_of form rows ≡ Err fault). rw w refl) wrong
 
 -- the first steps went well
 pub record IsBegun (form : PlanForm) (rows : List (List (List ℕ))) (first : PlanHead) (named : List GroupPlan) : Type 0 where
@@ -130,24 +131,24 @@ pub record IsFormed (form : PlanForm) (rows : List (List (List ℕ))) (first : P
   pub begun : IsBegun form rows first named
   pub entries : entries_from form (4 + length named) (drop (3 + length named) rows) ≡ Ok others
 
-pub bad_groups : (form : PlanForm) (rows rest : List (List (List ℕ))) (head : PlanHead) (error : FileError) → head_of form rows ≡ Ok head → rest ≡ drop 3 rows
-    → ButMemory error.cause (groups_from 4 rest ≡ Err error) → ButMemory error.cause (opened_from form rows ≡ Err error)
+pub bad_groups : (form : PlanForm) (rows rest : List (List (List ℕ))) (head : PlanHead) (failed : Failed FileFault) → head_of form rows ≡ Ok head → rest ≡ drop 3 rows
+    → Fails (groups_from 4 rest) failed → Fails (opened_from form rows) failed
 unfolding opened_from
-bad_groups form rows rest head error first is wrong =
-    but_memory error.cause (λ (w : groups_from 4 rest ≡ Err error). let found = ap (groups_from 4) (sym is) ∙ w in rw (first, found) refl) wrong
+bad_groups form rows rest head failed first is wrong =
+    fails_too (groups_from 4 rest) (opened_from form rows) failed (λ fault (w : groups_from 4 rest ≡ Err fault). let found = ap (groups_from 4) (sym is) ∙ w in rw (first, found) refl) wrong
 
-pub bad_rows : (form : PlanForm) (rows rest : List (List (List ℕ))) (n : ℕ) (head : PlanHead) (groups : List GroupPlan) (error : FileError) → IsBegun form rows head groups → n ≡ 4 + length groups → rest ≡ drop (3 + length groups) rows
-    → ButMemory error.cause (entries_from form n rest ≡ Err error) → ButMemory error.cause (opened_from form rows ≡ Err error)
+pub bad_rows : (form : PlanForm) (rows rest : List (List (List ℕ))) (n : ℕ) (head : PlanHead) (groups : List GroupPlan) (failed : Failed FileFault) → IsBegun form rows head groups → n ≡ 4 + length groups → rest ≡ drop (3 + length groups) rows
+    → Fails (entries_from form n rest) failed → Fails (opened_from form rows) failed
 unfolding opened_from
-bad_rows form rows rest n head groups error begun number is wrong =
-    but_memory error.cause (λ (w : entries_from form n rest ≡ Err error).
+bad_rows form rows rest n head groups failed begun number is wrong =
+    fails_too (entries_from form n rest) (opened_from form rows) failed (λ fault (w : entries_from form n rest ≡ Err fault).
     let found = ap (entries_from form (4 + length groups)) (sym is) ∙ (ap (λ m. entries_from form m rest) (sym number) ∙ w) in rw (begun.head, begun.groups, found) refl) wrong
 
-pub bad_plan : (form : PlanForm) (rows : List (List (List ℕ))) (head : PlanHead) (groups : List GroupPlan) (entries : List PlanRow) (error : FileError) → IsFormed form rows head groups entries
-    → ButMemory error.cause (stated_plan head groups ≡ Err error) → ButMemory error.cause (opened_from form rows ≡ Err error)
+pub bad_plan : (form : PlanForm) (rows : List (List (List ℕ))) (head : PlanHead) (groups : List GroupPlan) (entries : List PlanRow) (failed : Failed FileFault) → IsFormed form rows head groups entries
+    → Fails (stated_plan head groups) failed → Fails (opened_from form rows) failed
 unfolding opened_from
-bad_plan form rows head groups entries error formed wrong =
-    but_memory error.cause (λ (w : stated_plan head groups ≡ Err error). rw (formed.begun.head, formed.begun.groups, formed.entries, w) refl) wrong
+bad_plan form rows head groups entries failed formed wrong =
+    fails_too (stated_plan head groups) (opened_from form rows) failed (λ fault (w : stated_plan head groups ≡ Err fault). rw (formed.begun.head, formed.begun.groups, formed.entries, w) refl) wrong
 
 pub well_opened : (form : PlanForm) (rows : List (List (List ℕ))) (n : ℕ) (head : PlanHead) (groups : List GroupPlan) (entries : List PlanRow) (plan : PlanView) → IsFormed form rows head groups entries
     → n ≡ 4 + length groups → stated_plan head groups ≡ Ok plan → opened_from form rows ≡ Ok (record { plan = plan; first = n; entries = entries })

@@ -25,7 +25,7 @@ use Rattle.plan_files.specs.Spelling.{first_rows, group_fields, key_fields, lane
 use Rattle.plan_files.specs.declared.entry.PlanRow.{PlanRow}
 use Rattle.plan_files.specs.declared.entry.PlanRow.TheVariants as entry
 use Rattle.plan_files.specs.declared.fault.FileCause.TheVariants as cause
-use Rattle.plan_files.specs.declared.fault.FileError.{FileError}
+use Rattle.plan_files.specs.declared.fault.FileFault.{FileFault}
 use Rattle.plan_files.specs.declared.form.PlanForm.{PlanForm}
 use Rattle.plan_files.specs.declared.form.PlanForm.TheVariants.{Whole, Public}
 use Rattle.plan_files.specs.declared.head.PlanHead.{PlanHead}
@@ -166,11 +166,11 @@ some_read : (n : ℕ) (which : KeyId) (key : Option (List ℕ)) → SmallId whic
 some_read n which None small there good = absurd cc
 some_read n which (Some key) small there good = key_row_read n which key small (good key refl)
 
-after_nil : {A : Type 0} (r : Result (List A) FileError) → r ≡ after [] r
+after_nil : {A : Type 0} (r : Result (List A) FileFault) → r ≡ after [] r
 after_nil (Ok xs) = refl
 after_nil (Err e) = refl
 
-after_cons : {A : Type 0} (x : A) (xs : List A) (r : Result (List A) FileError) → (after xs r >>= (λ more. Ok (x ∷ more))) ≡ after (x ∷ xs) r
+after_cons : {A : Type 0} (x : A) (xs : List A) (r : Result (List A) FileFault) → (after xs r >>= (λ more. Ok (x ∷ more))) ≡ after (x ∷ xs) r
 after_cons x xs (Ok ys) = refl
 after_cons x xs (Err e) = refl
 
@@ -190,7 +190,7 @@ keys_read keys good n m [] rest can same =
     let here : n ≡ m = omega (arith, same) in ap (λ k. entries_from Whole k rest) here ∙ after_nil (entries_from Whole m rest)
 keys_read keys good n m (x ∷ xs) rest can same =
     rw (some_read n x (keys.key x) can.0.small can.0.there (good x))
-    (ap (λ (r : Result (List PlanRow) FileError). r >>= (λ more. Ok (key_entry x (key_or (keys.key x)) ∷ more))) (keys_read keys good (n + 1) m xs rest can.1 (omega (arith, same)))
+    (ap (λ (r : Result (List PlanRow) FileFault). r >>= (λ more. Ok (key_entry x (key_or (keys.key x)) ∷ more))) (keys_read keys good (n + 1) m xs rest can.1 (omega (arith, same)))
     ∙ after_cons (key_entry x (key_or (keys.key x))) (key_entries keys xs) (entries_from Whole m rest))
 
 -- ---- lanes
@@ -212,7 +212,7 @@ lanes_read plan n m (x ∷ xs) rest few good rows same =
     let to : x.to < 2 ^ 32 = few x first in
     let from : x.from < 2 ^ 32 = let o = first.order in omega (arith, o, to) in
     rw (lane_read n plan x rows.0 first from to)
-    (ap (λ (r : Result (List PlanRow) FileError). r >>= (λ more. Ok (entry.Lane x ∷ more))) (lanes_read plan (n + 1) m xs rest few (All-tail (IsLaneOf plan) x xs good) rows.2 (omega (arith, same)))
+    (ap (λ (r : Result (List PlanRow) FileFault). r >>= (λ more. Ok (entry.Lane x ∷ more))) (lanes_read plan (n + 1) m xs rest few (All-tail (IsLaneOf plan) x xs good) rows.2 (omega (arith, same)))
     ∙ after_cons (entry.Lane x) (map entry.Lane xs) (entries_from Whole m rest))
 
 -- ---- members

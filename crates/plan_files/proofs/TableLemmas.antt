@@ -9,17 +9,18 @@ use Rattle.arrayvec.specs.ArrayVec.{ArrayVec}
 use Rattle.group_plan.specs.Plans.{PlanView, size, is_place, is_member}
 use Rattle.group_plan.specs.Tables.{IsReadingTable, IsTable, PutsReading, ReadingsView, Table, absent, reading, table_of}
 use Rattle.std.specs.Result.{result_err}
-use Rattle.plan_files.specs.Faults.{ButMemory, unless}
+use Rattle.plan_files.specs.Faults.{Ends, Fails, unless}
 use Rattle.plan_files.specs.Filling.{FillsRow}
-use Rattle.plan_files.specs.Readings.{ReadingsEnd, Says, readings_by, readings_of, reading_of, reading_or_none, reading_at, reading_in, rows_due, rows_fault}
+use Rattle.plan_files.specs.Readings.{Says, readings_by, readings_of, reading_of, reading_or_none, reading_at, reading_in, rows_due, rows_fault}
 use Rattle.plan_files.specs.RegisterParts.{AreOfPlan, AreReadings, AreTables, FillsTables, KeepsRegisters, PutsFirst, ReadsField, nth, of_register, view_of}
 use Rattle.plan_files.specs.Registers.{register_of, registers_by, tables_of, table, within_ranges, numbers_of}
 use Rattle.plan_files.specs.Rows.{file_rows}
+use Rattle.plan_files.specs.declared.fault.Failed.{Failed}
 use Rattle.plan_files.specs.declared.fault.FileCause.TheVariants as cause
-use Rattle.plan_files.specs.declared.fault.FileError.{FileError}
+use Rattle.plan_files.specs.declared.fault.FileFault.{FileFault}
 use Rattle.group_plan.proofs.TableLemmas.{entry-table_of, entry_outside, is_table-table_of}
 use Rattle.plan_files.proofs.AcceptedFiles.{table_read}
-use Rattle.plan_files.proofs.FormLemmas.{but_memory}
+use Rattle.plan_files.proofs.FormLemmas.{fails_too}
 use Rattle.plan_files.proofs.ReadingLemmas.{FillsRows, filled, fills_more, fills_next_row, fills_no_rows, fills_none}
 use Rattle.plan_files.proofs.RegisterLemmas.{says_one, small_numbers}
 
@@ -226,7 +227,7 @@ again plan f (k ∷ ks) = ap (λ (l : List ReadingsView). read_as plan (f k) ∷
 pub view_again : (plan : PlanView) (count : ℕ) (rows : List (List (List ℕ))) → map (λ t. record { plan = plan; table = t }) (view_of plan (registers_by plan count rows)).tables ≡ registers_by plan count rows
 view_again plan count rows = again plan (λ k. table_of plan (reading_at (register_of count k) plan rows)) (range_with_len 0 count)
 
-well : {X : Type 0} (fault : Option FileError) (value other : X) → unless fault value ≡ Ok other → value ≡ other
+well : {X : Type 0} (fault : Option FileFault) (value other : X) → unless fault value ≡ Ok other → value ≡ other
 well None value other h = cc
 well (Some e) value other h = absurd cc
 
@@ -237,11 +238,11 @@ tables_read plan count bytes tables is = well (rows_fault (register_of count 0) 
 
 -- ---- one register
 
-one_table : {X : Type 0} (fault : Option FileError) (value : X) (tables : List X) → unless fault (value ∷ []) ≡ Ok tables → (tables ≡ value ∷ []) × (unless fault value ≡ Ok value)
+one_table : {X : Type 0} (fault : Option FileFault) (value : X) (tables : List X) → unless fault (value ∷ []) ≡ Ok tables → (tables ≡ value ∷ []) × (unless fault value ≡ Ok value)
 one_table None value tables h = (cc, refl)
 one_table (Some e) value tables h = absurd cc
 
-one_fault : {X : Type 0} (fault : Option FileError) (value : X) (e : FileError) → unless fault (value ∷ []) ≡ Err e → unless fault value ≡ Err e
+one_fault : {X : Type 0} (fault : Option FileFault) (value : X) (e : FileFault) → unless fault (value ∷ []) ≡ Err e → unless fault value ≡ Err e
 one_fault None value e h = absurd cc
 one_fault (Some f) value e h = cc
 
@@ -261,7 +262,7 @@ pub one_long : (plan : PlanView) (bytes : List ℕ) (tables : List ReadingsView)
 one_long plan bytes tables is =
     ap length (one_table (rows_fault reading_of plan 0 (file_rows bytes)) (readings_by reading_of plan (file_rows bytes)) tables (sym (single plan bytes) ∙ is)).0
 
-pub one_fault_is : (plan : PlanView) (bytes : List ℕ) (e : FileError) → tables_of plan 1 bytes ≡ Err e → readings_of plan bytes ≡ Err e
+pub one_fault_is : (plan : PlanView) (bytes : List ℕ) (e : FileFault) → tables_of plan 1 bytes ≡ Err e → readings_of plan bytes ≡ Err e
 unfolding readings_of
 one_fault_is plan bytes e is = one_fault (rows_fault reading_of plan 0 (file_rows bytes)) (readings_by reading_of plan (file_rows bytes)) e (sym (single plan bytes) ∙ is)
 
@@ -278,12 +279,12 @@ shapes plan rows n count tables all are k lt =
     subst (λ (p : PlanView). IsTable p (nth plan tables k).table) (all.of_plan k within) (are (absent plan) k within).shape
 
 -- the readings are refused as the tables are
-pub readings_fail : (plan : PlanView) (bytes : List ℕ) (fault : FileError) (read : Result ReadingsView FileError) → Some fault ≡ result_err read
-    → ButMemory fault.cause (tables_of plan 1 bytes ≡ Err fault) → ReadingsEnd plan bytes read
-readings_fail plan bytes fault (Ok readings) is wrong = cc is
-readings_fail plan bytes fault (Err e) is wrong =
-    let same : fault ≡ e = cc in
-    subst (λ (x : FileError). ButMemory x.cause (readings_of plan bytes ≡ Err x)) same (but_memory fault.cause (one_fault_is plan bytes fault) wrong)
+pub readings_fail : (plan : PlanView) (bytes : List ℕ) (failed : Failed FileFault) (read : Result ReadingsView (Failed FileFault)) → Some failed ≡ result_err read → Fails (tables_of plan 1 bytes) failed
+    → Ends (readings_of plan bytes) read
+readings_fail plan bytes failed (Ok readings) is wrong = cc is
+readings_fail plan bytes failed (Err e) is wrong =
+    let same : failed ≡ e = cc in
+    subst (λ (x : Failed FileFault). Fails (readings_of plan bytes) x) same (fails_too (tables_of plan 1 bytes) (readings_of plan bytes) failed (one_fault_is plan bytes) wrong)
 
 -- the last of one table is the first
 pub single_table : (tables rest : List ReadingsView) (last : ReadingsView) → tables ≡ rest ++ last ∷ [] → length tables ≡ 1 → last ≡ get_or tables 0 last

@@ -17,7 +17,7 @@ use Rattle.plan_files.specs.PlanRows.{entry_of, has_fields, key_in, key_or_lane,
 use Rattle.plan_files.specs.WrittenKeys.{AddsRows, IsKeyPart, IsKeyRow, IsNumberPart}
 use Rattle.plan_files.specs.declared.entry.PlanRow.{PlanRow}
 use Rattle.plan_files.specs.declared.entry.PlanRow.TheVariants as entry
-use Rattle.plan_files.specs.declared.fault.FileError.{FileError}
+use Rattle.plan_files.specs.declared.fault.FileFault.{FileFault}
 use Rattle.plan_files.specs.declared.form.PlanForm.{PlanForm}
 use Rattle.plan_files.specs.declared.form.PlanForm.TheVariants.{Whole}
 use Rattle.plan_files.proofs.PlainRowLemmas.{reads_row}
@@ -178,15 +178,15 @@ pair_read bytes behind_group behind_low behind_high key rest g low high group fi
 
 -- ---- rows in turn
 
-after_one : (x : PlanRow) (r : Result (List PlanRow) FileError) → r >>= (λ more. Ok (x ∷ more)) ≡ after (x ∷ []) r
+after_one : (x : PlanRow) (r : Result (List PlanRow) FileFault) → r >>= (λ more. Ok (x ∷ more)) ≡ after (x ∷ []) r
 after_one x (Ok more) = refl
 after_one x (Err fault) = refl
 
-after_none : (r : Result (List PlanRow) FileError) → r ≡ after [] r
+after_none : (r : Result (List PlanRow) FileFault) → r ≡ after [] r
 after_none (Ok more) = refl
 after_none (Err fault) = refl
 
-after_twice : (xs ys : List PlanRow) (r : Result (List PlanRow) FileError) → after xs (after ys r) ≡ after (xs ++ ys) r
+after_twice : (xs ys : List PlanRow) (r : Result (List PlanRow) FileFault) → after xs (after ys r) ≡ after (xs ++ ys) r
 after_twice xs ys (Ok more) = ap Ok (sym (append_assoc xs ys more))
 after_twice xs ys (Err fault) = refl
 

@@ -11,12 +11,13 @@ use Rattle.pair_keys.specs.Keys.{Keys, keys_of, no_keys, with_key}
 use Rattle.pair_keys.specs.declared.KeyError.TheVariants as of_key
 use Rattle.pair_keys.specs.declared.KeyId.{KeyId}
 use Rattle.pair_keys.specs.declared.KeyId.TheVariants as id
-use Rattle.plan_files.specs.Faults.{◌>>=◌, ButMemory, at_row}
+use Rattle.plan_files.specs.Faults.{◌>>=◌, Fails, at_row}
 use Rattle.plan_files.specs.declared.entry.PlanRow.{PlanRow}
 use Rattle.plan_files.specs.declared.entry.PlanRow.TheVariants as entry
+use Rattle.plan_files.specs.declared.fault.Failed.{Failed}
 use Rattle.plan_files.specs.declared.fault.FileCause.{FileCause}
 use Rattle.plan_files.specs.declared.fault.FileCause.TheVariants as cause
-use Rattle.plan_files.specs.declared.fault.FileError.{FileError}
+use Rattle.plan_files.specs.declared.fault.FileFault.{FileFault}
 use Rattle.plan_files.specs.declared.gathering.Gathering.{Gathering}
 
 -- ---- members
@@ -86,7 +87,7 @@ take_entry last fault before (entry.Member span) = do
   Ok (record before { members = before.members + 1 })
 
 -- all these rows more, of which the first is row n of the file, up to the first that is refused
-unfoldable pub gather : ℕ → Option SpanError → ℕ → Gathered → List PlanRow → Result Gathered FileError
+unfoldable pub gather : ℕ → Option SpanError → ℕ → Gathered → List PlanRow → Result Gathered FileFault
 gather last fault n before [] = Ok before
 gather last fault n before (entry ∷ entries) = do
   more ← at_row n (take_entry last fault before entry)
@@ -104,11 +105,11 @@ PutsKey keys which key (Ok done) new = put_key keys which key ≡ Ok new
 PutsKey keys which key (Err what) new = put_key keys which key ≡ Err what
 
 -- a lane is hung, or refused; want of memory is free
-abbrev pub HangsLane : List LaneRow → LaneRow → ℕ → Result (Unit {0}) FileCause → List LaneRow → Type 0
+abbrev pub HangsLane : List LaneRow → LaneRow → ℕ → Result (Unit {0}) (Failed FileCause) → List LaneRow → Type 0
 HangsLane lanes lane last (Ok done) new = hang_lane last lanes lane ≡ Ok new
-HangsLane lanes lane last (Err what) new = ButMemory what (hang_lane last lanes lane ≡ Err what)
+HangsLane lanes lane last (Err failed) new = Fails (hang_lane last lanes lane) failed
 
 -- a row is taken, or refused; want of memory is free
-abbrev pub TakesEntry : ℕ → Option SpanError → Gathered → PlanRow → Result (Unit {0}) FileCause → Gathered → Type 0
+abbrev pub TakesEntry : ℕ → Option SpanError → Gathered → PlanRow → Result (Unit {0}) (Failed FileCause) → Gathered → Type 0
 TakesEntry last fault before entry (Ok done) after = take_entry last fault before entry ≡ Ok after
-TakesEntry last fault before entry (Err what) after = ButMemory what (take_entry last fault before entry ≡ Err what)
+TakesEntry last fault before entry (Err failed) after = Fails (take_entry last fault before entry) failed

@@ -1,15 +1,15 @@
 -- The readings file of a plan: one row for each group and round, ordered by group and then by round.
-use Rattle.std.specs.Prelude.{◌≡◌, ℕ, ◌+◌, ◌*◌, ◌/◌, ◌%◌, ◌^◌, ◌==◌, ◌&&◌, not, nat_lt, if◌then◌else◌, Bool, false, List, [], ◌∷◌, length, drop, bytes_eq, slice_index_or, Option, Some, None, Result, Ok, Err}
+use Rattle.std.specs.Prelude.{ℕ, ◌+◌, ◌*◌, ◌/◌, ◌%◌, ◌^◌, ◌==◌, ◌&&◌, not, nat_lt, if◌then◌else◌, Bool, false, List, [], ◌∷◌, length, drop, bytes_eq, slice_index_or, Option, Some, None, Result, Ok, Err}
 use Rattle.std.specs.Option.{option_map, option_or}
 use Rattle.std.specs.Result.{result_err}
 use Rattle.field_texts.specs.Numbers.{number_of, within}
 use Rattle.group_plan.specs.Plans.{PlanView, size, name_of, is_member}
 use Rattle.group_plan.specs.Tables.{ReadingsView, table_of}
-use Rattle.plan_files.specs.Faults.{ButMemory, in_row, unless}
+use Rattle.plan_files.specs.Faults.{in_row, unless}
 use Rattle.plan_files.specs.Rows.{file_rows}
 use Rattle.plan_files.specs.declared.fault.FileCause.{FileCause}
 use Rattle.plan_files.specs.declared.fault.FileCause.TheVariants as cause
-use Rattle.plan_files.specs.declared.fault.FileError.{FileError}
+use Rattle.plan_files.specs.declared.fault.FileFault.{FileFault}
 
 -- a member's number as a reading, in watt-hours
 abbrev pub within_range : Option ℕ → Result (Option ℕ) FileCause
@@ -53,7 +53,7 @@ abbrev pub rows_due : PlanView → ℕ
 rows_due plan = length plan.groups * plan.rounds
 
 -- the first fault of the rows that come after k others
-unfoldable pub rows_fault : Says → PlanView → ℕ → List (List (List ℕ)) → Option FileError
+unfoldable pub rows_fault : Says → PlanView → ℕ → List (List (List ℕ)) → Option FileFault
 rows_fault says plan k [] = if nat_lt k (rows_due plan) then Some (in_row (k + 1) cause.Short) else None
 rows_fault says plan k (row ∷ rows) =
     if nat_lt k (rows_due plan)
@@ -78,10 +78,5 @@ abbrev pub readings_by : Says → PlanView → List (List (List ℕ)) → Readin
 readings_by says plan rows = record { plan = plan; table = table_of plan (reading_at says plan rows) }
 
 -- the readings that the bytes of a file say of a plan, or its first fault
-unfoldable pub readings_of : PlanView → List ℕ → Result ReadingsView FileError
+unfoldable pub readings_of : PlanView → List ℕ → Result ReadingsView FileFault
 readings_of plan bytes = unless (rows_fault reading_of plan 0 (file_rows bytes)) (readings_by reading_of plan (file_rows bytes))
-
--- how the reading of a readings file ends
-abbrev pub ReadingsEnd : PlanView → List ℕ → Result ReadingsView FileError → Type 0
-ReadingsEnd plan bytes (Ok readings) = readings_of plan bytes ≡ Ok readings
-ReadingsEnd plan bytes (Err fault) = ButMemory fault.cause (readings_of plan bytes ≡ Err fault)

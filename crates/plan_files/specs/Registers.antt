@@ -6,12 +6,13 @@ use Rattle.field_texts.specs.Parts.{parts}
 use Rattle.field_texts.specs.Sets.{with_first}
 use Rattle.group_plan.specs.Plans.{PlanView}
 use Rattle.group_plan.specs.Tables.{IsReadingTable, ReadingsView, Table, reading}
-use Rattle.plan_files.specs.Faults.{ButMemory, unless}
+use Rattle.plan_files.specs.Faults.{Fails, unless}
 use Rattle.plan_files.specs.Readings.{readings_by, rows_fault}
 use Rattle.plan_files.specs.Rows.{file_rows}
+use Rattle.plan_files.specs.declared.fault.Failed.{Failed}
 use Rattle.plan_files.specs.declared.fault.FileCause.{FileCause}
 use Rattle.plan_files.specs.declared.fault.FileCause.TheVariants as cause
-use Rattle.plan_files.specs.declared.fault.FileError.{FileError}
+use Rattle.plan_files.specs.declared.fault.FileFault.{FileFault}
 
 -- ---- the type
 
@@ -59,12 +60,16 @@ register_of count k member text =
 abbrev pub registers_by : PlanView → ℕ → List (List (List ℕ)) → List ReadingsView
 registers_by plan count rows = map (λ k. readings_by (register_of count k) plan rows) (range_with_len 0 count)
 
--- the readings of each of so many registers that the bytes of a file say of a plan, or its first fault
-unfoldable pub tables_of : PlanView → ℕ → List ℕ → Result (List ReadingsView) FileError
-tables_of plan count bytes = unless (rows_fault (register_of count 0) plan 0 (file_rows bytes)) (registers_by plan count (file_rows bytes))
+-- the readings of each of so many registers that the rows say of a plan, or the first fault
+abbrev pub rows_say : PlanView → ℕ → List (List (List ℕ)) → Result (List ReadingsView) FileFault
+rows_say plan count rows = unless (rows_fault (register_of count 0) plan 0 rows) (registers_by plan count rows)
+
+-- the same of the bytes of a file
+unfoldable pub tables_of : PlanView → ℕ → List ℕ → Result (List ReadingsView) FileFault
+tables_of plan count bytes = rows_say plan count (file_rows bytes)
 
 -- how the reading of so many registers ends; want of memory is free
-abbrev pub RegistersEnd : PlanView → ℕ → List ℕ → Result RegistersView FileError → Type 0
+abbrev pub RegistersEnd : PlanView → ℕ → List ℕ → Result RegistersView (Failed FileFault) → Type 0
 RegistersEnd plan count bytes (Ok registers) =
     (registers.plan ≡ plan) × (tables_of plan count bytes ≡ Ok (map (λ t. record { plan = plan; table = t }) registers.tables))
-RegistersEnd plan count bytes (Err fault) = ButMemory fault.cause (tables_of plan count bytes ≡ Err fault)
+RegistersEnd plan count bytes (Err failed) = Fails (tables_of plan count bytes) failed

@@ -1,13 +1,13 @@
 //! The rows of a plan file after the groups: keys, lanes and members.
 ghost use Rattle.std.specs.Prelude.{◌≡◌, ◌<◌, ◌≤◌, ◌+◌, ◌^◌, ◌∷◌, [], IfErr, IfOk, OnOk, Ok, Err, length};
-ghost use Rattle.plan_files.specs.Faults.{Answers, ButMemory, IsWantOfMemory};
+ghost use Rattle.plan_files.specs.Faults.{Ends, Fails};
 ghost use Rattle.plan_files.specs.KeptRows.{IsKept, fields_in};
 ghost use Rattle.plan_files.specs.PlanForms.{entries_from};
 ghost use Rattle.plan_files.specs.PlanRows.{arg_in, entry_of, key_or_lane, lane_row, member_row, own_row, pair_row};
 ghost use Rattle.plan_files.specs.RowsLeft.{IsSound, rows_left};
 ghost use Rattle.plan_files.specs.WrittenKeys.{AddsRows};
 
-use crate::fault::{FileCause, FileError, NO_MEMORY};
+use crate::fault::{Failed, FileCause, FileFault};
 use crate::fields::{is_quoted, plain_end, read_quoted};
 use crate::form::PlanForm;
 use crate::kept_row::FileRow;
@@ -16,7 +16,7 @@ use crate::row::{check_fields, is_word, key_field, name_field, number_field};
 use crate::row_reader::RowReader;
 use group_plan::Span;
 use link_lanes::{Arg, ArgError, LaneRow};
-use std::alloc::Global;
+use std::alloc::{AllocError, Global};
 
 /// What a row after the groups says.
 #[derive(Drop)]
@@ -93,38 +93,36 @@ fn member_row(row: &FileRow<'_>) -> Result<PlanRow, FileCause>
 
 /// The argument that a text is.
 #[tactic(auto, unfolding(crate::specs::PlanRows::arg_in))]
-fn arg_of(alloc: Global, text: &[u8]) -> Result<Arg, FileCause>
-    ensures { Answers (arg_in (text.now ∷ []) 0) result }
+fn arg_of(alloc: Global, text: &[u8]) -> Result<Arg, Failed<FileCause>>
+    ensures { Ends (arg_in (text.now ∷ []) 0) result }
 {
     match Arg::new(alloc, text) {
         Ok(arg) => Ok(arg),
-        Err(ArgError::Byte(_)) => Err(FileCause::Name),
-        Err(ArgError::Memory) => Err(FileCause::Memory),
+        Err(ArgError::Byte(_)) => Err(Failed::Fault(FileCause::Name)),
+        Err(ArgError::Memory) => Err(Failed::Memory),
     }
 }
 
 /// The argument in the third field.
-fn arg_field(alloc: Global, row: &FileRow<'_>) -> Result<Arg, FileCause>
+fn arg_field(alloc: Global, row: &FileRow<'_>) -> Result<Arg, Failed<FileCause>>
     requires kept { IsKept row.now }
     requires long { 2 < length (fields_in row.now) }
-    ensures { Answers (arg_in (fields_in row.now) 2) result }
+    ensures { Ends (arg_in (fields_in row.now) 2) result }
 {
     let bytes = row.third;
     if !is_quoted(bytes) {
         return arg_of(alloc, &bytes[..plain_end(bytes)]);
     }
     let mut text = Vec::new(alloc);
-    match read_quoted(&mut text, bytes, bytes.len()) {
-        Ok(_) => arg_of(alloc, &text),
-        Err(_) => Err(FileCause::Memory),
-    }
+    read_quoted(&mut text, bytes, bytes.len())?;
+    arg_of(alloc, &text)
 }
 
 /// What a row `lane,NAME,ARGUMENT,FROM,TO` says. The number is the row's in the file.
 #[tactic(auto, unfolding(crate::specs::PlanRows::lane_row))]
-fn lane_row(alloc: Global, number: u32, row: &FileRow<'_>) -> Result<PlanRow, FileCause>
+fn lane_row(alloc: Global, number: u32, row: &FileRow<'_>) -> Result<PlanRow, Failed<FileCause>>
     requires kept { IsKept row.now }
-    ensures { Answers (lane_row number (fields_in row.now)) result }
+    ensures { Ends (lane_row number (fields_in row.now)) result }
 {
     check_fields(row, 5)?;
     let name = name_field(row, 1)?;
@@ -142,18 +140,18 @@ fn lane_row(alloc: Global, number: u32, row: &FileRow<'_>) -> Result<PlanRow, Fi
 
 /// What a row of a key or a lane says. The number is the row's in the file.
 #[tactic(auto, unfolding(crate::specs::PlanRows::key_or_lane))]
-fn key_or_lane(alloc: Global, number: u32, row: &FileRow<'_>) -> Result<PlanRow, FileCause>
+fn key_or_lane(alloc: Global, number: u32, row: &FileRow<'_>) -> Result<PlanRow, Failed<FileCause>>
     requires kept { IsKept row.now }
-    ensures { Answers (key_or_lane number (fields_in row.now)) result }
+    ensures { Ends (key_or_lane number (fields_in row.now)) result }
 {
     if is_word(row, 0, b"own") {
-        own_row(row)
+        Ok(own_row(row)?)
     } else if is_word(row, 0, b"pair") {
-        pair_row(row)
+        Ok(pair_row(row)?)
     } else if is_word(row, 0, b"lane") {
         lane_row(alloc, number, row)
     } else {
-        Err(FileCause::Row)
+        Err(Failed::Fault(FileCause::Row))
     }
 }
 
@@ -164,16 +162,16 @@ pub fn read_entry(
     form: PlanForm,
     number: u32,
     row: &FileRow<'_>,
-) -> Result<PlanRow, FileCause>
+) -> Result<PlanRow, Failed<FileCause>>
     requires kept { IsKept row.now }
-    ensures { Answers (entry_of form number (fields_in row.now)) result }
+    ensures { Ends (entry_of form number (fields_in row.now)) result }
 {
     if is_word(row, 0, b"member") {
-        return member_row(row);
+        return Ok(member_row(row)?);
     }
     match form {
         PlanForm::Whole => key_or_lane(alloc, number, row),
-        PlanForm::Public => Err(FileCause::Row),
+        PlanForm::Public => Err(Failed::Fault(FileCause::Row)),
     }
 }
 
@@ -182,19 +180,16 @@ fn add_keys(
     form: PlanForm,
     rows: &mut RowReader<'_>,
     entries: &mut Vec<PlanRow>,
-) -> Result<(), FileError>
+) -> Result<(), AllocError>
     requires sound { IsSound rows.old }
     ensures added { OnOk result (AddsRows form (rows_left rows.old) (rows_left rows.new) entries.old.items entries.new.items) }
     ensures sound { OnOk result (IsSound rows.new) }
-    ensures fault { IfErr result (λ fault. IsWantOfMemory fault) }
 {
     match form {
         PlanForm::Public => Ok(()),
         PlanForm::Whole => {
             let before = entries.len();
-            let Ok(rest) = take_keys(entries, rows.bytes()) else {
-                return Err(NO_MEMORY);
-            };
+            let rest = take_keys(entries, rows.bytes())?;
             if entries.len() == before {
                 return Ok(());
             }
@@ -209,24 +204,20 @@ pub fn read_entries(
     form: PlanForm,
     first: u32,
     rows: &mut RowReader<'_>,
-) -> Result<Vec<PlanRow>, FileError>
+) -> Result<Vec<PlanRow>, Failed<FileFault>>
     requires sound { IsSound rows.old }
     requires few { first + length (rows_left rows.old) ≤ 2 ^ 28 + 2 }
     ensures read { IfOk result (λ entries. entries_from form first (rows_left rows.old) ≡ Ok entries.items) }
     ensures few { IfOk result (λ entries. length entries.items ≤ length (rows_left rows.old)) }
-    ensures fault { IfErr result (λ fault. ButMemory fault.cause (entries_from form first (rows_left rows.old) ≡ Err fault)) }
+    ensures fault { IfErr result (λ failed. Fails (entries_from form first (rows_left rows.old)) failed) }
 {
     let mut entries = Vec::new(alloc);
     add_keys(form, rows, &mut entries)?;
     while let Some(row) = rows.current() {
         let number = first + entries.len() as u32;
         match read_entry(alloc, form, number, row) {
-            Ok(entry) => {
-                if entries.push(entry).is_err() {
-                    return Err(NO_MEMORY);
-                }
-            }
-            Err(cause) => return Err(FileError { row: number, cause }),
+            Ok(entry) => entries.push(entry)?,
+            Err(failed) => return Err(failed.in_row(number)),
         }
         rows.advance()?;
         add_keys(form, rows, &mut entries)?;

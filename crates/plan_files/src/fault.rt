@@ -2,10 +2,11 @@
 
 use group_plan::{PlanError, SpanError};
 use pair_keys::KeyError;
+use std::alloc::{AllocError, AllocFailed};
 
 /// The first fault of a file.
 #[derive(Clone, Copy, Debug, PartialEq, Eq)]
-pub struct FileError {
+pub struct FileFault {
     /// The row, counted from 1 among the rows that `csv` gives; 0 is the file as a whole.
     pub row: u32,
     pub cause: FileCause,
@@ -37,30 +38,76 @@ pub enum FileCause {
     Short,
     /// The file has this row after its last.
     Extra,
-    /// Memory ran out.
-    Memory,
     /// The row's span has this fault, at this place among those of the file.
     Member(SpanError),
     /// The first faulty field is a reading of a meter that is no member in the round.
     NotMember,
 }
 
-/// Want of memory.
-pub const NO_MEMORY: FileError = FileError {
-    row: 0,
-    cause: FileCause::Memory,
-};
+/// Why something has no answer.
+#[derive(Clone, Copy, Debug, PartialEq, Eq)]
+pub enum Failed<E> {
+    /// Memory ran out.
+    Memory,
+    /// This is wrong.
+    Fault(E),
+}
 
-impl From<PlanError> for FileCause {
+impl Failed<FileCause> {
     ghost use Rattle.std.specs.Prelude.{◌≡◌};
-    ghost use Rattle.plan_files.specs.Faults.{plan_cause};
+    ghost use Rattle.plan_files.specs.Faults.{failed_in_row};
 
-    ghost from_gives = { λ error cause. cause ≡ plan_cause error };
-
-    fn from(error: PlanError) -> FileCause {
-        match error {
-            PlanError::Memory => FileCause::Memory,
-            other => FileCause::Plan(other),
+    /// A failure of a row as the file's.
+    pub(crate) fn in_row(self, row: u32) -> Failed<FileFault>
+        ensures { result ≡ failed_in_row row self }
+    {
+        match self {
+            Failed::Memory => Failed::Memory,
+            Failed::Fault(cause) => Failed::Fault(FileFault { row, cause }),
         }
+    }
+}
+
+impl<E> From<AllocError> for Failed<E> {
+    ghost use Rattle.std.specs.Prelude.{◌≡◌};
+    ghost use Rattle.plan_files.specs.declared.fault.Failed.TheVariants.{Memory};
+
+    ghost from_gives = { λ _ failed. failed ≡ Memory };
+
+    fn from(_: AllocError) -> Failed<E> {
+        Failed::Memory
+    }
+}
+
+impl<T: Drop, E> From<AllocFailed<T>> for Failed<E> {
+    ghost use Rattle.std.specs.Prelude.{◌≡◌};
+    ghost use Rattle.plan_files.specs.declared.fault.Failed.TheVariants.{Memory};
+
+    ghost from_gives = { λ _ failed. failed ≡ Memory };
+
+    fn from(_: AllocFailed<T>) -> Failed<E> {
+        Failed::Memory
+    }
+}
+
+impl From<FileFault> for Failed<FileFault> {
+    ghost use Rattle.std.specs.Prelude.{◌≡◌};
+    ghost use Rattle.plan_files.specs.declared.fault.Failed.TheVariants.{Fault};
+
+    ghost from_gives = { λ fault failed. failed ≡ Fault fault };
+
+    fn from(fault: FileFault) -> Failed<FileFault> {
+        Failed::Fault(fault)
+    }
+}
+
+impl From<FileCause> for Failed<FileCause> {
+    ghost use Rattle.std.specs.Prelude.{◌≡◌};
+    ghost use Rattle.plan_files.specs.declared.fault.Failed.TheVariants.{Fault};
+
+    ghost from_gives = { λ cause failed. failed ≡ Fault cause };
+
+    fn from(cause: FileCause) -> Failed<FileCause> {
+        Failed::Fault(cause)
     }
 }

@@ -1,13 +1,13 @@
 //! Keys, lanes and members, row by row.
-ghost use Rattle.std.specs.Prelude.{◌≡◌, ◌≤◌, ◌<◌, ◌+◌, ◌^◌, IfErr, IfOk, Ok, Err, length};
+ghost use Rattle.std.specs.Prelude.{◌≡◌, ◌≤◌, ◌<◌, ◌+◌, ◌^◌, IfErr, IfOk, Ok, length};
 ghost use Rattle.group_plan.specs.Plans.{last_tick};
 ghost use Rattle.pair_keys.specs.Keys.{keys_of};
 ghost use Rattle.pair_keys.specs.declared.KeyId.TheVariants.{Own, Pair};
-ghost use Rattle.plan_files.specs.Faults.{ButMemory};
+ghost use Rattle.plan_files.specs.Faults.{Fails};
 ghost use Rattle.plan_files.specs.Gathering.{HangsLane, PutsKey, Settles, TakesEntry, gather, gathered_by, member_fault, nothing, spans_of};
 
 use crate::entry::PlanRow;
-use crate::fault::{FileCause, FileError, NO_MEMORY};
+use crate::fault::{Failed, FileCause, FileFault};
 use group_plan::{Plan, Span, SpanError};
 use link_lanes::LaneRow;
 use pair_keys::KeyPile;
@@ -74,15 +74,17 @@ fn put_pair(
 
 /// Adds the lane of a row, where its ticks are within the plan's.
 #[tactic(auto, unfolding(crate::specs::Gathering::hang_lane))]
-fn hang_lane(lanes: &mut Vec<LaneRow>, lane: LaneRow, last_tick: u32) -> Result<(), FileCause>
+fn hang_lane(
+    lanes: &mut Vec<LaneRow>,
+    lane: LaneRow,
+    last_tick: u32,
+) -> Result<(), Failed<FileCause>>
     ensures { HangsLane lanes.old.items lane last_tick result lanes.new.items }
 {
     if lane.from > lane.to || lane.to > last_tick {
-        return Err(FileCause::LaneSpan);
+        return Err(Failed::Fault(FileCause::LaneSpan));
     }
-    if lanes.push(lane).is_err() {
-        return Err(FileCause::Memory);
-    }
+    lanes.push(lane)?;
     Ok(())
 }
 
@@ -104,19 +106,19 @@ impl Gathering {
         entry: PlanRow,
         last_tick: u32,
         fault: Option<SpanError>,
-    ) -> Result<(), FileCause>
+    ) -> Result<(), Failed<FileCause>>
         requires { self.old.members < 2 ^ 31 }
         ensures taken { TakesEntry last_tick fault (gathered_by self.old) entry result (gathered_by self.new) }
         ensures few { self.new.members ≤ self.old.members + 1 }
     {
         match entry {
-            PlanRow::Own { group, meter, key } => put_own(&mut self.keys, group, meter, key),
+            PlanRow::Own { group, meter, key } => Ok(put_own(&mut self.keys, group, meter, key)?),
             PlanRow::Pair {
                 group,
                 low,
                 high,
                 key,
-            } => put_pair(&mut self.keys, group, low, high, key),
+            } => Ok(put_pair(&mut self.keys, group, low, high, key)?),
             PlanRow::Lane(lane) => hang_lane(&mut self.lanes, lane, last_tick),
             PlanRow::Member(_) => {
                 check_member(fault, self.members)?;
@@ -135,15 +137,13 @@ pub fn gather(
     fault: Option<SpanError>,
     first: u32,
     entries: Vec<PlanRow>,
-) -> Result<Gathering, FileError>
+) -> Result<Gathering, Failed<FileFault>>
     requires { first + length entries.items ≤ 2 ^ 28 + 2 }
     ensures whole { IfOk result (λ gathering. gather (last_tick plan.now) fault first (nothing plan.now) entries.items ≡ Ok (gathered_by gathering)) }
-    ensures refused { IfErr result (λ error. ButMemory error.cause (gather (last_tick plan.now) fault first (nothing plan.now) entries.items ≡ Err error)) }
+    ensures refused { IfErr result (λ failed. Fails (gather (last_tick plan.now) fault first (nothing plan.now) entries.items) failed) }
 {
     let last_tick = plan.last_tick();
-    let Ok(keys) = KeyPile::new(alloc, plan) else {
-        return Err(NO_MEMORY);
-    };
+    let keys = KeyPile::new(alloc, plan)?;
     let mut gathering = Gathering {
         keys,
         lanes: Vec::new(alloc),
@@ -151,8 +151,8 @@ pub fn gather(
     };
     let mut number = first;
     for entry in entries {
-        if let Err(cause) = gathering.take(entry, last_tick, fault) {
-            return Err(FileError { row: number, cause });
+        if let Err(failed) = gathering.take(entry, last_tick, fault) {
+            return Err(failed.in_row(number));
         }
         number += 1;
     }

@@ -1,12 +1,12 @@
 //! The first rows of a plan file: its version, its rounds and windows, and its groups.
-ghost use Rattle.std.specs.Prelude.{◌≡◌, ◌≤◌, ◌+◌, ◌^◌, IfErr, IfOk, OnOk, Ok, Err, drop, length};
-ghost use Rattle.plan_files.specs.Faults.{ButMemory};
+ghost use Rattle.std.specs.Prelude.{◌≡◌, ◌≤◌, ◌+◌, ◌^◌, IfErr, IfOk, OnOk, Ok, drop, length};
+ghost use Rattle.plan_files.specs.Faults.{Fails};
 ghost use Rattle.plan_files.specs.KeptRows.{IsKept, fields_in};
 ghost use Rattle.plan_files.specs.PlanForms.{first_due, groups_from, head_of};
 ghost use Rattle.plan_files.specs.PlanRows.{group_row, rounds_row, version_row, windows_row};
 ghost use Rattle.plan_files.specs.RowsLeft.{IsSound, rows_left};
 
-use crate::fault::{FileCause, FileError, NO_MEMORY};
+use crate::fault::{Failed, FileCause, FileFault};
 use crate::form::PlanForm;
 use crate::kept_row::FileRow;
 use crate::row::{check_fields, is_long, is_word, name_field, number_field};
@@ -87,63 +87,63 @@ fn read_group(row: &FileRow<'_>) -> Result<GroupPlan, FileCause>
 }
 
 /// Whether the file starts with its version.
-fn check_first_row(form: PlanForm, rows: &RowReader<'_>) -> Result<(), FileError>
+fn check_first_row(form: PlanForm, rows: &RowReader<'_>) -> Result<(), FileFault>
     requires { IsSound rows.now }
     ensures { result ≡ first_due (version_row form) 1 (rows_left rows.now) }
 {
     let Some(row) = rows.current() else {
-        return Err(FileError {
+        return Err(FileFault {
             row: 1,
             cause: FileCause::Short,
         });
     };
     match check_version(form, row) {
         Ok(()) => Ok(()),
-        Err(cause) => Err(FileError { row: 1, cause }),
+        Err(cause) => Err(FileFault { row: 1, cause }),
     }
 }
 
 /// The rounds of the plan, in its second row.
-fn read_second_row(rows: &RowReader<'_>) -> Result<u32, FileError>
+fn read_second_row(rows: &RowReader<'_>) -> Result<u32, FileFault>
     requires { IsSound rows.now }
     ensures { result ≡ first_due rounds_row 2 (rows_left rows.now) }
 {
     let Some(row) = rows.current() else {
-        return Err(FileError {
+        return Err(FileFault {
             row: 2,
             cause: FileCause::Short,
         });
     };
     match read_rounds(row) {
         Ok(rounds) => Ok(rounds),
-        Err(cause) => Err(FileError { row: 2, cause }),
+        Err(cause) => Err(FileFault { row: 2, cause }),
     }
 }
 
 /// The windows of the plan, in its third row.
-fn read_third_row(rows: &RowReader<'_>) -> Result<Windows, FileError>
+fn read_third_row(rows: &RowReader<'_>) -> Result<Windows, FileFault>
     requires { IsSound rows.now }
     ensures { result ≡ first_due windows_row 3 (rows_left rows.now) }
 {
     let Some(row) = rows.current() else {
-        return Err(FileError {
+        return Err(FileFault {
             row: 3,
             cause: FileCause::Short,
         });
     };
     match read_windows(row) {
         Ok(windows) => Ok(windows),
-        Err(cause) => Err(FileError { row: 3, cause }),
+        Err(cause) => Err(FileFault { row: 3, cause }),
     }
 }
 
 /// What the first three rows say.
-pub fn read_head(form: PlanForm, rows: &mut RowReader<'_>) -> Result<PlanHead, FileError>
+pub fn read_head(form: PlanForm, rows: &mut RowReader<'_>) -> Result<PlanHead, Failed<FileFault>>
     requires { IsSound rows.old }
     ensures read { IfOk result (λ head. head_of form (rows_left rows.old) ≡ Ok head) }
     ensures rest { OnOk result (rows_left rows.new ≡ drop 3 (rows_left rows.old)) }
     ensures sound { OnOk result (IsSound rows.new) }
-    ensures fault { IfErr result (λ fault. ButMemory fault.cause (head_of form (rows_left rows.old) ≡ Err fault)) }
+    ensures fault { IfErr result (λ failed. Fails (head_of form (rows_left rows.old)) failed) }
 {
     check_first_row(form, rows)?;
     rows.advance()?;
@@ -155,14 +155,17 @@ pub fn read_head(form: PlanForm, rows: &mut RowReader<'_>) -> Result<PlanHead, F
 }
 
 /// The group rows with which these rows start. The first of these is row 4 of the file.
-pub fn read_groups(alloc: Global, rows: &mut RowReader<'_>) -> Result<Vec<GroupPlan>, FileError>
+pub fn read_groups(
+    alloc: Global,
+    rows: &mut RowReader<'_>,
+) -> Result<Vec<GroupPlan>, Failed<FileFault>>
     requires sound { IsSound rows.old }
     requires few { length (rows_left rows.old) ≤ 2 ^ 28 + 1 }
     ensures read { IfOk result (λ groups. groups_from 4 (rows_left rows.old) ≡ Ok groups.items) }
     ensures few { IfOk result (λ groups. length groups.items ≤ length (rows_left rows.old)) }
     ensures rest { IfOk result (λ groups. rows_left rows.new ≡ drop (length groups.items) (rows_left rows.old)) }
     ensures sound { OnOk result (IsSound rows.new) }
-    ensures fault { IfErr result (λ fault. ButMemory fault.cause (groups_from 4 (rows_left rows.old) ≡ Err fault)) }
+    ensures fault { IfErr result (λ failed. Fails (groups_from 4 (rows_left rows.old)) failed) }
 {
     let mut groups = Vec::new(alloc);
     while let Some(row) = rows.current() {
@@ -170,16 +173,12 @@ pub fn read_groups(alloc: Global, rows: &mut RowReader<'_>) -> Result<Vec<GroupP
             return Ok(groups);
         }
         match read_group(row) {
-            Ok(group) => {
-                if groups.push(group).is_err() {
-                    return Err(NO_MEMORY);
-                }
-            }
+            Ok(group) => groups.push(group)?,
             Err(cause) => {
-                return Err(FileError {
+                return Err(Failed::Fault(FileFault {
                     row: groups.len() as u32 + 4,
                     cause,
-                });
+                }));
             }
         }
         rows.advance()?;

@@ -19,7 +19,7 @@ mod row_reader;
 pub mod rows;
 mod writing;
 
-pub use fault::{FileCause, FileError, NO_MEMORY};
+pub use fault::{Failed, FileCause, FileFault};
 pub use plan::{PlanFile, read_plan, read_public};
 pub use readings::read_readings;
 pub use registers::{Registers, read_registers};

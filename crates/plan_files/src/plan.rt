@@ -1,20 +1,19 @@
 //! The plan file: a plan, its keys and its lanes; and the public plan, which has neither.
-ghost use Rattle.std.specs.Prelude.{◌≡◌, ◌<◌, ◌≤◌, ◌+◌, ◌^◌, IfErr, IfOk, Ok, Err, length, OnOk, Some, None, MatchResult};
+ghost use Rattle.std.specs.Prelude.{◌≡◌, ◌<◌, ◌≤◌, ◌+◌, ◌^◌, IfErr, IfOk, Ok, Err, length, Some, None};
 ghost use Rattle.pair_keys.specs.Keys.{keys_of, table_of};
-ghost use Rattle.plan_files.specs.Faults.{ButMemory};
-ghost use Rattle.plan_files.specs.Faults.{in_row};
+ghost use Rattle.plan_files.specs.Faults.{Ends, Fails, in_row};
 ghost use Rattle.plan_files.specs.Gathering.{gathered_by, spans_of};
 ghost use Rattle.plan_files.specs.MissingKeys.{first_missing};
-ghost use Rattle.plan_files.specs.PlanFiles.{OpeningEnds, PlanEnds, PublicEnds, completed, opened_from, place_of, plan_from, plan_of, public_from, public_of, stated_plan, with_entries, with_members};
+ghost use Rattle.plan_files.specs.PlanFiles.{OpeningEnds, PlanEnds, completed, opened_from, place_of, plan_from, plan_of, public_from, public_of, stated_plan, view_of, with_entries, with_members};
 ghost use Rattle.plan_files.specs.RowsLeft.{IsSound, rows_left};
 
 use crate::entry::{PlanRow, read_entries};
-use crate::fault::{FileCause, FileError, NO_MEMORY};
+use crate::fault::{Failed, FileCause, FileFault};
 use crate::form::PlanForm;
 use crate::gathering::{Gathering, gather, member_spans, settle};
 use crate::head::{PlanHead, read_groups, read_head};
 use crate::row_reader::RowReader;
-use group_plan::{GroupPlan, Plan, SpanError};
+use group_plan::{GroupPlan, Plan, PlanError, SpanError};
 use link_lanes::LaneRow;
 use pair_keys::{KeyError, KeyId, KeyPile, KeyTable};
 use std::alloc::Global;
@@ -40,9 +39,12 @@ struct Opening {
 
 /// The plan that the first rows and the groups state.
 #[tactic(auto, using(crate::proofs::PlanLemmas::stated, crate::proofs::PlanLemmas::not_stated))]
-pub fn stated_plan(alloc: Global, head: PlanHead, groups: &[GroupPlan]) -> Result<Plan, FileError>
-    ensures made { IfOk result (λ plan. stated_plan head groups.now ≡ Ok plan) }
-    ensures refused { IfErr result (λ error. ButMemory error.cause (stated_plan head groups.now ≡ Err error)) }
+pub fn stated_plan(
+    alloc: Global,
+    head: PlanHead,
+    groups: &[GroupPlan],
+) -> Result<Plan, Failed<FileFault>>
+    ensures { Ends (stated_plan head groups.now) result }
 {
     let windows = head.windows;
     match Plan::new(
@@ -53,10 +55,11 @@ pub fn stated_plan(alloc: Global, head: PlanHead, groups: &[GroupPlan]) -> Resul
         windows.recovery,
     ) {
         Ok(plan) => Ok(plan),
-        Err(error) => Err(FileError {
+        Err(PlanError::Memory) => Err(Failed::Memory),
+        Err(error) => Err(Failed::Fault(FileFault {
             row: 0,
-            cause: FileCause::from(error),
-        }),
+            cause: FileCause::Plan(error),
+        })),
     }
 }
 
@@ -72,9 +75,10 @@ fn finish(keys: KeyPile) -> Result<KeyTable, KeyId>
 }
 
 /// The file of what is gathered for a plan, unless a key is missing.
-fn complete(plan: Plan, gathering: Gathering) -> Result<PlanFile, FileError>
+fn complete(plan: Plan, gathering: Gathering) -> Result<PlanFile, FileFault>
     requires { (keys_of gathering.keys).plan ≡ plan }
-    ensures file { PlanEnds (completed (gathered_by gathering)) result }
+    ensures file { IfOk result (λ file. completed (gathered_by gathering) ≡ Ok (view_of file)) }
+    ensures missing { IfErr result (λ fault. completed (gathered_by gathering) ≡ Err fault) }
     ensures same { IfOk result (λ file. (table_of file.keys).plan ≡ file.plan) }
 {
     let Gathering {
@@ -84,7 +88,7 @@ fn complete(plan: Plan, gathering: Gathering) -> Result<PlanFile, FileError>
     } = gathering;
     match finish(keys) {
         Ok(keys) => Ok(PlanFile { plan, keys, lanes }),
-        Err(missing) => Err(FileError {
+        Err(missing) => Err(FileFault {
             row: 0,
             cause: FileCause::Key(KeyError::Missing(missing)),
         }),
@@ -97,19 +101,15 @@ fn with_entries(
     plan: Plan,
     first: u32,
     entries: Vec<PlanRow>,
-) -> Result<PlanFile, FileError>
+) -> Result<PlanFile, Failed<FileFault>>
     requires { first + length entries.items ≤ 2 ^ 28 + 2 }
     ensures file { PlanEnds (with_entries plan first entries.items) result }
     ensures same { IfOk result (λ file. (table_of file.keys).plan ≡ file.plan) }
 {
-    let Ok(spans) = member_spans(alloc, &entries) else {
-        return Err(NO_MEMORY);
-    };
-    let Ok((plan, fault)) = settle(plan, &spans) else {
-        return Err(NO_MEMORY);
-    };
+    let spans = member_spans(alloc, &entries)?;
+    let (plan, fault) = settle(plan, &spans)?;
     let gathering = gather(alloc, &plan, fault, first, entries)?;
-    complete(plan, gathering)
+    Ok(complete(plan, gathering)?)
 }
 
 /// What the rows of a file say, before the plan judges those after the groups.
@@ -117,7 +117,7 @@ fn read_opening(
     alloc: Global,
     form: PlanForm,
     rows: &mut RowReader<'_>,
-) -> Result<Opening, FileError>
+) -> Result<Opening, Failed<FileFault>>
     requires sound { IsSound rows.old }
     requires few { length (rows_left rows.old) ≤ 2 ^ 28 + 1 }
     ensures opened { OpeningEnds (opened_from form (rows_left rows.old)) result }
@@ -136,7 +136,7 @@ fn read_opening(
 }
 
 /// What the rows of a plan file say.
-fn plan_from(alloc: Global, rows: &mut RowReader<'_>) -> Result<PlanFile, FileError>
+fn plan_from(alloc: Global, rows: &mut RowReader<'_>) -> Result<PlanFile, Failed<FileFault>>
     requires sound { IsSound rows.old }
     requires few { length (rows_left rows.old) ≤ 2 ^ 28 + 1 }
     ensures file { PlanEnds (plan_from (rows_left rows.old)) result }
@@ -151,7 +151,7 @@ fn plan_from(alloc: Global, rows: &mut RowReader<'_>) -> Result<PlanFile, FileEr
 }
 
 /// The fault of a member's span in a file whose first span is in this row.
-fn member_fault(first: u32, error: SpanError) -> FileError
+fn member_fault(first: u32, error: SpanError) -> FileFault
     requires { first + place_of error < 2 ^ 32 }
     ensures { result ≡ in_row (first + place_of error) (FileCause.Member error) }
 {
@@ -160,7 +160,7 @@ fn member_fault(first: u32, error: SpanError) -> FileError
         SpanError::Twice(at) => at,
         SpanError::Memory => 0,
     };
-    FileError {
+    FileFault {
         row: first + place,
         cause: FileCause::Member(error),
     }
@@ -172,27 +172,23 @@ fn with_members(
     plan: Plan,
     first: u32,
     entries: &[PlanRow],
-) -> Result<Plan, FileError>
+) -> Result<Plan, Failed<FileFault>>
     requires { first + length entries.now ≤ 2 ^ 28 + 2 }
-    ensures { PublicEnds (with_members plan first (spans_of entries.now)) result }
+    ensures { Ends (with_members plan first (spans_of entries.now)) result }
 {
-    let Ok(spans) = member_spans(alloc, entries) else {
-        return Err(NO_MEMORY);
-    };
-    let Ok((plan, fault)) = settle(plan, &spans) else {
-        return Err(NO_MEMORY);
-    };
+    let spans = member_spans(alloc, entries)?;
+    let (plan, fault) = settle(plan, &spans)?;
     match fault {
         None => Ok(plan),
-        Some(error) => Err(member_fault(first, error)),
+        Some(error) => Err(Failed::Fault(member_fault(first, error))),
     }
 }
 
 /// What the rows of a public plan say.
-fn public_from(alloc: Global, rows: &mut RowReader<'_>) -> Result<Plan, FileError>
+fn public_from(alloc: Global, rows: &mut RowReader<'_>) -> Result<Plan, Failed<FileFault>>
     requires sound { IsSound rows.old }
     requires few { length (rows_left rows.old) ≤ 2 ^ 28 + 1 }
-    ensures { PublicEnds (public_from (rows_left rows.old)) result }
+    ensures { Ends (public_from (rows_left rows.old)) result }
 {
     let Opening {
         plan,
@@ -204,7 +200,7 @@ fn public_from(alloc: Global, rows: &mut RowReader<'_>) -> Result<Plan, FileErro
 
 /// What the bytes of a plan file say, or their first fault.
 #[tactic(auto, unfolding(crate::specs::PlanFiles::plan_of))]
-pub fn read_plan(alloc: Global, bytes: &[u8]) -> Result<PlanFile, FileError>
+pub fn read_plan(alloc: Global, bytes: &[u8]) -> Result<PlanFile, Failed<FileFault>>
     requires { length bytes.now ≤ 2 ^ 28 }
     ensures file { PlanEnds (plan_of bytes.now) result }
     ensures same { IfOk result (λ file. (table_of file.keys).plan ≡ file.plan) }
@@ -215,9 +211,9 @@ pub fn read_plan(alloc: Global, bytes: &[u8]) -> Result<PlanFile, FileError>
 
 /// What the bytes of a public plan say, or their first fault.
 #[tactic(auto, unfolding(crate::specs::PlanFiles::public_of))]
-pub fn read_public(alloc: Global, bytes: &[u8]) -> Result<Plan, FileError>
+pub fn read_public(alloc: Global, bytes: &[u8]) -> Result<Plan, Failed<FileFault>>
     requires { length bytes.now ≤ 2 ^ 28 }
-    ensures { PublicEnds (public_of bytes.now) result }
+    ensures { Ends (public_of bytes.now) result }
 {
     let mut rows = RowReader::new(alloc, bytes)?;
     public_from(alloc, &mut rows)

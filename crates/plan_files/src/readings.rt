@@ -1,16 +1,16 @@
 //! The readings file: one row for each group and round of a plan, and in each field a number for each register.
-ghost use Rattle.std.specs.Prelude.{◌≡◌, ◌<◌, ◌≤◌, ◌+◌, ◌^◌, Err, IfErr, IfOk, IfSome, IsTrue, None, Ok, OnOk, Some, drop, length, replicate};
+ghost use Rattle.std.specs.Prelude.{◌≡◌, ◌<◌, ◌≤◌, ◌+◌, ◌^◌, IfErr, IfOk, IfSome, IsTrue, None, Ok, OnOk, Some, drop, length, replicate};
 ghost use Rattle.std.specs.Result.{result_err};
 ghost use Rattle.group_plan.specs.Plans.{is_place, is_member, size};
 ghost use Rattle.group_plan.specs.Tables.{absent};
-ghost use Rattle.plan_files.specs.Faults.{ButMemory};
+ghost use Rattle.plan_files.specs.Faults.{Ends, Fails};
 ghost use Rattle.plan_files.specs.KeptRows.{IsKept, fields_in};
-ghost use Rattle.plan_files.specs.Readings.{ReadingsEnd, fields_fault, is_row_of, row_fault, rows_due, rows_fault};
+ghost use Rattle.plan_files.specs.Readings.{fields_fault, is_row_of, readings_of, row_fault, rows_due};
 ghost use Rattle.plan_files.specs.RegisterParts.{AreOfPlan, AreReadings, AreTables, FillsTables, PutsEach, of_register};
-ghost use Rattle.plan_files.specs.Registers.{register_of, registers_by, tables_of};
+ghost use Rattle.plan_files.specs.Registers.{register_of, rows_say, tables_of};
 ghost use Rattle.plan_files.specs.RowsLeft.{IsSound, rows_left};
 
-use crate::fault::{FileCause, FileError, NO_MEMORY};
+use crate::fault::{Failed, FileCause, FileFault};
 use crate::kept_row::FileRow;
 use crate::row::{Numbers, is_long, is_word, number_field, readings_field};
 use crate::row_reader::RowReader;
@@ -123,14 +123,17 @@ fn rows_due(plan: &Plan) -> usize
 }
 
 /// Puts the readings of all rows, up to the first fault.
-fn put_rows(plan: &Plan, tables: &mut [Readings], rows: &mut RowReader<'_>) -> Result<(), FileError>
+fn put_rows(
+    plan: &Plan,
+    tables: &mut [Readings],
+    rows: &mut RowReader<'_>,
+) -> Result<(), Failed<FileFault>>
     requires new { tables.old ≡ replicate (length tables.old) (absent plan.now) }
     requires count { (1 ≤ length tables.old) × (length tables.old ≤ 8) }
     requires sound { IsSound rows.old }
     requires few { length (rows_left rows.old) ≤ 2 ^ 28 + 1 }
-    ensures fault { IfErr result (λ fault. ButMemory fault.cause (rows_fault (register_of (length tables.old) 0) plan.now 0 (rows_left rows.old) ≡ Some fault)) }
-    ensures none { OnOk result (rows_fault (register_of (length tables.old) 0) plan.now 0 (rows_left rows.old) ≡ None) }
-    ensures filled { OnOk result (tables.new ≡ registers_by plan.now (length tables.old) (rows_left rows.old)) }
+    ensures read { OnOk result (rows_say plan.now (length tables.old) (rows_left rows.old) ≡ Ok tables.new) }
+    ensures fault { IfErr result (λ failed. Fails (rows_say plan.now (length tables.old) (rows_left rows.old)) failed) }
 {
     let rounds = plan.rounds();
     let due = rows_due(plan);
@@ -138,24 +141,24 @@ fn put_rows(plan: &Plan, tables: &mut [Readings], rows: &mut RowReader<'_>) -> R
     while let Some(row) = rows.current() {
         let number = at as u32 + 1;
         if at >= due {
-            return Err(FileError {
+            return Err(Failed::Fault(FileFault {
                 row: number,
                 cause: FileCause::Extra,
-            });
+            }));
         }
         let group = (at as u32 / rounds) as u16;
         let round = at as u32 % rounds;
         if let Err(cause) = put_row(plan, tables, group, round, row) {
-            return Err(FileError { row: number, cause });
+            return Err(Failed::Fault(FileFault { row: number, cause }));
         }
         at += 1;
         rows.advance()?;
     }
     if at < due {
-        return Err(FileError {
+        return Err(Failed::Fault(FileFault {
             row: at as u32 + 1,
             cause: FileCause::Short,
-        });
+        }));
     }
     are_tables(tables);
     Ok(())
@@ -188,28 +191,30 @@ pub(crate) fn read_tables(
     plan: &Plan,
     count: usize,
     bytes: &[u8],
-) -> Result<Vec<Readings>, FileError>
+) -> Result<Vec<Readings>, Failed<FileFault>>
     requires count { (1 ≤ count) × (count ≤ 8) }
     requires few { length bytes.now ≤ 2 ^ 28 }
     ensures read { IfOk result (λ tables. tables_of plan.now count bytes.now ≡ Ok tables.items) }
-    ensures fault { IfErr result (λ fault. ButMemory fault.cause (tables_of plan.now count bytes.now ≡ Err fault)) }
+    ensures fault { IfErr result (λ failed. Fails (tables_of plan.now count bytes.now) failed) }
 {
     let mut rows = RowReader::new(alloc, bytes)?;
-    let Ok(mut tables) = no_readings(alloc, plan, count) else {
-        return Err(NO_MEMORY);
-    };
+    let mut tables = no_readings(alloc, plan, count)?;
     put_rows(plan, tables.as_mut_slice(), &mut rows)?;
     Ok(tables)
 }
 
 /// The readings that the bytes of a readings file say of a plan, or the first fault.
-pub fn read_readings(alloc: Global, plan: &Plan, bytes: &[u8]) -> Result<Readings, FileError>
+pub fn read_readings(
+    alloc: Global,
+    plan: &Plan,
+    bytes: &[u8],
+) -> Result<Readings, Failed<FileFault>>
     requires { length bytes.now ≤ 2 ^ 28 }
-    ensures { ReadingsEnd plan.now bytes.now result }
+    ensures { Ends (readings_of plan.now bytes.now) result }
 {
     let mut tables = read_tables(alloc, plan, 1, bytes)?;
     match tables.pop() {
         Some(readings) => Ok(readings),
-        None => Err(NO_MEMORY),
+        None => Err(Failed::Memory),
     }
 }

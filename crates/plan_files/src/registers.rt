@@ -2,7 +2,7 @@
 ghost use Rattle.std.specs.Prelude.{◌≡◌, ◌<◌, ◌≤◌, ◌^◌, length};
 ghost use Rattle.plan_files.specs.Registers.{AreRegisters, RegistersEnd, table};
 
-use crate::fault::{FileError, NO_MEMORY};
+use crate::fault::{Failed, FileFault};
 use crate::readings::read_tables;
 use group_plan::{Plan, Readings};
 use std::alloc::Global;
@@ -60,14 +60,12 @@ pub fn read_registers(
     plan: &Plan,
     registers: u8,
     bytes: &[u8],
-) -> Result<Registers, FileError>
+) -> Result<Registers, Failed<FileFault>>
     requires count { (2 ≤ registers) × (registers ≤ 8) }
     requires few { length bytes.now ≤ 2 ^ 28 }
     ensures { RegistersEnd plan.now registers bytes.now result }
 {
-    let Ok(copy) = plan.try_copy() else {
-        return Err(NO_MEMORY);
-    };
+    let copy = plan.try_copy()?;
     let tables = read_tables(alloc, plan, registers as usize, bytes)?;
     Ok(Registers { plan: copy, tables })
 }

@@ -1,14 +1,12 @@
 //! The rows of a file, one after another.
-ghost use Rattle.std.specs.Prelude.{◌≡◌, ◌≤◌, ◌+◌, ◌∷◌, [], IfErr, IfOk, OnOk, MatchOption, drop, length};
+ghost use Rattle.std.specs.Prelude.{◌≡◌, ◌≤◌, ◌+◌, ◌∷◌, [], IfOk, OnOk, MatchOption, drop, length};
 ghost use Rattle.csv.specs.Reading.{strip_bom};
-ghost use Rattle.plan_files.specs.Faults.{IsWantOfMemory};
 ghost use Rattle.plan_files.specs.KeptRows.{rows_in};
 ghost use Rattle.plan_files.specs.Rows.{file_rows};
 ghost use Rattle.plan_files.specs.RowsLeft.{IsCurrent, IsSound, rows_left};
 
-use crate::fault::{FileError, NO_MEMORY};
 use crate::kept_row::{FileRow, read_row, skip_row};
-use std::alloc::Global;
+use std::alloc::{AllocError, Global};
 
 /// The bytes of a file behind its byte order mark, if it has one.
 #[tactic(auto, unfolding(csv::specs::Reading::strip_bom))]
@@ -34,11 +32,10 @@ pub struct RowReader<'b> {
 impl<'b> RowReader<'b> {
     /// The rows of a file, from the first one on.
     #[tactic(auto, using(crate::proofs::AllRecords::few_rows))]
-    pub fn new(alloc: Global, bytes: &'b [u8]) -> Result<RowReader<'b>, FileError>
+    pub fn new(alloc: Global, bytes: &'b [u8]) -> Result<RowReader<'b>, AllocError>
         ensures rows { IfOk result (λ rows. rows_left rows ≡ file_rows bytes.now) }
         ensures few { IfOk result (λ rows. length (rows_left rows) ≤ length bytes.now + 1) }
         ensures sound { IfOk result (λ rows. IsSound rows) }
-        ensures fault { IfErr result (λ fault. IsWantOfMemory fault) }
     {
         let mut rows = RowReader {
             row: FileRow::new(alloc),
@@ -50,23 +47,18 @@ impl<'b> RowReader<'b> {
     }
 
     /// Reads the first row of the bytes, if they hold any.
-    pub(crate) fn read(&mut self, bytes: &'b [u8]) -> Result<(), FileError>
+    pub(crate) fn read(&mut self, bytes: &'b [u8]) -> Result<(), AllocError>
         ensures rows { OnOk result (rows_left self.new ≡ rows_in bytes.now) }
         ensures sound { OnOk result (IsSound self.new) }
-        ensures fault { IfErr result (λ fault. IsWantOfMemory fault) }
     {
-        match read_row(&mut self.row, bytes) {
-            Ok(Some(left)) => {
+        match read_row(&mut self.row, bytes)? {
+            Some(left) => {
                 self.left = left;
                 self.has_row = true;
-                Ok(())
             }
-            Ok(None) => {
-                self.has_row = false;
-                Ok(())
-            }
-            Err(_) => Err(NO_MEMORY),
+            None => self.has_row = false,
         }
+        Ok(())
     }
 
     /// The current row, where any is left.
@@ -86,18 +78,15 @@ impl<'b> RowReader<'b> {
     }
 
     /// Leaves the current row for the one behind it.
-    pub fn advance(&mut self) -> Result<(), FileError>
+    pub fn advance(&mut self) -> Result<(), AllocError>
         requires { IsSound self.old }
         ensures rows { OnOk result (rows_left self.new ≡ drop 1 (rows_left self.old)) }
         ensures sound { OnOk result (IsSound self.new) }
-        ensures fault { IfErr result (λ fault. IsWantOfMemory fault) }
     {
         if !self.has_row {
             return Ok(());
         }
-        match skip_row(&mut self.row.text, self.left) {
-            Ok(behind) => self.read(behind),
-            Err(_) => Err(NO_MEMORY),
-        }
+        let behind = skip_row(&mut self.row.text, self.left)?;
+        self.read(behind)
     }
 }

@@ -1,9 +1,7 @@
-use Rattle.std.proofs.Common.{◌≡◌, ◌∙◌, ◌+◌, ℕ, List, [], ◌∷◌, ◌++◌, true, length, drop, ap, sym, arith, rules, length-append}
-use Rattle.std.specs.Result.{is_ok}
+use Rattle.std.proofs.Common.{◌≡◌, ◌∙◌, ◌+◌, ℕ, List, [], ◌∷◌, ◌++◌, length, drop, ap, sym, arith, rules, length-append}
 use Rattle.plan_files.specs.KeptRows.{fields_in}
 use Rattle.plan_files.specs.RowsLeft.{rows_left}
 use Rattle.plan_files.specs.PlanForms.{after}
-use Rattle.plan_files.proofs.FormLemmas.{always}
 use Rattle.meter_files.specs.PartRows.{entries_from}
 use Rattle.meter_files.proofs.PartLemmas.{entries_end, entries_fault, entries_more}
 use Rattle.meter_files.proofs.part_file.read_entries.Goals as goal
@@ -12,16 +10,14 @@ pub returns-in-Err-clause-fault : goal.returns-in-Err-clause-fault
 returns-in-Err-clause-fault c =
     let rows = rows_left c.loop-row.rows in
     let row = fields_in c.in-Some.row.now in
-    always c.in-Err.cause
-    (c.loop-row.invariant.so_far ∙ entries_fault rows (drop 1 rows) c.loop-row.number row c.loop-row.entries.items c.in-Err.cause c.in-Some.ensures.first (search rules))
+    c.loop-row.invariant.so_far ∙ entries_fault rows (drop 1 rows) c.loop-row.number row c.loop-row.entries.items c.in-Err.cause c.in-Some.ensures.first (search rules)
 
 pub loop-row-preserved : goal.loop-row-preserved
 loop-row-preserved c =
     let entries = c.loop-row.entries.items in
     let rows = rows_left c.loop-row.rows in
     let row = fields_in c.in-Some.row.now in
-    let pushed : is_ok c.push.result ≡ true = search rules in
-    let items : c.push.new.self.items ≡ entries ++ c.in-Ok.entry ∷ [] = rw pushed at c.push.ensures.items in
+    let items : c.push.new.self.items ≡ entries ++ c.in-Ok.entry ∷ [] = c.in_ok-push-in-Ok.ensures.items in
     let long : length c.push.new.self.items ≡ length entries + 1 = ap length items ∙ length-append entries (c.in-Ok.entry ∷ []) in
     let left : rows_left c.advance.new.self ≡ drop 1 rows = c.in_ok-advance.ensures.rows in
     let one : length rows ≡ length (row ∷ drop 1 rows) = ap length c.in-Some.ensures.first in

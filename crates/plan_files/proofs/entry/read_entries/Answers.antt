@@ -1,11 +1,11 @@
-use Rattle.std.proofs.Common.{◌≡◌, ◌∙◌, ◌+◌, ℕ, List, [], ◌∷◌, ◌++◌, true, length, drop, ap, sym, arith, rules, length-append, Err}
-use Rattle.std.specs.Result.{is_ok}
+use Rattle.std.proofs.Common.{◌≡◌, ◌∙◌, ◌+◌, ℕ, List, [], ◌∷◌, ◌++◌, length, drop, ap, sym, subst, arith, rules, length-append, Err}
+use Rattle.plan_files.specs.Faults.{Fails}
 use Rattle.plan_files.specs.KeptRows.{fields_in}
 use Rattle.plan_files.specs.PlanForms.{after, entries_from}
 use Rattle.plan_files.specs.PlanRows.{entry_of}
 use Rattle.plan_files.specs.RowsLeft.{rows_left}
 use Rattle.plan_files.specs.declared.entry.PlanRow.{PlanRow}
-use Rattle.plan_files.proofs.FormLemmas.{but_memory, entries_end, entries_fault, entries_more}
+use Rattle.plan_files.proofs.FormLemmas.{entries_end, entries_fault, entries_more, row_fails}
 use Rattle.plan_files.proofs.WrittenKeys.{adds_long, adds_on}
 use Rattle.plan_files.proofs.entry.read_entries.Goals as goal
 
@@ -16,11 +16,13 @@ returns-in-Err-clause-fault c =
     let entries = c.loop-row.entries.items in
     let number = c.args.first + c.len.result in
     let here : c.args.first + length entries ≡ number = omega arith in
-    but_memory c.in-Err.cause
-    (λ (wrong : entry_of c.args.form number row ≡ Err c.in-Err.cause). c.loop-row.invariant.so_far
+    let all = entries_from c.args.form c.args.first (rows_left c.args.rows.now) in
+    subst (λ failed. Fails all failed) (sym c.in_row.ensures)
+    (row_fails number (entry_of c.args.form number row) all c.in-Err.failed
+    (λ what (wrong : entry_of c.args.form number row ≡ Err what). c.loop-row.invariant.so_far
     ∙ (ap (λ (k : ℕ). after entries (entries_from c.args.form k rows)) here
-    ∙ entries_fault c.args.form rows (drop 1 rows) number row entries c.in-Err.cause c.in-Some.ensures.first wrong))
-    c.in-Err.ensures
+    ∙ entries_fault c.args.form rows (drop 1 rows) number row entries what c.in-Some.ensures.first wrong))
+    c.in-Err.ensures)
 
 pub loop-row-preserved : goal.loop-row-preserved
 loop-row-preserved c =
@@ -32,8 +34,7 @@ loop-row-preserved c =
     let number = first + c.len.result in
     let here : first + length entries ≡ number = omega arith in
     let more = c.push.new.self.items in
-    let pushed : is_ok c.push.result ≡ true = search rules in
-    let items : more ≡ entries ++ c.in-Ok.entry ∷ [] = rw pushed at c.push.ensures.items in
+    let items : more ≡ entries ++ c.in-Ok.entry ∷ [] = c.in_ok-push-in-Ok.ensures.items in
     let long : length more ≡ length entries + 1 = ap length items ∙ length-append entries (c.in-Ok.entry ∷ []) in
     let next : number + 1 ≡ first + length more = omega arith in
     let left : rows_left c.advance.new.self ≡ drop 1 rows = c.in_ok-advance.ensures.rows in

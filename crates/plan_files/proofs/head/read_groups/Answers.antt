@@ -1,9 +1,8 @@
-use Rattle.std.proofs.Common.{◌≡◌, ◌∙◌, ◌+◌, ℕ, List, [], ◌∷◌, ◌++◌, true, length, drop, ap, sym, arith, rules, length-append, drop-drop}
-use Rattle.std.specs.Result.{is_ok}
+use Rattle.std.proofs.Common.{◌≡◌, ◌∙◌, ◌+◌, ℕ, List, [], ◌∷◌, ◌++◌, length, drop, ap, sym, arith, rules, length-append, drop-drop}
 use Rattle.plan_files.specs.KeptRows.{fields_in}
 use Rattle.plan_files.specs.PlanForms.{after, groups_from}
 use Rattle.plan_files.specs.RowsLeft.{rows_left}
-use Rattle.plan_files.proofs.FormLemmas.{always, groups_end, groups_fault, groups_more, groups_stop}
+use Rattle.plan_files.proofs.FormLemmas.{groups_end, groups_fault, groups_more, groups_stop}
 use Rattle.plan_files.proofs.head.read_groups.Goals as goal
 
 pub returns-then-not-is_word-clause-read : goal.returns-then-not-is_word-clause-read
@@ -16,17 +15,15 @@ pub returns-in-Err-clause-fault : goal.returns-in-Err-clause-fault
 returns-in-Err-clause-fault c =
     let rows = rows_left c.loop-row.rows in
     let number : c.len.result ≡ length c.loop-row.groups.items = omega (arith, c.loop-row.groups.ok.0) in
-    always c.in-Err.cause
-    (rw number (c.loop-row.invariant.so_far
-    ∙ groups_fault rows (drop 1 rows) (length c.loop-row.groups.items + 4) (fields_in c.in-Some.row.now) c.loop-row.groups.items c.in-Err.cause c.in-Some.ensures.first (search rules) (search rules)))
+    rw number (c.loop-row.invariant.so_far
+    ∙ groups_fault rows (drop 1 rows) (length c.loop-row.groups.items + 4) (fields_in c.in-Some.row.now) c.loop-row.groups.items c.in-Err.cause c.in-Some.ensures.first (search rules) (search rules))
 
 pub loop-row-preserved : goal.loop-row-preserved
 loop-row-preserved c =
     let groups = c.loop-row.groups.items in
     let rows = rows_left c.loop-row.rows in
     let row = fields_in c.in-Some.row.now in
-    let pushed : is_ok c.push.result ≡ true = search rules in
-    let items : c.push.new.self.items ≡ groups ++ c.in-Ok.group ∷ [] = rw pushed at c.push.ensures.items in
+    let items : c.push.new.self.items ≡ groups ++ c.in-Ok.group ∷ [] = c.in_ok-push-in-Ok.ensures.items in
     let long : length c.push.new.self.items ≡ length groups + 1 = ap length items ∙ length-append groups (c.in-Ok.group ∷ []) in
     let left : rows_left c.advance.new.self ≡ drop 1 rows = c.in_ok-advance.ensures.rows in
     let one : length rows ≡ length (row ∷ drop 1 rows) = ap length c.in-Some.ensures.first in

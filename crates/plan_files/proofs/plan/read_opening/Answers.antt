@@ -1,5 +1,5 @@
 use Rattle.std.proofs.Common.{◌≡◌, ◌∙◌, ◌+◌, Err, Ok, ap, arith, drop, drop-drop, length, length-drop, rules, subst, sym}
-use Rattle.plan_files.specs.Faults.{ButMemory}
+use Rattle.plan_files.specs.Faults.{Fails}
 use Rattle.plan_files.specs.PlanFiles.{OpeningEnds, opened_from, stated_plan}
 use Rattle.plan_files.specs.PlanForms.{entries_from, groups_from}
 use Rattle.plan_files.specs.RowsLeft.{rows_left}
@@ -56,8 +56,8 @@ returns-in_err-plan-clause-opened c =
     ap (entries_from c.args.form (4 + length groups)) (sym rest) ∙ (ap (λ n. entries_from c.args.form n others) (sym number) ∙ c.in_ok-entries.ensures.read) in
     let formed : IsFormed c.args.form rows c.in_ok-head.head groups entries = record { begun = begun; entries = read } in
     let error = c.in_err-plan.field-0.0 in
-    let refused : ButMemory error.cause (stated_plan c.in_ok-head.head groups ≡ Err error) =
-    subst (λ g. ButMemory error.cause (stated_plan c.in_ok-head.head g ≡ Err error)) c.deref.ensures.value c.in_err-plan.ensures.refused in
+    let refused : Fails (stated_plan c.in_ok-head.head groups) error =
+    subst (λ g. Fails (stated_plan c.in_ok-head.head g) error) c.deref.ensures.value c.in_err-plan.ensures in
     let wrong = bad_plan c.args.form rows c.in_ok-head.head groups entries error formed refused in
     let answered : Err error ≡ c.from_residual-in_err-plan.result = search rules in
     subst (λ r. OpeningEnds (opened_from c.args.form rows) r) answered wrong
@@ -86,5 +86,5 @@ returns-clause-opened c =
     let read : entries_from c.args.form (4 + length groups) (drop (3 + length groups) rows) ≡ Ok entries =
     ap (entries_from c.args.form (4 + length groups)) (sym rest) ∙ (ap (λ n. entries_from c.args.form n others) (sym number) ∙ c.in_ok-entries.ensures.read) in
     let formed : IsFormed c.args.form rows c.in_ok-head.head groups entries = record { begun = begun; entries = read } in
-    let made : stated_plan c.in_ok-head.head groups ≡ Ok c.in_ok-plan.plan = ap (stated_plan c.in_ok-head.head) (sym c.deref.ensures.value) ∙ c.in_ok-plan.ensures.made in
+    let made : stated_plan c.in_ok-head.head groups ≡ Ok c.in_ok-plan.plan = ap (stated_plan c.in_ok-head.head) (sym c.deref.ensures.value) ∙ c.in_ok-plan.ensures in
     well_opened c.args.form rows (4 + c.len.result) c.in_ok-head.head groups entries c.in_ok-plan.plan formed number made
