@@ -59,7 +59,6 @@ cause_text cause.LaneSpan = codes "LaneSpan"
 cause_text cause.Range = codes "Range"
 cause_text cause.Short = codes "Short"
 cause_text cause.Extra = codes "Extra"
-cause_text cause.Memory = codes "Memory"
 cause_text (cause.Member error) = codes "Member " ++ span_error_name error
 cause_text cause.NotMember = codes "NotMember"
 

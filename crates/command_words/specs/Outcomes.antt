@@ -3,7 +3,7 @@ use Rattle.std.specs.Prelude.{ℕ, ◌==◌, ◌||◌, nat_lt, if◌then◌else�
 use Rattle.std.specs.Fmt.{decimal}
 use Rattle.std.specs.List.{flat_map}
 use Rattle.hex.specs.Hex.{encode_lower}
-use Rattle.plan_files.specs.declared.fault.FileError.{FileError}
+use Rattle.plan_files.specs.declared.fault.FileFault.{FileFault}
 use Rattle.command_words.specs.declared.outcome.Outcome.{Outcome}
 use Rattle.command_words.specs.declared.outcome.Outcome.TheVariants.{Done, NoMemory, BadWords, CannotRead, CannotHear, TooLong, CannotWrite, CannotWritePart, CannotPrint, BadPlan, BadReadings, BadTranscript, BadReport, BadJournalHead, BadJournalLine, Impossible, NotInTime, NotThisRun, OtherRow, OtherPlan, OtherLine, OtherPresence, OtherKnown, OtherTotal, OtherComponent, BadLane, NoPartner}
 use Rattle.meter_files.specs.Names.{part_name}
@@ -57,7 +57,7 @@ unfoldable pub shown_name : List ℕ → List ℕ
 shown_name name = flat_map shown_byte name
 
 -- the complaint of a file: its name, the row, and the cause
-unfoldable pub file_complaint : List ℕ → FileError → List ℕ
+unfoldable pub file_complaint : List ℕ → FileFault → List ℕ
 file_complaint name fault =
     codes "meteragg: " ++ (shown_name name ++ (codes " row " ++ (decimal fault.row ++ (codes ": " ++ (cause_text fault.cause ++ codes "\n")))))
 

@@ -14,7 +14,7 @@ use group_plan::{PlanError, SpanError};
 use link_lanes::RackCause;
 use meter_files::part_name;
 use pair_keys::{KeyError, KeyId};
-use plan_files::{FileCause, FileError};
+use plan_files::{FileCause, FileFault};
 use std::alloc::{AllocError, Global};
 use totals_report::{ReportRow, row_text};
 use transcript_text::{ReadError, line_text};
@@ -123,7 +123,6 @@ fn cause_text(alloc: Global, cause: FileCause) -> Result<String, AllocError>
         FileCause::Range => String::from_str(alloc, "Range"),
         FileCause::Short => String::from_str(alloc, "Short"),
         FileCause::Extra => String::from_str(alloc, "Extra"),
-        FileCause::Memory => String::from_str(alloc, "Memory"),
         FileCause::Member(error) => {
             let name = span_error_name(error);
             format!(in alloc; "Member {name}")
@@ -144,7 +143,7 @@ fn rack_cause_name(cause: RackCause) -> &'static str
 
 // The complaint of a faulty plan file or readings file.
 #[tactic(auto, unfolding(crate::specs::Outcomes::file_complaint))]
-fn file_complaint(alloc: Global, name: &str, fault: FileError) -> Result<Vec<u8>, AllocError>
+fn file_complaint(alloc: Global, name: &str, fault: FileFault) -> Result<Vec<u8>, AllocError>
     ensures { IfOk result (λ text. text.items ≡ file_complaint name.now fault) }
 {
     let row = fault.row;

@@ -3,7 +3,7 @@
 use event_schedule::Entry;
 use link_lanes::RackError;
 use meter_files::PartFile;
-use plan_files::FileError;
+use plan_files::FileFault;
 use totals_report::ReportRow;
 use transcript_text::ReadError;
 
@@ -33,9 +33,9 @@ pub enum Outcome<'a> {
     /// The output can't be written.
     CannotPrint,
     /// The plan file has this fault.
-    BadPlan(&'a str, FileError),
+    BadPlan(&'a str, FileFault),
     /// The readings file has this fault.
-    BadReadings(&'a str, FileError),
+    BadReadings(&'a str, FileFault),
     /// The transcript's text has this fault.
     BadTranscript(&'a str, ReadError),
     /// The report's text is refused at this line, counted from 1.
