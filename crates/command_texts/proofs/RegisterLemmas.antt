@@ -50,9 +50,9 @@ use Rattle.plan_files.specs.PlanFiles.{PlanFileView, plan_of}
 use Rattle.register_words.specs.SideText.{side_text}
 use Rattle.command_texts.specs.declared.registers.RegisterTexts.{RegisterTexts as Kept}
 use Rattle.command_texts.specs.RegisterParts.{AreWordsOf, register_texts_of}
-use Rattle.command_texts.proofs.RunLemmas.{made, with_plan, but_memory}
+use Rattle.command_texts.proofs.RunLemmas.{made, with_plan}
 use Rattle.link_lanes.specs.Fits.{hung_by}
-use Rattle.plan_files.specs.declared.fault.FileError.{FileError}
+use Rattle.plan_files.specs.declared.fault.FileFault.{FileFault}
 use Rattle.plan_files.specs.declared.fault.FileCause.TheVariants as cause
 use Rattle.command_texts.specs.Refusals.{RefusesTables}
 
@@ -226,6 +226,6 @@ registers_make cupboard count p r v readings book t first kept values_are are re
 -- ---- refusals
 
 -- the readings file is refused, where the plan file has a value and its lanes hang
-pub tables_refused : (cupboard : List Meaning) (count : ℕ) (p r : List ℕ) (file : PlanFileView) (slots : List Slot) (fault : FileError) → plan_of p ≡ Ok file → hung_by cupboard file.lanes ≡ Ok slots
-    → RegistersEnd file.plan count r (Err fault) → (fault.cause ≡ cause.Memory → ⊥) → RefusesTables cupboard count p r fault
-tables_refused cupboard count p r file slots fault plan_is hang ends other = (file, slots, plan_is, hang, but_memory fault.cause (tables_of file.plan count r ≡ Err fault) other ends)
+pub tables_refused : (cupboard : List Meaning) (count : ℕ) (p r : List ℕ) (file : PlanFileView) (slots : List Slot) (fault : FileFault) → plan_of p ≡ Ok file → hung_by cupboard file.lanes ≡ Ok slots
+    → tables_of file.plan count r ≡ Err fault → RefusesTables cupboard count p r fault
+tables_refused cupboard count p r file slots fault plan_is hang wrong = (file, slots, plan_is, hang, wrong)

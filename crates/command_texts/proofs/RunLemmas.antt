@@ -34,8 +34,8 @@ use Rattle.run_rows.proofs.RunLemmas.{reported}
 use Rattle.run_rows.proofs.PostLemmas.{posts_are}
 use Rattle.group_book.specs.Books.{BookView}
 use Rattle.tick_run.specs.Finished.{IsFinishedUnder}
-use Rattle.plan_files.specs.declared.fault.FileError.{FileError}
-use Rattle.plan_files.specs.Faults.{unless, ButMemory}
+use Rattle.plan_files.specs.declared.fault.FileFault.{FileFault}
+use Rattle.plan_files.specs.Faults.{unless}
 use Rattle.plan_files.specs.Readings.{readings_by, Says, readings_of, rows_fault, reading_of}
 use Rattle.plan_files.specs.Rows.{file_rows}
 use Rattle.plan_files.specs.PlanFiles.{PlanFileView, plan_of}
@@ -51,8 +51,6 @@ use Rattle.totals_report.specs.declared.row.ReportRow.{ReportRow}
 use Rattle.totals_report.specs.Texts.{rows_text}
 use Rattle.totals_report.specs.Books.{row_in as book_row, summary_in as book_summary}
 use Rattle.command_texts.specs.RunTexts.{AreTextsOf}
-use Rattle.plan_files.specs.declared.fault.FileCause.{FileCause}
-use Rattle.plan_files.specs.declared.fault.FileCause.TheVariants as cause
 use Rattle.link_lanes.specs.Fits.{hung_by}
 use Rattle.command_words.specs.declared.outcome.Outcome.{Outcome}
 use Rattle.command_words.specs.declared.outcome.Outcome.TheVariants.{NoMemory, BadReadings}
@@ -199,7 +197,7 @@ good readings m slots book t finished =
 -- ---- from the files to the texts
 
 -- the readings of a file are of the plan that they are read for
-plan_of_value : (o : Option FileError) (says : Says) (plan : PlanView) (rows : List (List (List ℕ))) (readings : ReadingsView) → unless o (readings_by says plan rows) ≡ Ok readings → readings.plan ≡ plan
+plan_of_value : (o : Option FileFault) (says : Says) (plan : PlanView) (rows : List (List (List ℕ))) (readings : ReadingsView) → unless o (readings_by says plan rows) ≡ Ok readings → readings.plan ≡ plan
 plan_of_value None says plan rows readings is = let e : readings_by says plan rows ≡ readings = cc in sym (ap (λ r. r.plan) e)
 plan_of_value (Some fault) says plan rows readings is = absurd cc
 
@@ -329,22 +327,6 @@ makes sharing cupboard p r v book t texts are finished written =
     record { values = v; entries = t.entries; of_bytes = are; sound = all.0; run = all.1; told = all.2 }
 
 -- ---- refusals
-
-pub but_memory : (what : FileCause) (claim : Type 0) → (what ≡ cause.Memory → ⊥) → ButMemory what claim → claim
-but_memory cause.Memory claim other is = absurd (other refl)
-but_memory cause.Row claim other is = is
-but_memory cause.Fields claim other is = is
-but_memory cause.Number claim other is = is
-but_memory cause.Name claim other is = is
-but_memory cause.Hex claim other is = is
-but_memory (cause.Plan e) claim other is = is
-but_memory (cause.Key e) claim other is = is
-but_memory cause.LaneSpan claim other is = is
-but_memory cause.Range claim other is = is
-but_memory cause.Short claim other is = is
-but_memory cause.Extra claim other is = is
-but_memory (cause.Member e) claim other is = is
-but_memory cause.NotMember claim other is = is
 
 -- the readings file is refused, where the plan file has a value and its lanes hang
 pub readings_refuse : (cupboard : List Meaning) (plan readings p r : List ℕ) (file : PlanFileView) (slots : List Slot) (outcome : Outcome) → plan_of p ≡ Ok file → hung_by cupboard file.lanes ≡ Ok slots

@@ -3,7 +3,7 @@ use Rattle.group_plan.specs.Tables.{ReadingsView, reading}
 use Rattle.plan_files.specs.PlanFiles.{PlanFileView, plan_of}
 use Rattle.std.specs.Prelude.{◌≡◌, ℕ, List, Ok, Err, ⊤, ◌≢◌, Option, None, Some, ◌⊎◌}
 use Rattle.plan_files.specs.Readings.{readings_of}
-use Rattle.plan_files.specs.declared.fault.FileError.{FileError}
+use Rattle.plan_files.specs.declared.fault.FileFault.{FileFault}
 use Rattle.command_words.specs.declared.outcome.Outcome.{Outcome}
 use Rattle.command_words.specs.declared.outcome.Outcome.TheVariants.{NoMemory, BadPlan, BadReadings, BadTranscript, OtherPlan, NoPartner}
 use Rattle.billing_read.specs.declared.bills.Bill.{Bill}
@@ -34,7 +34,7 @@ pub record AreMetered (p r : List ℕ) (values : Metered) : Type 0 where
   pub readings : readings_of values.file.plan r ≡ Ok values.readings
 
 -- the plan file has a value, and the readings file has this fault
-abbrev pub RefusesTable : (p r : List ℕ) → FileError → Type 0
+abbrev pub RefusesTable : (p r : List ℕ) → FileFault → Type 0
 RefusesTable p r fault = (file : PlanFileView) × (plan_of p ≡ Ok file) × (readings_of file.plan r ≡ Err fault)
 
 -- one of the two files is refused, by its cause; want of memory is free

@@ -8,7 +8,7 @@ use Rattle.command_words.specs.declared.known.KnownMeter.{KnownMeter}
 use Rattle.command_words.specs.Known.{is_known, are_in_plan}
 use Rattle.command_texts.specs.Twins.{TwinBytes, TwinValues, AreTwinValues}
 use Rattle.pair_keys.specs.declared.KeyError.TheVariants as key
-use Rattle.plan_files.specs.declared.fault.FileError.{FileError}
+use Rattle.plan_files.specs.declared.fault.FileFault.{FileFault}
 use Rattle.plan_files.specs.declared.fault.FileCause.TheVariants as cause
 use Rattle.plan_files.specs.PlanFiles.{PlanFileView, plan_of}
 use Rattle.plan_files.specs.Readings.{readings_of}
@@ -31,22 +31,22 @@ PooledCompared known bytes result =
 -- ---- refusals
 
 -- the fault of a plan that hasn't each known meter
-abbrev pub outside_plan : FileError
+abbrev pub outside_plan : FileFault
 outside_plan = record { row = 0; cause = cause.Key key.Range }
 
 -- the plan file has this fault; or it has a value, but not each known meter
-abbrev pub RefusesPlanFor : List KnownMeter → TwinBytes → FileError → Type 0
+abbrev pub RefusesPlanFor : List KnownMeter → TwinBytes → FileFault → Type 0
 RefusesPlanFor known bytes fault =
     (plan_of bytes.plan ≡ Err fault)
     ⊎ ((file : PlanFileView) × (plan_of bytes.plan ≡ Ok file) × (are_in_plan file.plan known ≡ false) × (fault ≡ outside_plan))
 
 -- the plan has each known meter, and the first readings file has this fault
-abbrev pub RefusesFirstFor : List KnownMeter → TwinBytes → FileError → Type 0
+abbrev pub RefusesFirstFor : List KnownMeter → TwinBytes → FileFault → Type 0
 RefusesFirstFor known bytes fault =
     (file : PlanFileView) × (plan_of bytes.plan ≡ Ok file) × (are_in_plan file.plan known ≡ true) × (readings_of file.plan bytes.readings ≡ Err fault)
 
 -- the first has a value, too, and the second readings file has this fault
-abbrev pub RefusesSecondFor : List KnownMeter → TwinBytes → FileError → Type 0
+abbrev pub RefusesSecondFor : List KnownMeter → TwinBytes → FileFault → Type 0
 RefusesSecondFor known bytes fault =
     (file : PlanFileView) × (first : ReadingsView) × (plan_of bytes.plan ≡ Ok file) × (are_in_plan file.plan known ≡ true)
     × (readings_of file.plan bytes.readings ≡ Ok first) × (readings_of file.plan bytes.other ≡ Err fault)

@@ -8,7 +8,7 @@ use Rattle.link_lanes.specs.Lanes.{Meaning, Slot}
 use Rattle.plan_files.specs.PlanFiles.{plan_of, PlanFileView}
 use Rattle.command_texts.specs.Runs.{RefusesLane, RefusesReadings}
 use Rattle.link_lanes.specs.Fits.{hung_by}
-use Rattle.plan_files.specs.declared.fault.FileError.{FileError}
+use Rattle.plan_files.specs.declared.fault.FileFault.{FileFault}
 use Rattle.plan_files.specs.Registers.{tables_of}
 use Rattle.command_words.specs.Words.{RegisterNames}
 
@@ -40,7 +40,7 @@ FilesRefused cupboard plan readings p r NoMemory = ⊤
 FilesRefused cupboard plan readings p r _ = ⊥
 
 -- the plan file has a value and its lane rows get their lanes, and the readings file of so many registers has this fault
-abbrev pub RefusesTables : List Meaning → ℕ → List ℕ → List ℕ → FileError → Type 0
+abbrev pub RefusesTables : List Meaning → ℕ → List ℕ → List ℕ → FileFault → Type 0
 RefusesTables cupboard count p r fault =
     (file : PlanFileView) × (slots : List Slot) × (plan_of p ≡ Ok file) × (hung_by cupboard file.lanes ≡ Ok slots) × (tables_of file.plan count r ≡ Err fault)
 

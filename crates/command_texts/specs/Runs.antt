@@ -18,7 +18,7 @@ use Rattle.link_lanes.specs.Fits.{hung_by}
 use Rattle.plan_files.specs.Readings.{readings_of}
 use Rattle.link_lanes.specs.declared.cupboard.RackError.{RackError}
 use Rattle.run_rows.specs.Report.{row, Row, fate_at, outcome_row}
-use Rattle.plan_files.specs.declared.fault.FileError.{FileError}
+use Rattle.plan_files.specs.declared.fault.FileFault.{FileFault}
 use Rattle.event_schedule.specs.declared.Entry.{Entry}
 use Rattle.event_schedule.specs.declared.Event.{Event}
 use Rattle.ideal_masks.specs.Isolation.{Isolated}
@@ -83,7 +83,7 @@ abbrev pub RefusesLane : List Meaning → List ℕ → RackError → Type 0
 RefusesLane cupboard plan_bytes fault = (file : PlanFileView) × (plan_of plan_bytes ≡ Ok file) × (hung_by cupboard file.lanes ≡ Err fault)
 
 -- the plan file has a value and its lane rows get their lanes, and the readings file has this fault
-abbrev pub RefusesReadings : List Meaning → List ℕ → List ℕ → FileError → Type 0
+abbrev pub RefusesReadings : List Meaning → List ℕ → List ℕ → FileFault → Type 0
 RefusesReadings cupboard plan_bytes readings_bytes fault =
     (file : PlanFileView) × (slots : List Slot) × (plan_of plan_bytes ≡ Ok file) × (hung_by cupboard file.lanes ≡ Ok slots)
     × (readings_of file.plan readings_bytes ≡ Err fault)

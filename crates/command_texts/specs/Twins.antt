@@ -7,7 +7,7 @@ use Rattle.mask_stream.specs.KeyStreams.{streams}
 use Rattle.twin_worlds.specs.declared.rows.MovedRow.{MovedRow}
 use Rattle.twin_worlds.specs.declared.answers.TwinError.{TwinError}
 use Rattle.twin_worlds.specs.Twins.{TwinEnds, IsRecord}
-use Rattle.plan_files.specs.declared.fault.FileError.{FileError}
+use Rattle.plan_files.specs.declared.fault.FileFault.{FileFault}
 use Rattle.event_schedule.specs.declared.Line.{Line}
 use Rattle.ideal_masks.specs.declared.Differ.TheVariants.{Presence, Total}
 use Rattle.twin_worlds.specs.declared.answers.TwinError.TheVariants as twin
@@ -45,11 +45,11 @@ Compared bytes result =
 -- ---- refusals
 
 -- the plan file has a value, and the first readings file has this fault
-abbrev pub RefusesFirst : TwinBytes → FileError → Type 0
+abbrev pub RefusesFirst : TwinBytes → FileFault → Type 0
 RefusesFirst bytes fault = (file : PlanFileView) × (plan_of bytes.plan ≡ Ok file) × (readings_of file.plan bytes.readings ≡ Err fault)
 
 -- both have values, and the second readings file has this fault
-abbrev pub RefusesSecond : TwinBytes → FileError → Type 0
+abbrev pub RefusesSecond : TwinBytes → FileFault → Type 0
 RefusesSecond bytes fault =
     (file : PlanFileView) × (first : ReadingsView)
     × (plan_of bytes.plan ≡ Ok file) × (readings_of file.plan bytes.readings ≡ Ok first) × (readings_of file.plan bytes.other ≡ Err fault)

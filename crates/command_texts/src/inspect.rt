@@ -16,7 +16,7 @@ use crate::audit::report_of;
 use audit_check::{AuditError, Inspected, inspect as inspect_lines};
 use command_words::{InspectFiles, Outcome};
 use group_plan::Plan;
-use plan_files::{FileCause, read_public};
+use plan_files::{Failed, read_public};
 use run_course::{CourseError, in_time};
 use std::alloc::Global;
 use std::thread::Threads;
@@ -42,10 +42,8 @@ pub fn public_in<'a>(alloc: Global, name: &'a str, bytes: &[u8]) -> Result<Plan,
 {
     match read_public(alloc, bytes) {
         Ok(plan) => Ok(plan),
-        Err(fault) => match fault.cause {
-            FileCause::Memory => Err(Outcome::NoMemory),
-            _ => Err(Outcome::BadPlan(name, fault)),
-        },
+        Err(Failed::Memory) => Err(Outcome::NoMemory),
+        Err(Failed::Fault(fault)) => Err(Outcome::BadPlan(name, fault)),
     }
 }
 

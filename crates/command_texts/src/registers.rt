@@ -22,7 +22,7 @@ use collector_workers::{Crew, Gate};
 use command_words::{Outcome, RegisterFiles};
 use link_lanes::{Lane, Rack};
 use pair_keys::KeyTable;
-use plan_files::{FileCause, PlanFile, Registers, read_registers};
+use plan_files::{Failed, PlanFile, Registers, read_registers};
 use register_words::{SideWords, register_report, side_words};
 use std::alloc::{AllocError, Global};
 use std::sync::Wait;
@@ -61,10 +61,8 @@ pub fn read_register_run<'a>(
     let (file, rack) = or_fail!(fit_plan(alloc, files.plan, plan, cupboard));
     match read_registers(alloc, &file.plan, registers, &readings) {
         Ok(tables) => Ok(RegisterInput { file, rack, tables }),
-        Err(fault) => match fault.cause {
-            FileCause::Memory => Err(Outcome::NoMemory),
-            _ => Err(Outcome::BadReadings(files.readings, fault)),
-        },
+        Err(Failed::Memory) => Err(Outcome::NoMemory),
+        Err(Failed::Fault(fault)) => Err(Outcome::BadReadings(files.readings, fault)),
     }
 }
 

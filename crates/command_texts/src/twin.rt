@@ -22,13 +22,13 @@ use group_plan::{Plan, Readings};
 use ideal_masks::Differ;
 use missing_round::MeterSet;
 use pair_keys::KeyError;
-use plan_files::{FileCause, FileError, PlanFile};
+use plan_files::{FileCause, FileFault, PlanFile};
 use std::alloc::Global;
 use std::thread::Threads;
 use twin_worlds::{MovedWords, PoolTwinError, ReadingTables, TwinError, pooled_twin};
 
 /// The fault of a plan that hasn't each known meter.
-const OUTSIDE_PLAN: FileError = FileError {
+const OUTSIDE_PLAN: FileFault = FileFault {
     row: 0,
     cause: FileCause::Key(KeyError::Range),
 };

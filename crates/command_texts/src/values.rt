@@ -15,7 +15,7 @@ ghost use Rattle.command_texts.specs.Runs.{AreValues};
 use command_words::Outcome;
 use group_plan::{Plan, Readings};
 use link_lanes::{Lane, Rack, RackCause};
-use plan_files::{FileCause, PlanFile, read_plan, read_readings};
+use plan_files::{Failed, PlanFile, read_plan, read_readings};
 use std::alloc::Global;
 
 /// What the plan file of this name says.
@@ -28,10 +28,8 @@ pub fn plan_in<'a>(alloc: Global, name: &'a str, bytes: &[u8]) -> Result<PlanFil
 {
     match read_plan(alloc, bytes) {
         Ok(file) => Ok(file),
-        Err(fault) => match fault.cause {
-            FileCause::Memory => Err(Outcome::NoMemory),
-            _ => Err(Outcome::BadPlan(name, fault)),
-        },
+        Err(Failed::Memory) => Err(Outcome::NoMemory),
+        Err(Failed::Fault(fault)) => Err(Outcome::BadPlan(name, fault)),
     }
 }
 
@@ -50,10 +48,8 @@ pub fn readings_in<'a>(
 {
     match read_readings(alloc, plan, bytes) {
         Ok(readings) => Ok(readings),
-        Err(fault) => match fault.cause {
-            FileCause::Memory => Err(Outcome::NoMemory),
-            _ => Err(Outcome::BadReadings(name, fault)),
-        },
+        Err(Failed::Memory) => Err(Outcome::NoMemory),
+        Err(Failed::Fault(fault)) => Err(Outcome::BadReadings(name, fault)),
     }
 }
 

@@ -12,7 +12,7 @@ use Rattle.commands.proofs.CalmLemmas.{read_is, ok_or_err, ok_same, IsCalm, puts
 use Rattle.link_lanes.specs.Fits.{hung_by}
 use Rattle.link_lanes.specs.declared.cupboard.RackError.{RackError}
 use Rattle.command_texts.specs.Runs.{RefusesLane, RefusesReadings}
-use Rattle.plan_files.specs.declared.fault.FileError.{FileError}
+use Rattle.plan_files.specs.declared.fault.FileFault.{FileFault}
 use Rattle.plan_files.specs.Readings.{readings_of}
 use Rattle.command_words.specs.declared.outcome.Outcome.{Outcome}
 use Rattle.command_words.specs.declared.outcome.Outcome.TheVariants.{NoMemory, BadPlan, BadReadings, BadTranscript, BadReport, Impossible, NotInTime, OtherRow, OtherPlan, BadLane, NoPartner}
@@ -73,7 +73,7 @@ lanes_are_right cupboard names v good p fault is bad =
     let same : good.values.file ≡ bad.0 = ok_same _ _ _ (plan_is cupboard names v good p is) bad.1 in
     ok_or_err _ _ _ (ap (λ file. hung_by cupboard file.lanes) (sym same) ∙ good.of_bytes.lanes) bad.2
 
-readings_are_right : (cupboard : List Meaning) (names : RunNames) (v : View) (good : RunAccepts cupboard names v) (p r : List ℕ) (fault : FileError)
+readings_are_right : (cupboard : List Meaning) (names : RunNames) (v : View) (good : RunAccepts cupboard names v) (p r : List ℕ) (fault : FileFault)
     → IsRead (v.held names.plan) p → IsRead (v.held names.readings) r → RefusesReadings cupboard p r fault → ⊥
 readings_are_right cupboard names v good p r fault plan_read readings_read bad =
     let file : good.values.file ≡ bad.0 = ok_same _ _ _ (plan_is cupboard names v good p plan_read) bad.2 in
@@ -108,7 +108,7 @@ registers_lanes_are_right cupboard count names v good p fault is bad =
     let same : good.values.file ≡ bad.0 = ok_same _ _ _ (registers_plan_is cupboard count names v good p is) bad.1 in
     ok_or_err _ _ _ (ap (λ file. hung_by cupboard file.lanes) (sym same) ∙ good.of_bytes.lanes) bad.2
 
-tables_are_right : (cupboard : List Meaning) (count : ℕ) (names : RegisterNames) (v : View) (good : RegistersAccept cupboard count names v) (p r : List ℕ) (fault : FileError)
+tables_are_right : (cupboard : List Meaning) (count : ℕ) (names : RegisterNames) (v : View) (good : RegistersAccept cupboard count names v) (p r : List ℕ) (fault : FileFault)
     → IsRead (v.held names.plan) p → IsRead (v.held names.readings) r → RefusesTables cupboard count p r fault → ⊥
 tables_are_right cupboard count names v good p r fault plan_read readings_read bad =
     let file : good.values.file ≡ bad.0 = ok_same _ _ _ (registers_plan_is cupboard count names v good p plan_read) bad.2 in

@@ -14,7 +14,7 @@ use Rattle.plan_files.specs.declared.fault.FileCause.TheVariants.{Key}
 use Rattle.plan_files.specs.PlanFiles.{PlanFileView, plan_of}
 use Rattle.commands.proofs.CalmLemmas.{IsCalm, ok_or_err, ok_same, read_is, one_is_short, unread_calm}
 use Rattle.std.proofs.lemmas.Bool.{false≢true}
-use Rattle.plan_files.specs.declared.fault.FileError.{FileError}
+use Rattle.plan_files.specs.declared.fault.FileFault.{FileFault}
 use Rattle.commands.specs.Accepted.{PartsAccepts}
 use Rattle.meter_files.specs.Names.{names_below}
 use Rattle.command_texts.specs.Lines.{parts_line}
@@ -28,7 +28,7 @@ files_calm prefix names files line v w CannotPrint ends = inl tt
 files_calm prefix names files line v w _ ends = absurd ends
 
 -- an accepted plan has no fault
-no_fault : (plan : List ℕ) (g : ℕ) (v : View) (bytes : List ℕ) (fault : FileError) → PartsAccepts plan g v → IsRead (v.held plan) bytes
+no_fault : (plan : List ℕ) (g : ℕ) (v : View) (bytes : List ℕ) (fault : FileFault) → PartsAccepts plan g v → IsRead (v.held plan) bytes
     → ((plan_of bytes ≡ Err fault) ⊎ ((file : PlanFileView) × (plan_of bytes ≡ Ok file) × (nat_lt g (length file.plan.groups) ≡ false) × (fault ≡ in_row 0 (Key Range)))) → ⊥
 no_fault plan g v bytes fault good is (inl refused) = ok_or_err _ _ _ (ap plan_of (sym (read_is v plan good.bytes bytes good.file is)) ∙ good.value) refused
 no_fault plan g v bytes fault good is (inr (file, value, outside, fault_is)) =

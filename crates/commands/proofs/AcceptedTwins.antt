@@ -9,7 +9,7 @@ use Rattle.command_texts.specs.Twins.{TwinBytes, TwinValues, AreTwinValues, Refu
 use Rattle.command_words.specs.Words.{TwinNames}
 use Rattle.file_commands.specs.TwinEnds.{AreReadBy, compared_by, TwinCommandEnds, RingTwinEnds, PooledCommandEnds}
 use Rattle.command_words.specs.declared.outcome.Outcome.{Outcome}
-use Rattle.plan_files.specs.declared.fault.FileError.{FileError}
+use Rattle.plan_files.specs.declared.fault.FileFault.{FileFault}
 use Rattle.plan_files.specs.PlanFiles.{plan_of}
 use Rattle.plan_files.specs.Readings.{readings_of}
 use Rattle.mask_stream.specs.KeyStreams.{streams}
@@ -74,15 +74,15 @@ four_calm names v w outcome bytes held unread =
     unread
 
 -- no fault of the first three files is that of files with values
-plan_not_refused : (bytes : TwinBytes) (good : TwinValues) → AreTwinValues bytes good → (fault : FileError) → plan_of bytes.plan ≡ Err fault → ⊥
+plan_not_refused : (bytes : TwinBytes) (good : TwinValues) → AreTwinValues bytes good → (fault : FileFault) → plan_of bytes.plan ≡ Err fault → ⊥
 plan_not_refused bytes good well fault bad = ok_or_err _ _ _ well.plan bad
 
-first_not_refused : (bytes : TwinBytes) (good : TwinValues) → AreTwinValues bytes good → (fault : FileError) → RefusesFirst bytes fault → ⊥
+first_not_refused : (bytes : TwinBytes) (good : TwinValues) → AreTwinValues bytes good → (fault : FileFault) → RefusesFirst bytes fault → ⊥
 first_not_refused bytes good well fault (file, plan, bad) =
     let same : good.file ≡ file = ok_same _ _ _ well.plan plan in
     ok_or_err _ _ _ (ap (λ f. readings_of f.plan bytes.readings) (sym same) ∙ well.first) bad
 
-second_not_refused : (bytes : TwinBytes) (good : TwinValues) → AreTwinValues bytes good → (fault : FileError) → RefusesSecond bytes fault → ⊥
+second_not_refused : (bytes : TwinBytes) (good : TwinValues) → AreTwinValues bytes good → (fault : FileFault) → RefusesSecond bytes fault → ⊥
 second_not_refused bytes good well fault (file, first, plan, is, bad) =
     let same : good.file ≡ file = ok_same _ _ _ well.plan plan in
     ok_or_err _ _ _ (ap (λ f. readings_of f.plan bytes.other) (sym same) ∙ well.second) bad
@@ -222,7 +222,7 @@ pooled_held : (known : List KnownMeter) (names : TwinNames) (v : View) (good : P
 pooled_held known names v good = record { plan = good.plan; readings = good.readings; other = good.other; transcript = good.transcript }
 
 -- the plan has each known meter
-not_outside : (known : List KnownMeter) (names : TwinNames) (v : View) (good : PooledAccepts known names v) (fault : FileError) → RefusesPlanFor known good.bytes fault → ⊥
+not_outside : (known : List KnownMeter) (names : TwinNames) (v : View) (good : PooledAccepts known names v) (fault : FileFault) → RefusesPlanFor known good.bytes fault → ⊥
 not_outside known names v good fault (inl bad) = plan_not_refused good.bytes good.values good.of_bytes fault bad
 not_outside known names v good fault (inr (file, plan, outside, fault_is)) =
     let same : good.values.file ≡ file = ok_same _ _ _ good.of_bytes.plan plan in

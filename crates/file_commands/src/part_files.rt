@@ -13,11 +13,11 @@ use desk_outside::Desk;
 use group_plan::Plan;
 use meter_files::{PartFailure, put_parts};
 use pair_keys::{KeyError, KeyTable};
-use plan_files::{FileCause, FileError};
+use plan_files::{FileCause, FileFault};
 use std::alloc::Global;
 
 /// The fault of a plan that hasn't the group.
-const NO_GROUP: FileError = FileError {
+const NO_GROUP: FileFault = FileFault {
     row: 0,
     cause: FileCause::Key(KeyError::Range),
 };

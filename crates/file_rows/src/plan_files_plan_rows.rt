@@ -1,10 +1,10 @@
 //! Plan files: their values and their first faults.
 
-use crate::fixtures::{check, check_bytes, check_same};
+use crate::fixtures::{check, check_bytes, check_same, fault_at};
 use group_plan::{Plan, PlanError, SpanError};
 use link_lanes::LaneRow;
 use pair_keys::{KeyError, KeyId, KeyTable};
-use plan_files::{FileCause, FileError, PlanFile, read_plan, read_public};
+use plan_files::{Failed, FileCause, FileFault, PlanFile, read_plan, read_public};
 use row_fixtures::reading_tag;
 use std::alloc::{AllocError, Global};
 use std::process::Abort;
@@ -61,12 +61,9 @@ fn plan_file(
     Ok(file)
 }
 
-fn read(alloc: Global, bytes: &[u8]) -> Result<PlanFile, FileError> {
+fn read(alloc: Global, bytes: &[u8]) -> Result<PlanFile, Failed<FileFault>> {
     if bytes.len() > 1 << 28 {
-        return Err(FileError {
-            row: 0,
-            cause: FileCause::Memory,
-        });
+        return Err(Failed::Memory);
     }
     read_plan(alloc, bytes)
 }
@@ -361,7 +358,7 @@ fn check_fault(
     rt: &impl Abort,
     alloc: Global,
     file: &[u8],
-    fault: FileError,
+    fault: Failed<FileFault>,
     text: &str,
     more: &str,
 ) {
@@ -374,7 +371,7 @@ fn first_faults_of_plans(rt: HostRuntime) -> Result<(), Fail> {
     for case in FAULTS.iter() {
         let (from, until, text, more, row, cause) = *case;
         let file = plan_file(rt.alloc(), from, until, text, more)?;
-        let fault = FileError { row, cause };
+        let fault = fault_at(row, cause);
         check_fault(&rt, rt.alloc(), &file, fault, text, more);
     }
     Ok(())
@@ -620,8 +617,7 @@ fn plans_of_many_keys(rt: HostRuntime) -> Result<(), Fail> {
     for case in LONG_FAULTS.iter() {
         let (first, second, row) = *case;
         let file = long_plan(rt.alloc(), [first, second])?;
-        let cause = FileCause::Hex;
-        let fault = FileError { row, cause };
+        let fault = fault_at(row, FileCause::Hex);
         check_fault(&rt, rt.alloc(), &file, fault, "a long plan", "");
     }
     let file = long_plan(rt.alloc(), [(0, 0), (0, 0)])?;
@@ -629,12 +625,9 @@ fn plans_of_many_keys(rt: HostRuntime) -> Result<(), Fail> {
     Ok(())
 }
 
-fn read_for_everybody(alloc: Global, bytes: &[u8]) -> Result<Plan, FileError> {
+fn read_for_everybody(alloc: Global, bytes: &[u8]) -> Result<Plan, Failed<FileFault>> {
     if bytes.len() > 1 << 28 {
-        return Err(FileError {
-            row: 0,
-            cause: FileCause::Memory,
-        });
+        return Err(Failed::Memory);
     }
     read_public(alloc, bytes)
 }
@@ -684,7 +677,7 @@ fn first_faults_of_public_plans(rt: HostRuntime) -> Result<(), Fail> {
     for case in PUBLIC_FAULTS.iter() {
         let (text, row, cause) = *case;
         let came = read_for_everybody(rt.alloc(), text.as_bytes()).err();
-        check_same(&rt, &came, &Some(FileError { row, cause }), text);
+        check_same(&rt, &came, &Some(fault_at(row, cause)), text);
     }
     Ok(())
 }

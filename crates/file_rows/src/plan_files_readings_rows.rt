@@ -1,8 +1,8 @@
 //! Readings files: their values and their first faults.
 
-use crate::fixtures::check_same;
+use crate::fixtures::{check_same, fault_at};
 use group_plan::{Plan, Readings, Span};
-use plan_files::{FileCause, FileError, read_readings};
+use plan_files::{Failed, FileCause, FileFault, read_readings};
 use row_fixtures::{group, reading_tag};
 use std::alloc::Global;
 use std::process::Abort;
@@ -21,7 +21,7 @@ fn small_plan(alloc: Global) -> Result<Plan, Fail> {
     Ok(plan)
 }
 
-fn fault_of_readings(alloc: Global, plan: &Plan, text: &[u8]) -> Option<FileError> {
+fn fault_of_readings(alloc: Global, plan: &Plan, text: &[u8]) -> Option<Failed<FileFault>> {
     if text.len() > 1 << 28 {
         return None;
     }
@@ -140,10 +140,7 @@ fn first_faults_of_readings(rt: HostRuntime) -> Result<(), Fail> {
         check_same(&rt, &came, &None, text);
     }
     for (text, row, cause) in FAULTS.iter() {
-        let fault = FileError {
-            row: *row,
-            cause: *cause,
-        };
+        let fault = fault_at(*row, *cause);
         let came = fault_of_readings(rt.alloc(), &plan, text.as_bytes());
         check_same(&rt, &came, &Some(fault), text);
     }

@@ -2,15 +2,20 @@
 
 ghost use Rattle.std.specs.Prelude.{◌≤◌};
 
-use crate::fixtures::check_same;
+use crate::fixtures::{check_same, fault_at};
 use group_plan::Plan;
-use plan_files::{FileCause, FileError, Registers, read_registers};
+use plan_files::{Failed, FileCause, FileFault, Registers, read_registers};
 use row_fixtures::{plan_of_north, reading_tag};
 use std::alloc::Global;
 use std::process::Abort;
 use std::test::Fail;
 
-fn fault_of_registers(alloc: Global, plan: &Plan, registers: u8, text: &[u8]) -> Option<FileError>
+fn fault_of_registers(
+    alloc: Global,
+    plan: &Plan,
+    registers: u8,
+    text: &[u8],
+) -> Option<Failed<FileFault>>
     requires { (2 ≤ registers) × (registers ≤ 8) }
 {
     if text.len() > 1 << 28 {
@@ -91,11 +96,7 @@ fn first_faults_of_registers(rt: HostRuntime) -> Result<(), Fail> {
     for (field, cause) in FAULTS.iter() {
         let row = row_with(rt.alloc(), field)?;
         let came = fault_of_registers(rt.alloc(), &plan, 2, row.as_bytes());
-        let fault = FileError {
-            row: 1,
-            cause: *cause,
-        };
-        check_same(&rt, &came, &Some(fault), field);
+        check_same(&rt, &came, &Some(fault_at(1, *cause)), field);
     }
     Ok(())
 }
@@ -108,14 +109,14 @@ fn eight_registers(rt: HostRuntime) -> Result<(), Fail> {
         ("north,0,1+2+3+4+5+6+7+8,,\n", None),
         (
             "north,0,18446744073709551615+18446744073709551615+18446744073709551615+18446744073709551615+18446744073709551615+18446744073709551615+18446744073709551615+18446744073709551615,,\n",
-            Some(FileCause::Range),
+            Some(fault_at(1, FileCause::Range)),
         ),
-        ("north,0,1+2+3+4+5+6+7+8+9,,\n", Some(FileCause::Number)),
-        ("north,0,1+2+3+4+5+6+7,,\n", Some(FileCause::Number)),
+        ("north,0,1+2+3+4+5+6+7+8+9,,\n", Some(fault_at(1, FileCause::Number))),
+        ("north,0,1+2+3+4+5+6+7,,\n", Some(fault_at(1, FileCause::Number))),
     ];
-    for (text, cause) in rows {
+    for (text, fault) in rows {
         let came = fault_of_registers(rt.alloc(), &plan, 8, text.as_bytes());
-        check_same(&rt, &came.map(|fault| fault.cause), &cause, text);
+        check_same(&rt, &came, &fault, text);
     }
     Ok(())
 }

@@ -17,7 +17,7 @@ use command_words::{MeterFiles, Outcome};
 use desk_outside::{Desk, Wire};
 use meter_apart::{MeterApart, MeterKeys, Part};
 use meter_files::{MeterFile, read_meter};
-use plan_files::FileCause;
+use plan_files::Failed;
 use std::alloc::Global;
 
 // The keys of the meter that a meter file is about.
@@ -50,10 +50,8 @@ fn keys_in<'a>(alloc: Global, name: &'a str, bytes: &[u8]) -> Result<MeterKeys, 
 {
     match read_meter(alloc, bytes) {
         Ok(file) => Ok(keys_of(file)),
-        Err(fault) => match fault.cause {
-            FileCause::Memory => Err(Outcome::NoMemory),
-            _ => Err(Outcome::BadPlan(name, fault)),
-        },
+        Err(Failed::Memory) => Err(Outcome::NoMemory),
+        Err(Failed::Fault(fault)) => Err(Outcome::BadPlan(name, fault)),
     }
 }
 

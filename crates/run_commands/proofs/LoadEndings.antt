@@ -11,7 +11,7 @@ use Rattle.command_files.specs.Calls.{Unwritable, PutsEnd}
 use Rattle.command_texts.specs.Runs.{AreValues, Values, Texts, RefusesReadings, Makes, HasValues}
 use Rattle.command_texts.proofs.RunLemmas.{is_only}
 use Rattle.load_maker.specs.Made.{made_plan, made_file, made_readings}
-use Rattle.plan_files.specs.declared.fault.FileError.{FileError}
+use Rattle.plan_files.specs.declared.fault.FileFault.{FileFault}
 use Rattle.plan_files.specs.PlanFiles.{plan_of}
 use Rattle.plan_files.specs.Readings.{readings_of}
 use Rattle.load_maker.specs.MadeFiles.{AreRead}
@@ -28,7 +28,7 @@ plan_of_made size = refl
 not_both : {A E : Type 0} (r : Result A E) (a : A) (e : E) → r ≡ Ok a → r ≡ Err e → ⊥
 not_both r a e well bad = cc
 
-readings_not_refused : (cupboard : List Meaning) (size : Size) (p r : List ℕ) (fault : FileError) → p ≡ made_plan_text size → r ≡ made_readings_text size
+readings_not_refused : (cupboard : List Meaning) (size : Size) (p r : List ℕ) (fault : FileFault) → p ≡ made_plan_text size → r ≡ made_readings_text size
     → AreRead size.seed size.groups size.meters size.rounds → RefusesReadings cupboard p r fault → ⊥
 readings_not_refused cupboard size p r fault p_is r_is made (file, slots, plan_is, lanes_are, bad) =
     let well : plan_of p ≡ Ok (made_file_of size) = ap plan_of p_is ∙ made.plan in
