@@ -111,8 +111,14 @@ fn eight_registers(rt: HostRuntime) -> Result<(), Fail> {
             "north,0,18446744073709551615+18446744073709551615+18446744073709551615+18446744073709551615+18446744073709551615+18446744073709551615+18446744073709551615+18446744073709551615,,\n",
             Some(fault_at(1, FileCause::Range)),
         ),
-        ("north,0,1+2+3+4+5+6+7+8+9,,\n", Some(fault_at(1, FileCause::Number))),
-        ("north,0,1+2+3+4+5+6+7,,\n", Some(fault_at(1, FileCause::Number))),
+        (
+            "north,0,1+2+3+4+5+6+7+8+9,,\n",
+            Some(fault_at(1, FileCause::Number)),
+        ),
+        (
+            "north,0,1+2+3+4+5+6+7,,\n",
+            Some(fault_at(1, FileCause::Number)),
+        ),
     ];
     for (text, fault) in rows {
         let came = fault_of_registers(rt.alloc(), &plan, 8, text.as_bytes());
