@@ -21,6 +21,9 @@ fn texts() -> [(Version, &'static str); 2] {
 // How many bytes a piece has: fewer than a line, about a line, some lines, more than the text.
 static SIZES: [usize; 6] = [1, 20, 110, 111, 300, 5000];
 
+// Sizes for very many texts: a piece of one byte would have each of them start hundreds of threads.
+static FEW_SIZES: [usize; 3] = [20, 110, 300];
+
 // Lines that stand in place of each line in turn: no entry, one that is longer than most pieces, a tick that falls, a tick that others
 // may not fall below, and a Send in which nothing stands.
 static LINES: [&str; 5] = [
@@ -127,7 +130,7 @@ fn read_ahead_cut_before_each_byte(rt: HostRuntime) {
     let bytes = PLAIN.as_bytes();
     for cut in 0..bytes.len() {
         let alone = count_alone(rt.alloc(), Version::Two, &bytes[..cut]);
-        for size in SIZES.iter() {
+        for size in FEW_SIZES.iter() {
             let ahead = count_ahead(&rt, rt.alloc(), Version::Two, &bytes[..cut], *size);
             check_same(&rt, &(*size, ahead), &(*size, alone), "a cut");
         }
