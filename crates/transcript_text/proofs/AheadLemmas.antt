@@ -158,6 +158,7 @@ view_at version plan n last count text = record {
   plan = plan;
   line = n;
   last = last;
+  count = count;
   left = entries_from version plan n last count (parts 10 text);
   text = text;
   bytes = length text;
@@ -230,6 +231,10 @@ module _ (version : Version) (plan : PlanView) (text : List ℕ) (p : Piece) (is
         last = sym tick;
         some = some_first es first first_is;
         fewer = omega (arith, most, long);
+        goes_on = λ more.
+            ap (λ q. entries_from version plan n last count (parts 10 q)) (ap (λ q. q ++ more) lines ∙ append_assoc (entry_lines version es) rest more)
+            ∙ entries_ahead version plan s head n last count es (rest ++ more) st.follow
+            ∙ ap (λ t. before es (entries_from version plan (n + length es) t (count + length es) (parts 10 (rest ++ more)))) tick;
       }
 
 -- ---- pieces side by side

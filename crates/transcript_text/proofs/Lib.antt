@@ -8,6 +8,8 @@ mod WithinLemmas
 mod FateTexts
 mod LineFields
 mod EntryLoop
+mod MoreText
+mod NextLists
 mod NextEntry
 mod Failing
 mod HeadFields
@@ -41,5 +43,6 @@ pub mod WholeLines
 mod Located
 mod EntryFaults
 mod HeadFaults
+mod Feeding
 mod FirstFaults
 mod LineNumbers

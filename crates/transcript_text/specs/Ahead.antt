@@ -14,7 +14,7 @@ use Rattle.field_texts.specs.Parts.{parts}
 use Rattle.transcript_text.specs.Reading.{before, Fails, row_of}
 use Rattle.transcript_text.specs.Heads.{read_of}
 use Rattle.transcript_text.specs.ReadBack.{HasHead}
-use Rattle.transcript_text.specs.Readers.{ReaderView, with_entries}
+use Rattle.transcript_text.specs.Readers.{ReaderView, left_of, with_entries}
 
 -- the lines of entries in a version, each with its newline
 abbrev pub entry_lines : Version → List Entry → List ℕ
@@ -61,6 +61,7 @@ pub record IsSkipped (old : ReaderView) (p : Piece) (new : ReaderView) : Type 0 
   pub last : new.last ≡ last_tick_from old.last p.entries.items
   pub some : 0 < length p.entries.items
   pub fewer : new.bytes + length p.entries.items ≤ old.bytes
+  pub goes_on : (more : List ℕ) → left_of old (old.text ++ more) ≡ before p.entries.items (left_of new (new.text ++ more))
 
 -- the entries of a piece are read where it comes next; else nothing changes
 abbrev pub SkipEnds : ReaderView → Piece → Bool → ReaderView → Type 0
@@ -70,10 +71,18 @@ SkipEnds old p false new = new ≡ old
 -- a text of which some entries are handed out
 pub record AheadView : Type 0 where
   pub plan : PlanView
+  -- the tick of the last entry that is handed out, 0 before the first
+  pub last : ℕ
   -- the entries that are left to hand out, or the first fault
   pub left : Result (List Entry) ReadError
   -- no more entries than this are left
   pub most : ℕ
+
+-- a text of which a reader has read the front, and this is the rest
+pub record IsBehind (r : ReaderView) (rest : List ℕ) (ahead : AheadView) : Type 0 where
+  pub plan : ahead.plan ≡ r.plan
+  pub last : ahead.last ≡ r.last
+  pub left : ahead.left ≡ left_of r rest
 
 -- the entries of some lists, one list after another
 abbrev pub entries_of : List (Vec Entry Global) → List Entry
@@ -84,6 +93,8 @@ pub record IsNextBatch (old : AheadView) (es : List Entry) (new : AheadView) : T
   pub left : old.left ≡ before es new.left
   pub plan : new.plan ≡ old.plan
   pub fits : All (Fits old.plan) es
+  pub ticks : NeverFalls old.last es
+  pub last : new.last ≡ last_tick_from old.last es
   pub fewer : new.most < old.most
 
 -- the next entries; none where all are handed out; or the fault that stands there
@@ -101,6 +112,7 @@ pub record IsFilled (old : ReaderView) (es : List Entry) (new : ReaderView) : Ty
   pub last : new.last ≡ last_tick_from old.last es
   pub some : 0 < length es
   pub fewer : new.bytes + length es ≤ old.bytes
+  pub goes_on : (more : List ℕ) → left_of old (old.text ++ more) ≡ before es (left_of new (new.text ++ more))
 
 abbrev pub FillEnds : ReaderView → Option (Vec Entry Global) → ReaderView → Type 0
 FillEnds old (Some es) new = IsFilled old es.items new
@@ -111,11 +123,15 @@ pub record AreNextLists (old : ReaderView) (lists : List (Vec Entry Global)) (ne
   pub left : old.left ≡ before (entries_of lists) new.left
   pub plan : new.plan ≡ old.plan
   pub fits : All (Fits old.plan) (entries_of lists)
+  pub ticks : NeverFalls old.last (entries_of lists)
+  pub last : new.last ≡ last_tick_from old.last (entries_of lists)
   pub fewer : new.bytes + length lists ≤ old.bytes
+  pub goes_on : (more : List ℕ) → left_of old (old.text ++ more) ≡ before (entries_of lists) (left_of new (new.text ++ more))
 
 -- how the reading of a text begins
 pub record IsAheadBegun (version : Version) (text : List ℕ) (r : AheadView) : Type 0 where
   pub read : read_of version text ≡ with_entries r.plan r.left
+  pub last : r.last ≡ 0
   pub plan : IsPlan r.plan
   pub head : HasHead version r.plan
 

@@ -12,3 +12,4 @@ pub mod HexDigits
 pub mod Readers
 pub mod Written
 pub mod Ahead
+pub mod Feeds

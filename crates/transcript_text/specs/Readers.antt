@@ -1,12 +1,13 @@
 -- The entries of a text, read one after another.
-use Rattle.std.specs.Prelude.{◌≡◌, ℕ, ◌+◌, ◌<◌, ◌≤◌, List, [], ◌∷◌, Option, None, Some, Result, Ok, Err}
+use Rattle.std.specs.Prelude.{◌≡◌, ℕ, ◌+◌, ◌<◌, ◌≤◌, List, [], ◌∷◌, ◌++◌, length, Option, None, Some, Result, Ok, Err}
 use Rattle.group_plan.specs.Plans.{PlanView}
 use Rattle.event_schedule.specs.declared.Entry.{Entry}
 use Rattle.event_schedule.specs.Transcripts.{TranscriptView, IsPlan, IsTranscript, Fits}
 use Rattle.transcript_text.specs.declared.version.Version.{Version}
 use Rattle.transcript_text.specs.declared.fault.ReadError.{ReadError}
 use Rattle.transcript_text.specs.Spelling.{text_of}
-use Rattle.transcript_text.specs.Reading.{Fails, before}
+use Rattle.field_texts.specs.Parts.{parts}
+use Rattle.transcript_text.specs.Reading.{Fails, before, entries_from}
 use Rattle.transcript_text.specs.Heads.{read_of}
 use Rattle.transcript_text.specs.ReadBack.{HasHead}
 
@@ -18,12 +19,22 @@ pub record ReaderView : Type 0 where
   pub line : ℕ
   -- the tick of the last entry that is read, 0 before the first
   pub last : ℕ
+  -- how many entries are read
+  pub count : ℕ
   -- the entries that are left to read, or the first fault
   pub left : Result (List Entry) ReadError
   -- the text from the next line on
   pub text : List ℕ
   -- how many bytes it has
   pub bytes : ℕ
+
+-- the entries that are left to read where this is the text from the next line on, or the first fault
+abbrev pub left_of : ReaderView → List ℕ → Result (List Entry) ReadError
+left_of r text = entries_from r.version r.plan r.line r.last r.count (parts 10 text)
+
+-- a reader over this text, from the next line on
+abbrev pub over : ReaderView → List ℕ → ReaderView
+over r text = record r { left = left_of r text; text = text; bytes = length text }
 
 -- the transcript of a plan and these entries, or the fault
 abbrev pub with_entries : PlanView → Result (List Entry) ReadError → Result TranscriptView ReadError
@@ -36,6 +47,8 @@ pub record IsBegun (version : Version) (text : List ℕ) (r : ReaderView) : Type
   pub last : r.last ≡ 0
   pub plan : IsPlan r.plan
   pub head : HasHead version r.plan
+  -- however the text goes on
+  pub goes_on : (more : List ℕ) → read_of version (text ++ more) ≡ with_entries r.plan (left_of r (r.text ++ more))
 
 -- how the reading of a text begins
 abbrev pub Begins : Version → List ℕ → Result ReaderView ReadError → Type 0

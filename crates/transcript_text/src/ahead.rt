@@ -2,7 +2,7 @@
 
 ghost use Rattle.std.specs.Prelude.{◌≡◌, ◌∷◌, [], All, IfOk};
 ghost use Rattle.transcript_text.specs.Readers.{IsTextOfWhatIsRead};
-ghost use Rattle.transcript_text.specs.Ahead.{AheadBegins, AreNextLists, BatchEnds, FillEnds, IsPieceOf, entries_of};
+ghost use Rattle.transcript_text.specs.Ahead.{AheadBegins, AreNextLists, BatchEnds, FillEnds, IsBehind, IsPieceOf, entries_of};
 
 use crate::entry_reader::EntryReader;
 use crate::fault::ReadError;
@@ -34,13 +34,13 @@ impl<'a, R: Threads + Sync> Model for EntriesAhead<'a, R> {
 
     ghost Value = { AheadView };
 
-    ghost view = { λ r. record { plan = r.reader.plan; left = r.reader.left; most = r.reader.bytes } };
+    ghost view = { λ r. record { plan = r.reader.plan; last = r.reader.last; left = r.reader.left; most = r.reader.bytes } };
 
     ghost invariant = { λ r. All (IsPieceOf r.reader.version r.reader.plan r.reader.text) r.pieces.items };
 }
 
 /// The next pieces, or none where memory is wanting.
-fn next_pieces<R: Threads + Sync>(
+pub(crate) fn next_pieces<R: Threads + Sync>(
     rt: &R,
     alloc: Global,
     reader: &EntryReader,
@@ -101,7 +101,7 @@ pub(crate) fn next_entries<R: Threads + Sync>(
 }
 
 /// The entries of the pieces, a list for each piece, as far as they come next.
-fn next_lists(
+pub(crate) fn next_lists(
     alloc: Global,
     reader: &mut EntryReader,
     pieces: &mut VecDeque<Piece>,
@@ -126,7 +126,7 @@ fn alone(alloc: Global, entry: Entry) -> Result<Vec<Vec<Entry>>, AllocError>
 }
 
 /// Does some work, and reads the next pieces beside it.
-fn pieces_beside<R: Threads + Sync, T, F: FnOnce() -> T>(
+pub(crate) fn pieces_beside<R: Threads + Sync, T, F: FnOnce() -> T>(
     rt: &R,
     alloc: Global,
     reader: &EntryReader,
@@ -164,6 +164,25 @@ impl<'a, R: Threads + Sync> EntriesAhead<'a, R> {
             alloc,
             size,
             reader,
+            pieces: VecDeque::new(alloc),
+        })
+    }
+
+    /// A text of which a reader has read the front, and this is the rest.
+    pub fn behind(
+        rt: &'a R,
+        alloc: Global,
+        reader: EntryReader<'_>,
+        rest: &'a [u8],
+        size: usize,
+    ) -> Result<EntriesAhead<'a, R>, AllocError>
+        ensures { IfOk result (λ ahead. IsBehind reader.entry rest.now ahead) }
+    {
+        Ok(EntriesAhead {
+            rt,
+            alloc,
+            size,
+            reader: reader.over(rest)?,
             pieces: VecDeque::new(alloc),
         })
     }

@@ -3,7 +3,7 @@
 ghost use Rattle.std.specs.Prelude.{◌≡◌, All, IfOk};
 ghost use Rattle.transcript_text.specs.Ahead.{IsPieceOf, SkipEnds};
 ghost use Rattle.transcript_text.specs.Reading.{in_line};
-ghost use Rattle.transcript_text.specs.Readers.{ReaderView, Begins, NextEnds, IsTextOfWhatIsRead};
+ghost use Rattle.transcript_text.specs.Readers.{Begins, NextEnds, IsTextOfWhatIsRead, over};
 
 use crate::fault::{BodyLine, ReadError, RowFault};
 use crate::head::read_head;
@@ -16,6 +16,9 @@ use group_plan::Plan;
 use std::alloc::{AllocError, Global};
 use std::marker::Model;
 use std::thread::Threads;
+
+/// The number of a line that no text has.
+const MOST_LINES: u64 = 1 << 62;
 
 /// A text of which the head is read, and some of the entries.
 #[derive(Drop)]
@@ -41,7 +44,7 @@ impl<'a> Model for EntryReader<'a> {
 
     ghost Value = { ReaderView };
 
-    ghost view = { λ r. record { version = r.version; plan = r.plan; line = r.line; last = r.last; left = entries_from r.version r.plan r.line r.last r.count (parts 10 r.rest.now); text = r.rest.now; bytes = length r.rest.now } };
+    ghost view = { λ r. record { version = r.version; plan = r.plan; line = r.line; last = r.last; count = r.count; left = entries_from r.version r.plan r.line r.last r.count (parts 10 r.rest.now); text = r.rest.now; bytes = length r.rest.now } };
 
     ghost invariant = { λ r. (r.line + length r.rest.now < 2 ^ 64 - 1) × (r.count ≤ r.line) × HasHead r.version r.plan };
 }
@@ -81,6 +84,23 @@ impl<'a> EntryReader<'a> {
         })
     }
 
+    /// A reader that has read as much, over another text from the next line on. Want of memory stands for more than 2^62 lines.
+    pub(crate) fn over<'b>(self, text: &'b [u8]) -> Result<EntryReader<'b>, AllocError>
+        ensures { IfOk result (λ reader. reader ≡ over self.entry text.now) }
+    {
+        if self.line > MOST_LINES {
+            return Err(AllocError);
+        }
+        Ok(EntryReader {
+            version: self.version,
+            plan: self.plan,
+            line: self.line,
+            last: self.last,
+            count: self.count,
+            rest: text,
+        })
+    }
+
     /// The plan of the head.
     pub fn plan(&self) -> &Plan
         ensures { result.now ≡ self.now.plan }
@@ -93,6 +113,13 @@ impl<'a> EntryReader<'a> {
         ensures { result ≡ self.now.line }
     {
         self.line
+    }
+
+    /// The text from the next line on.
+    pub(crate) fn text(&self) -> &'a [u8]
+        ensures { result.now ≡ self.now.text }
+    {
+        self.rest
     }
 
     /// How many bytes are left to read.

@@ -16,8 +16,8 @@ use transcript_log::Transcript;
 /// About as many bytes as a line has: room is made by it, so that what grows need not be moved.
 pub(crate) const BYTES_A_LINE: usize = 72;
 
-/// Puts entries behind those of a transcript.
-fn put_all(transcript: &mut Transcript, entries: &[Entry]) -> Result<(), AllocError>
+/// Puts entries behind those of a transcript. An error where memory runs out; some of them may be put then.
+pub fn put_all(transcript: &mut Transcript, entries: &[Entry]) -> Result<(), AllocError>
     requires ticks { NeverFalls (last_tick_from 0 transcript.old.entries) entries.now }
     requires fits { All (Fits transcript.old.plan) entries.now }
     ensures { OnOk result (transcript.new ≡ record transcript.old { entries = transcript.old.entries ++ entries.now }) }

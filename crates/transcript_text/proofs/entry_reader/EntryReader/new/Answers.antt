@@ -2,6 +2,7 @@ use Rattle.std.proofs.Common.{arith, refl}
 use Rattle.field_texts.specs.Parts.{parts}
 use Rattle.transcript_text.specs.Heads.{HeadRead}
 use Rattle.transcript_text.proofs.HeadText.{head_is}
+use Rattle.transcript_text.proofs.MoreText.{read_goes_on}
 use Rattle.transcript_text.proofs.ReaderLemmas.{head_fails, head_then_entries}
 use Rattle.transcript_text.proofs.entry_reader.EntryReader.new.Goals as goal
 
@@ -17,6 +18,7 @@ returns-clause-begins c =
       last = refl;
       plan = is.plan;
       head = is.has;
+      goes_on = read_goes_on c.args.version c.args.bytes.now c.in-Ok.head.rest.now c.in-Ok.head.plan c.in-Ok.head.line c.in-Ok.ensures.given;
     }
 
 pub invariant_of-result : goal.invariant_of-result
