@@ -1,5 +1,5 @@
 -- Which names are taken, and what a commit of a file that was begun leaves.
-use Rattle.std.specs.Prelude.{◌≡◌, ℕ, Bool, false, List, Option, Some, None, Result, Ok, Err}
+use Rattle.std.specs.Prelude.{◌≡◌, ℕ, Bool, false, List, Some, None, Result, Ok, Err}
 use Rattle.desk_outside.specs.declared.desk.DeskError.{DeskError}
 use Rattle.desk_outside.specs.declared.desk.DeskError.TheVariants.{Failed, Memory}
 use Rattle.desk_outside.specs.Desk.{View, Held, Stored, Unstored, after_step}

@@ -10,6 +10,7 @@ use Rattle.desk_outside.specs.declared.desk.DeskError.TheVariants.{Failed, Memor
 use Rattle.desk_outside.specs.declared.desk.DeskKind.{DeskKind}
 use Rattle.desk_outside.specs.declared.desk.DeskKind.TheVariants.{Fetch, Put, Say, Complain}
 use Rattle.desk_outside.specs.declared.desk.DeskCall.{DeskCall}
+use Rattle.desk_outside.specs.Sink.{Takes}
 
 -- what a name holds: None where that is not told, Some None where it holds nothing
 abbrev pub Held : Type 0
@@ -77,12 +78,23 @@ IsLonger (Some (Some bytes)) most = most < length bytes
 abbrev pub IsPrefixOf : List ℕ → List ℕ → Type 0
 IsPrefixOf front bytes = (n : ℕ) × (front ≡ take n bytes)
 
--- what a fetch gives and leaves; at `Ok` what the names hold is said once more, for the fetches that follow
+-- a fetch was answered with these bytes; what the names hold is said once more, for the fetches that follow
+abbrev pub Fetches : List ℕ → ℕ → View → View → List ℕ → Type 0
+Fetches name most v w bytes = (w ≡ after_step v (Fetched name false)) × Holds (v.held name) bytes × (length bytes ≤ most) × (w.held ≡ v.held)
+
+-- what a fetch gives and leaves
 abbrev pub FetchEnds : List ℕ → ℕ → View → View → Result (Vec ℕ Global) FetchError → Type 0
-FetchEnds name most v w (Ok bytes) = (w ≡ after_step v (Fetched name false)) × Holds (v.held name) bytes.items × (length bytes.items ≤ most) × (w.held ≡ v.held)
+FetchEnds name most v w (Ok bytes) = Fetches name most v w bytes.items
 FetchEnds name most v w (Err FetchFailed) = w ≡ after_step v (Fetched name true)
 FetchEnds name most v w (Err (FetchTooLong seen)) = (w ≡ after_step v (Fetched name false)) × (seen ≡ most + 1) × IsLonger (v.held name) most
 FetchEnds name most v w (Err FetchMemory) = w ≡ v
+
+-- what a pour gives and leaves: what a fetch of the same bytes leaves, and a sink that has taken them
+abbrev pub PourEnds : {S : Type 0} → (has : S → List ℕ → Type 0) → List ℕ → ℕ → View → View → S → Result S FetchError → Type 0
+PourEnds has name most v w sink (Ok full) = (bytes : List ℕ) × Fetches name most v w bytes × Takes has sink bytes full
+PourEnds has name most v w sink (Err FetchFailed) = w ≡ after_step v (Fetched name true)
+PourEnds has name most v w sink (Err (FetchTooLong seen)) = (w ≡ after_step v (Fetched name false)) × (seen ≡ most + 1) × IsLonger (v.held name) most
+PourEnds has name most v w sink (Err FetchMemory) = w ≡ v
 
 -- what a say leaves: the bytes appended, or after a failure a prefix of them
 abbrev pub SayEnds : List ℕ → View → View → Result (Unit {0}) DeskError → Type 0

@@ -1,6 +1,5 @@
 -- A desk in memory: what it tells, and which of its calls fail.
-use Rattle.std.specs.Prelude.{◌≡◌, ℕ, Bool, true, false, ◌||◌, if◌then◌else◌, List, [], Some, None, is_some, is_none, Result, Ok, Err, Vec, string_bytes, ⊤}
-use Rattle.std.specs.declared.alloc.Global.{Global}
+use Rattle.std.specs.Prelude.{◌≡◌, ℕ, Bool, true, false, ◌||◌, if◌then◌else◌, List, [], Some, None, is_some, is_none, Result, Ok, Err, string_bytes, ⊤}
 use Rattle.desk_outside.specs.declared.desk.FetchError.{FetchError}
 use Rattle.desk_outside.specs.declared.desk.FetchError.TheVariants.{Failed as FetchFailed, TooLong as FetchTooLong, Memory as FetchMemory}
 use Rattle.desk_outside.specs.declared.desk.DeskError.{DeskError}
@@ -56,7 +55,7 @@ turns_of d = record { failing = d.turns.failing.items; next = d.turns.next; faul
 abbrev pub is_failing : Turns → Bool
 is_failing t = is_listed t.failing t.next
 
--- the next call is a fetch that fails: it is one of those, or the name holds nothing
+-- the next call is a fetch or a pour that fails: it is one of those, or the name holds nothing
 abbrev pub is_failing_fetch : MemoryDesk → List ℕ → Bool
 is_failing_fetch d name = is_failing (turns_of d) || is_none (held_in d.files name)
 
@@ -64,9 +63,9 @@ is_failing_fetch d name = is_failing (turns_of d) || is_none (held_in d.files na
 abbrev pub after_turn : Turns → Bool → Turns
 after_turn t fails = record t { next = one_more t.next; faults = if fails then one_more t.faults else t.faults }
 
--- a fetch answers `Failed` exactly where it fails
-abbrev pub FetchFails : Bool → Result (Vec ℕ Global) FetchError → Type 0
-FetchFails fails (Ok bytes) = fails ≡ false
+-- a fetch or a pour answers `Failed` exactly where it fails
+abbrev pub FetchFails : {T : Type 0} → Bool → Result T FetchError → Type 0
+FetchFails fails (Ok given) = fails ≡ false
 FetchFails fails (Err FetchFailed) = fails ≡ true
 FetchFails fails (Err (FetchTooLong seen)) = fails ≡ false
 FetchFails fails (Err FetchMemory) = ⊤

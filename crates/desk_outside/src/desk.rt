@@ -2,9 +2,10 @@
 
 ghost use Rattle.std.specs.Prelude.{◌≡◌, ◌≤◌, ◌<◌, ◌^◌, ℕ, [], true, IfOk, IsErrOf};
 ghost use Rattle.desk_outside.specs.Begun.{CommitEnds, IsTaken};
-ghost use Rattle.desk_outside.specs.Desk.{View, FetchEnds, SayEnds, ComplainEnds, Rose};
+ghost use Rattle.desk_outside.specs.Sink.{HasSome};
+ghost use Rattle.desk_outside.specs.Desk.{View, FetchEnds, PourEnds, SayEnds, ComplainEnds, Rose};
 
-use crate::{BegunFile, Readers};
+use crate::{BegunFile, Readers, Sink};
 use std::alloc::{AllocError, Global};
 use std::marker::Model;
 use thiserror::Error;
@@ -63,7 +64,7 @@ pub struct DeskCall {
     pub failed: bool,
 }
 
-/// Why a fetch gave no bytes.
+/// Why a fetch or a pour gave no bytes.
 #[derive(Clone, Copy, Debug, PartialEq, Eq, Error)]
 pub enum FetchError {
     /// The outside failed, or nothing has the name.
@@ -102,6 +103,20 @@ pub trait Desk {
     /// The bytes under the name, of which there may be at most `most`.
     fn fetch(&mut self, alloc: Global, name: &str, most: u64) -> Result<Vec<u8>, FetchError>
         ensures ends { FetchEnds name.now most (view self.old) (view self.new) result }
+        ensures later { faults self.old ≤ faults self.new }
+        ensures cause { IsErrOf result FetchError.Failed
+            → Rose (faults self.old) (faults self.new) };
+
+    /// Has a sink take the bytes under the name, of which there may be at most `most`, piece by piece.
+    fn pour<S: Sink>(
+        &mut self,
+        alloc: Global,
+        name: &str,
+        most: u64,
+        sink: S,
+    ) -> Result<S, FetchError>
+        requires { HasSome S.has sink }
+        ensures ends { PourEnds S.has name.now most (view self.old) (view self.new) sink result }
         ensures later { faults self.old ≤ faults self.new }
         ensures cause { IsErrOf result FetchError.Failed
             → Rose (faults self.old) (faults self.new) };

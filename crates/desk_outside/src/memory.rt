@@ -5,11 +5,13 @@ ghost use Rattle.std.specs.Option.{option_copied};
 ghost use Rattle.std.specs.Str.{bytes_eq};
 ghost use Rattle.desk_outside.specs.Parts.{held_in, is_failed, is_listed};
 ghost use Rattle.desk_outside.specs.Begun.{CommitEnds, IsTaken};
-ghost use Rattle.desk_outside.specs.Desk.{FetchEnds, SayEnds, ComplainEnds, Rose, Unstored, Said, Complained, call_of, one_more};
+ghost use Rattle.desk_outside.specs.Sink.{HasSome};
+ghost use Rattle.desk_outside.specs.Desk.{FetchEnds, PourEnds, SayEnds, ComplainEnds, Rose, Unstored, Said, Complained, call_of, one_more};
 
 use crate::pieces::write_pieces;
+use crate::sink::hand_over;
 use crate::{
-    BegunFile, CallName, Desk, DeskCall, DeskError, DeskKind, FetchError, Pieces, Readers,
+    BegunFile, CallName, Desk, DeskCall, DeskError, DeskKind, FetchError, Pieces, Readers, Sink,
 };
 use std::alloc::{AllocError, Global};
 use std::collections::BTreeMap;
@@ -42,8 +44,8 @@ impl Turns {
     }
 }
 
-/// A desk in memory. It fails the calls that it is told to fail, and a fetch of a name that holds
-/// nothing.
+/// A desk in memory. It fails the calls that it is told to fail, and a fetch or a pour of a name that
+/// holds nothing.
 #[derive(Drop)]
 pub struct MemoryDesk {
     alloc: Global,
@@ -52,6 +54,8 @@ pub struct MemoryDesk {
     complained: Vec<u8>,
     calls: Vec<DeskCall>,
     turns: Turns,
+    // The most bytes of a piece that a sink is handed.
+    piece_bytes: usize,
 }
 
 impl MemoryDesk {
@@ -75,6 +79,19 @@ impl MemoryDesk {
                 next: 0,
                 faults: 0,
             },
+            piece_bytes: usize::MAX,
+        }
+    }
+
+    /// The same desk, which hands the bytes of a file to a sink in pieces of at most this many bytes, but of one byte at least.
+    /// A new desk hands them over all at once.
+    pub fn with_pieces(self, piece_bytes: usize) -> MemoryDesk
+        ensures view { view_of result ≡ view_of self }
+        ensures turns { turns_of result ≡ turns_of self }
+    {
+        MemoryDesk {
+            piece_bytes,
+            ..self
         }
     }
 
@@ -259,6 +276,41 @@ impl Desk for MemoryDesk {
                 let copy = bytes.to_vec(alloc)?;
                 note(self.alloc, &mut self.calls, DeskKind::Fetch, name, false)?;
                 Ok(copy)
+            }
+            _ => {
+                note(self.alloc, &mut self.calls, DeskKind::Fetch, name, true)?;
+                Err(FetchError::Failed)
+            }
+        }
+    }
+
+    fn pour<S: Sink>(
+        &mut self,
+        _alloc: Global,
+        name: &str,
+        most: u64,
+        sink: S,
+    ) -> Result<S, FetchError>
+        requires { HasSome S.has sink }
+        ensures ends { PourEnds S.has name.now most (view_of self.old) (view_of self.new) sink result }
+        ensures later { faults_of self.old ≤ faults_of self.new }
+        ensures cause { IsErrOf result FetchError.Failed
+            → Rose (faults_of self.old) (faults_of self.new) }
+        ensures fails { FetchFails (is_failing_fetch self.old name.now) result }
+        ensures turn { turns_of self.new
+            ≡ after_turn (turns_of self.old) (is_failing_fetch self.old name.now) }
+    {
+        let held = self.files.get(name);
+        let fails = self.turns.take(held.is_none());
+        match held {
+            Some(bytes) if !fails => {
+                if bytes.len() as u64 > most {
+                    note(self.alloc, &mut self.calls, DeskKind::Fetch, name, false)?;
+                    return Err(FetchError::TooLong(most + 1));
+                }
+                let full = hand_over(bytes, self.piece_bytes, sink)?;
+                note(self.alloc, &mut self.calls, DeskKind::Fetch, name, false)?;
+                Ok(full)
             }
             _ => {
                 note(self.alloc, &mut self.calls, DeskKind::Fetch, name, true)?;
