@@ -1,1 +1,2 @@
+pub mod Poured
 pub mod WireLemmas

@@ -1,5 +1,5 @@
 -- What a wire over files leaves of a call that brings bytes outside.
-use Rattle.std.proofs.Common.{◌≡◌, ap, ℕ, List, [], None, Result, Ok, Err, refl}
+use Rattle.std.proofs.Common.{ap, ℕ, List, [], None, Result, Ok, Err, refl}
 use Rattle.desk_outside.specs.Wire.{AppendEnds, SayEnds, WireView, after_step}
 use Rattle.desk_outside.specs.declared.wire.WireError.{WireError}
 use Rattle.desk_outside.specs.declared.wire.WireError.TheVariants.{Failed, Memory}

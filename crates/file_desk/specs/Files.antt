@@ -1,6 +1,5 @@
 -- The count of faults of a desk over files, and the names of the files that it has begun.
-use Rattle.std.specs.Prelude.{◌≡◌, ℕ, Bool, is_some, List, Result, Ok, Err, Vec, string_bytes}
-use Rattle.std.specs.declared.alloc.Global.{Global}
+use Rattle.std.specs.Prelude.{◌≡◌, ℕ, Bool, is_some, List, Result, Ok, Err, string_bytes}
 use Rattle.desk_outside.specs.declared.desk.FetchError.{FetchError}
 use Rattle.desk_outside.specs.declared.desk.FetchError.TheVariants.{Failed as FetchFailed, TooLong as FetchTooLong, Memory as FetchMemory}
 use Rattle.desk_outside.specs.declared.desk.DeskError.{DeskError}
@@ -21,9 +20,9 @@ begun_name file = string_bytes file.name
 abbrev pub has_failed : {R FilesOfR : Type 0} → BegunOnDisk R FilesOfR → Bool
 has_failed file = is_some file.error
 
--- a fetch is counted where it failed, and nowhere else
-abbrev pub CountsFetch : ℕ → ℕ → Result (Vec ℕ Global) FetchError → Type 0
-CountsFetch before now (Ok bytes) = now ≡ before
+-- a fetch or a pour is counted where it failed, and nowhere else
+abbrev pub CountsFetch : {T : Type 0} → ℕ → ℕ → Result T FetchError → Type 0
+CountsFetch before now (Ok given) = now ≡ before
 CountsFetch before now (Err FetchFailed) = now ≡ one_more before
 CountsFetch before now (Err (FetchTooLong seen)) = now ≡ before
 CountsFetch before now (Err FetchMemory) = now ≡ before

@@ -2,13 +2,16 @@
 
 ghost use Rattle.std.specs.Prelude.{◌≡◌, ◌≤◌, ◌<◌, ◌^◌, string_bytes, false, OnOk, IsErrOf, ⊤};
 ghost use Rattle.desk_outside.specs.Begun.{CommitEnds};
-ghost use Rattle.desk_outside.specs.Desk.{FetchEnds, SayEnds, ComplainEnds, Rose, one_more, untold};
+ghost use Rattle.desk_outside.specs.Sink.{HasSome};
+ghost use Rattle.desk_outside.specs.Desk.{FetchEnds, PourEnds, SayEnds, ComplainEnds, Rose, one_more, untold};
+ghost use Rattle.file_desk.specs.Pouring.{PoursAtMost};
 
 use crate::begun::{BegunOnDisk, Target, put_error};
 use crate::parts::{FileId, Part, part_name, take_name};
+use crate::pouring::{fetch_error, pour_all};
 use crate::writing::{Group, Tail, start_writer};
 use crossbeam_channel::Sender;
-use desk_outside::{BegunFile, Desk, DeskError, FetchError, Readers};
+use desk_outside::{BegunFile, Desk, DeskError, FetchError, Readers, Sink};
 use std::alloc::{AllocError, Global};
 use std::fs::{File, Metadata, OpenOptions, Permissions, TryLockError};
 use std::io::{ErrorKind, Read};
@@ -94,13 +97,21 @@ impl<R: Files<File = File> + Print + Wait + Copy> FileDesk<R> {
         self.faults = self.faults.saturating_add(1);
     }
 
-    // The first bytes of a file, at most this many. The file is one of those fetched from then on.
-    fn read_front(&mut self, alloc: Global, name: &str, most: u64) -> io::Result<Vec<u8>>
+    // Opens a file, which is one of those fetched from then on.
+    fn open(&mut self, name: &str) -> io::Result<(File, Metadata)>
         ensures { faults_of self.new ≡ faults_of self.old }
     {
         let file = fs::open(&self.rt, name)?;
         let metadata = file.metadata()?;
         self.fetched.push(FileId::of(&metadata))?;
+        Ok((file, metadata))
+    }
+
+    // The first bytes of a file, at most this many. The file is one of those fetched from then on.
+    fn read_front(&mut self, alloc: Global, name: &str, most: u64) -> io::Result<Vec<u8>>
+        ensures { faults_of self.new ≡ faults_of self.old }
+    {
+        let (file, metadata) = self.open(name)?;
         // Room for the whole file at once, so that its bytes need not be moved.
         let room = metadata.len().min(most).saturating_add(1);
         let mut bytes = Vec::with_capacity(alloc, room as usize)?;
@@ -108,6 +119,28 @@ impl<R: Files<File = File> + Print + Wait + Copy> FileDesk<R> {
         front.read_to_end(&mut bytes)?;
         self.held.push(front.into_inner())?;
         Ok(bytes)
+    }
+
+    // Has a sink take the bytes of a file, of which there may be at most `most`. The file is one of those fetched from then on.
+    #[tactic(auto, using(crate::proofs::Poured::unreadable_pours))]
+    fn pour_file<S: Sink>(
+        &mut self,
+        alloc: Global,
+        name: &str,
+        most: u64,
+        sink: S,
+    ) -> Result<S, FetchError>
+        requires { HasSome S.has sink }
+        ensures poured { PoursAtMost S.has most sink result }
+        ensures same_faults { faults_of self.new ≡ faults_of self.old }
+    {
+        let (file, _metadata) = self.open(name).map_err(fetch_error)?;
+        let mut front = file.take(most.saturating_add(1));
+        let poured = pour_all(alloc, &mut front, most, sink);
+        if self.held.push(front.into_inner()).is_err() {
+            return Err(FetchError::Memory);
+        }
+        poured
     }
 
     // Counts a put where it failed.
@@ -371,6 +404,27 @@ impl<R: Files<File = File> + Print + Eprint + Wait + Copy + Send> Desk for FileD
                 Err(FetchError::Failed)
             }
         }
+    }
+
+    fn pour<S: Sink>(
+        &mut self,
+        alloc: Global,
+        name: &str,
+        most: u64,
+        sink: S,
+    ) -> Result<S, FetchError>
+        requires { HasSome S.has sink }
+        ensures ends { PourEnds S.has name.now most untold untold sink result }
+        ensures later { faults_of self.old ≤ faults_of self.new }
+        ensures cause { IsErrOf result FetchError.Failed
+            → Rose (faults_of self.old) (faults_of self.new) }
+        ensures count { CountsFetch (faults_of self.old) (faults_of self.new) result }
+    {
+        let poured = self.pour_file(alloc, name, most, sink);
+        if let Err(FetchError::Failed) = poured {
+            self.count_fault();
+        }
+        poured
     }
 
     fn begin(&mut self, name: &str, readers: Readers) -> Result<BegunOnDisk<R>, AllocError> {

@@ -5,6 +5,7 @@ mod begun;
 mod files;
 mod lines;
 mod parts;
+mod pouring;
 mod wire;
 mod writing;
 
