@@ -16,3 +16,4 @@ pub mod MeetLemmas
 pub mod FollowLemmas
 pub mod ReadLemmas
 pub mod PassLemmas
+pub mod JudgingLemmas

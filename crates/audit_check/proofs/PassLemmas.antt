@@ -1,6 +1,6 @@
 -- The pass over the text of a transcript, one entry after another.
 use Rattle.std.proofs.Common.{◌≡◌, ℕ, suc, ◌+◌, ◌<◌, ◌≤◌, List, [], ◌∷◌, ◌++◌, All, length, take, drop, drop-cons, get_or, refl, sym, ap, ◌∙◌, subst, arith, length-append, append-nil, append_assoc}
-use Rattle.std.specs.Prelude.{false, Option, Some, None, is_some, Ok}
+use Rattle.std.specs.Prelude.{false, Option, Some, None, is_some, Result, Ok, Err}
 use Rattle.std.proofs.lemmas.Bool.{and_from, lt-ltb}
 use Rattle.std.proofs.lemmas.List.{take-append-le, take_all}
 use Rattle.std.proofs.lemmas.List.Elements.{All-cons, All-head, All-nil, All-tail}
@@ -12,9 +12,11 @@ use Rattle.event_schedule.specs.Events.{lines_of}
 use Rattle.event_schedule.specs.Frames.{IsPossible, shape_of_lines}
 use Rattle.event_schedule.specs.Transcripts.{TranscriptView, Fits, IsTranscript, FitsLine}
 use Rattle.transcript_text.specs.declared.version.Version.TheVariants.{Two}
+use Rattle.transcript_text.specs.declared.fault.ReadError.{ReadError}
+use Rattle.transcript_text.specs.declared.fault.ReadError.TheVariants as fault
+use Rattle.transcript_text.specs.Reading.{Fails, before}
 use Rattle.transcript_text.specs.Heads.{read_of}
 use Rattle.transcript_text.specs.Readers.{IsTextOfWhatIsRead, with_entries}
-use Rattle.transcript_text.specs.Ahead.{AheadView, IsAheadBegun}
 use Rattle.group_book.specs.Books.{BookView}
 use Rattle.audit_check.specs.Steps.{MayFollow}
 use Rattle.audit_check.specs.Ends.{LinesEnd}
@@ -22,7 +24,7 @@ use Rattle.audit_check.specs.Replays.{FitsPlan}
 use Rattle.audit_check.specs.Following.{IsReplay, Follows}
 use Rattle.audit_check.specs.declared.passing.Pass.{Pass}
 use Rattle.audit_check.specs.Passes.{AreJudged, AreReplayed, CanJudge, IsPassOver, Judges, PassEnds, IsLineOf, IsReplayOf, ReadsAs}
-use Rattle.audit_check.proofs.EndLemmas.{none_possible, lines_long, more_possible, not_possible, first_found, all_replayed}
+use Rattle.audit_check.proofs.EndLemmas.{holds, none_possible, lines_long, more_possible, not_possible, first_found, all_replayed}
 
 -- ---- an entry's line
 
@@ -133,17 +135,64 @@ module _ (first p : Pass) (all left xs ys : List Entry) (on : IsOn first all p l
         subst (λ es. IsPassOver plan es last) (append_assoc front xs ys ∙ ap (λ q. front ++ q) (sym is)) (rest plan (front ++ xs) (judges plan front over)));
   }
 
+-- ---- passes one after another
+
+pub judges_none : (p : Pass) → Judges p [] p
+judges_none p = λ plan front over. subst (λ es. IsPassOver plan es p) (sym (append-nil front)) over
+
+pub judges_both : (p q last : Pass) (xs ys : List Entry) → Judges p xs q → Judges q ys last → Judges p (xs ++ ys) last
+judges_both p q last xs ys one other = λ plan front over. subst (λ es. IsPassOver plan es last) (append_assoc front xs ys) (other plan (front ++ xs) (one plan front over))
+
+judged_ends : (plan : PlanView) (es : List Entry) (p : Pass) → IsPassOver plan es p → LinesEnd plan (lines_of es) p.impossible p.replay.rounds
+judged_ends plan es p over = by_line p.impossible over
+  where
+    by_line : (o : Option ℕ) → AreJudged plan es p o → LinesEnd plan (lines_of es) o p.replay.rounds
+    by_line None are = (holds plan (lines_of es) p.replay.rounds p.replay.seen p.replay.answered.items are.plan_is are.journal are.replay, are.possible)
+    by_line (Some k) are = are
+
+-- after some entries that were judged before, and those of a pass, none is left, or a fault stands there
+module _ (plan : PlanView) (judged es : List Entry) (left end : Result (List Entry) ReadError) (so : before es end ≡ left) where
+  pub pass_ends : (p q : Pass) → end ≡ Ok [] → Judges p es q → IsPassOver plan judged p → PassEnds plan (before judged left) (Ok q)
+  pass_ends p q none judges over =
+      (judged ++ es, ap (before judged) (sym so ∙ ap (before es) none) ∙ ap (λ xs. Ok (judged ++ xs)) (append-nil es), judged_ends plan (judged ++ es) q (judges plan judged over))
+
+  wrong : (f : ReadError) → end ≡ Err f → before judged left ≡ Err f
+  wrong f is = ap (before judged) (sym so ∙ ap (before es) is)
+
+  pub pass_fails : (f : ReadError) → Fails f end → Fails f (before judged left)
+  pass_fails fault.Memory fails = tt
+  pass_fails (fault.Head n) fails = wrong (fault.Head n) fails
+  pass_fails (fault.Line n) fails = wrong (fault.Line n) fails
+  pass_fails (fault.Field n k) fails = wrong (fault.Field n k) fails
+  pass_fails (fault.NoEnd n) fails = wrong (fault.NoEnd n) fails
+  pass_fails (fault.Count n) fails = wrong (fault.Count n) fails
+  pass_fails (fault.After n) fails = wrong (fault.After n) fails
+
 -- ---- the whole text
 
-pub text_replayed : (text : List ℕ) (r : AheadView) (p : Pass) (number : Option ℕ) (b : BookView) → IsAheadBegun Two text r → IsTextOfWhatIsRead Two text → PassEnds r.plan r.left (Ok p)
-    → b ≡ p.replay.rounds → IsLineOf r.plan p.impossible number → ReadsAs text (record { rounds = b; impossible = number })
+pub text_replayed : (text : List ℕ) (plan : PlanView) (left : Result (List Entry) ReadError) (p : Pass) (number : Option ℕ) (b : BookView) → read_of Two text ≡ with_entries plan left
+    → IsTextOfWhatIsRead Two text → PassEnds plan left (Ok p) → b ≡ p.replay.rounds → IsLineOf plan p.impossible number → ReadsAs text (record { rounds = b; impossible = number })
 unfolding IsTextOfWhatIsRead
-text_replayed text r p number b begun is ends same line =
-    let t : TranscriptView = record { plan = r.plan; entries = ends.0 } in
-    let read : read_of Two text ≡ Ok t = begun.read ∙ ap (with_entries r.plan) ends.1 in
+text_replayed text plan left p number b begun is ends same line =
+    let t : TranscriptView = record { plan = plan; entries = ends.0 } in
+    let read : read_of Two text ≡ Ok t = begun ∙ ap (with_entries plan) ends.1 in
     let both = is t read in
     record { transcript = t; read = read; sound = both.0; is = both.1; kept = kept t both.0 p.impossible number (subst (LinesEnd t.plan (lines_of t.entries) p.impossible) (sym same) ends.2) line }
   where
     kept : (t : TranscriptView) → IsTranscript t → (found number : Option ℕ) → LinesEnd t.plan (lines_of t.entries) found b → IsLineOf t.plan found number → IsReplayOf t (record { rounds = b; impossible = number })
     kept t sound None number ends line = subst (λ n. IsReplayOf t (record { rounds = b; impossible = n })) (sym line) (all_replayed t b sound ends)
     kept t sound (Some k) number ends line = subst (λ n. IsReplayOf t (record { rounds = b; impossible = n })) (sym line) (k, refl, first_found t k b sound ends)
+
+-- the fault of what is left is the text's
+module _ (text : List ℕ) (plan : PlanView) (left : Result (List Entry) ReadError) (read : read_of Two text ≡ with_entries plan left) where
+  is_wrong : (f : ReadError) → left ≡ Err f → read_of Two text ≡ Err f
+  is_wrong f is = read ∙ ap (with_entries plan) is
+
+  pub text_fails : (f : ReadError) → Fails f left → Fails f (read_of Two text)
+  text_fails fault.Memory fails = tt
+  text_fails (fault.Head n) fails = is_wrong (fault.Head n) fails
+  text_fails (fault.Line n) fails = is_wrong (fault.Line n) fails
+  text_fails (fault.Field n k) fails = is_wrong (fault.Field n k) fails
+  text_fails (fault.NoEnd n) fails = is_wrong (fault.NoEnd n) fails
+  text_fails (fault.Count n) fails = is_wrong (fault.Count n) fails
+  text_fails (fault.After n) fails = is_wrong (fault.After n) fails

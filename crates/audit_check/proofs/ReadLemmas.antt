@@ -6,7 +6,7 @@ use Rattle.transcript_text.specs.declared.fault.ReadError.{ReadError}
 use Rattle.transcript_text.specs.Reading.{before}
 
 -- entries and then more entries
-before_both : (xs ys : List Entry) (z : Result (List Entry) ReadError) → before xs (before ys z) ≡ before (xs ++ ys) z
+pub before_both : (xs ys : List Entry) (z : Result (List Entry) ReadError) → before xs (before ys z) ≡ before (xs ++ ys) z
 before_both xs ys (Ok zs) = ap Ok (sym (append_assoc xs ys zs))
 before_both xs ys (Err f) = refl
 

@@ -11,3 +11,4 @@ pub mod Ends
 pub mod Lengths
 pub mod Opened
 pub mod OpenedParts
+pub mod Judging

@@ -41,6 +41,10 @@ pub record CanJudge (p : Pass) (es : List Entry) : Type 0 where
   pub over : IsPassOver plan front p
   pub fits : All (Fits plan) es
 
+-- the pass is over some entries of this plan
+abbrev pub CanJudgeOn : PlanView → Pass → Type 0
+CanJudgeOn plan p = (judged : List Entry) × IsPassOver plan judged p
+
 -- the pass is over these entries too
 abbrev pub Judges : Pass → List Entry → Pass → Type 0
 Judges old es new = (plan : PlanView) (front : List Entry) → IsPassOver plan front old → IsPassOver plan (front ++ es) new

@@ -3,7 +3,9 @@
 
 mod answers;
 mod auditing;
+mod body;
 mod comparing;
+mod judging;
 mod meeting;
 mod opened;
 mod passing;
@@ -13,6 +15,7 @@ mod totals;
 
 pub use answers::{AuditCounts, AuditError, Inspected};
 pub use auditing::{Replayed, inspect};
+pub use judging::TextJudge;
 pub use opened::OpenedRounds;
 pub use passing::replay_text;
 

@@ -1,8 +1,10 @@
 //! The text of a transcript, read once: each line is judged as it is read, and not kept.
 
-ghost use Rattle.std.specs.Prelude.{◌≡◌, ◌+◌, ◌∷◌, [], IfOk, OnOk};
+ghost use Rattle.std.specs.Prelude.{◌≡◌, ◌+◌, ◌∷◌, [], List, IfOk, OnOk};
+ghost use Rattle.event_schedule.specs.declared.Entry.{Entry};
+ghost use Rattle.transcript_text.specs.Reading.{before};
 ghost use Rattle.transcript_text.specs.Ahead.{entries_of};
-ghost use Rattle.audit_check.specs.Passes.{CanJudge, IsPassOver, Judges, PassEnds, IsLineOf, ReplayedText};
+ghost use Rattle.audit_check.specs.Passes.{CanJudge, CanJudgeOn, IsPassOver, Judges, PassEnds, IsLineOf, ReplayedText};
 
 use crate::auditing::Replayed;
 use crate::replay::Replay;
@@ -14,12 +16,12 @@ use transcript_text::{BYTES_A_PIECE, EntriesAhead, ReadError, Version, entry_lin
 
 /// What is kept of entries while they are judged.
 #[derive(Drop)]
-struct Pass {
-    replay: Replay,
+pub(crate) struct Pass {
+    pub(crate) replay: Replay,
     /// How many lines are replayed.
     count: u32,
     /// The place of the first entry whose line is not possible. Nothing is replayed from there on.
-    impossible: Option<u32>,
+    pub(crate) impossible: Option<u32>,
 }
 
 // One more. Want of memory stands for more than 2^32 entries, which no text has.
@@ -31,7 +33,7 @@ fn one_more(count: u32) -> Result<u32, AllocError>
 
 impl Pass {
     // A pass over no entry.
-    fn new(alloc: Global, plan: &Plan) -> Result<Pass, AllocError>
+    pub(crate) fn new(alloc: Global, plan: &Plan) -> Result<Pass, AllocError>
         ensures { IfOk result (IsPassOver plan.now []) }
     {
         let replay = Replay::new(alloc, plan)?;
@@ -70,7 +72,7 @@ impl Pass {
     }
 
     // The pass over the next batch too.
-    fn over(mut self, batch: &[Vec<Entry>]) -> Result<Pass, AllocError>
+    pub(crate) fn over(mut self, batch: &[Vec<Entry>]) -> Result<Pass, AllocError>
         requires { CanJudge self (entries_of batch.now) }
         ensures { IfOk result (Judges self (entries_of batch.now)) }
     {
@@ -81,10 +83,13 @@ impl Pass {
     }
 }
 
-// The pass over the entries that are left to read. While those of a batch are judged, the next are read.
-fn judge_all<R: Threads + Sync>(reader: &mut EntriesAhead<R>, pass: Pass) -> Result<Pass, ReadError>
-    requires { IsPassOver reader.old.plan [] pass }
-    ensures ends { PassEnds reader.old.plan reader.old.left result }
+// The pass over the entries that are left to read too. While those of a batch are judged, the next are read.
+pub(crate) fn judge_all<R: Threads + Sync>(
+    reader: &mut EntriesAhead<R>,
+    pass: Pass,
+) -> Result<Pass, ReadError>
+    requires { CanJudgeOn reader.old.plan pass }
+    ensures ends { (judged : List Entry) → IsPassOver reader.old.plan judged pass → PassEnds reader.old.plan (before judged reader.old.left) result }
     ensures head { reader.new.plan ≡ reader.old.plan }
 {
     let mut pass = pass;
@@ -103,7 +108,7 @@ fn judge_all<R: Threads + Sync>(reader: &mut EntriesAhead<R>, pass: Pass) -> Res
 }
 
 // The number of the line of an entry, where there is one.
-fn line_of(plan: &Plan, entry: Option<u32>) -> Option<u64>
+pub(crate) fn line_of(plan: &Plan, entry: Option<u32>) -> Option<u64>
     ensures { IsLineOf plan.now entry result }
 {
     match entry {
