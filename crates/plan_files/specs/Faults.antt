@@ -25,6 +25,7 @@ abbrev pub at_row : {A : Type 0} → ℕ → Result A FileCause → Result A Fil
 at_row row (Ok value) = Ok value
 at_row row (Err what) = Err (in_row row what)
 
+-- a failure of a row as the file's
 abbrev pub failed_in_row : ℕ → Failed FileCause → Failed FileFault
 failed_in_row row Memory = Memory
 failed_in_row row (Fault what) = Fault (in_row row what)

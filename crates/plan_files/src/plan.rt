@@ -1,7 +1,7 @@
 //! The plan file: a plan, its keys and its lanes; and the public plan, which has neither.
 ghost use Rattle.std.specs.Prelude.{◌≡◌, ◌<◌, ◌≤◌, ◌+◌, ◌^◌, IfErr, IfOk, Ok, Err, length, Some, None};
 ghost use Rattle.pair_keys.specs.Keys.{keys_of, table_of};
-ghost use Rattle.plan_files.specs.Faults.{Ends, Fails, in_row};
+ghost use Rattle.plan_files.specs.Faults.{Ends, in_row};
 ghost use Rattle.plan_files.specs.Gathering.{gathered_by, spans_of};
 ghost use Rattle.plan_files.specs.MissingKeys.{first_missing};
 ghost use Rattle.plan_files.specs.PlanFiles.{OpeningEnds, PlanEnds, completed, opened_from, place_of, plan_from, plan_of, public_from, public_of, stated_plan, view_of, with_entries, with_members};
