@@ -3,7 +3,10 @@ use Rattle.std.proofs.Common.{◌≡◌, List, [], ◌∷◌, ℕ, false, refl, 
 use Rattle.desk_outside.specs.Desk.{View, Fetched, after_step, IsLonger}
 use Rattle.command_files.specs.Calls.{after_fetches, IsRead, HasFetched, EndsAtFetch, Unread, Putting, HasPut, names_of, Unwritable, PutsEnd, putting}
 use Rattle.command_words.specs.declared.outcome.Outcome.{Outcome}
-use Rattle.command_words.specs.declared.outcome.Outcome.TheVariants.{Done, NoMemory, BadWords, CannotRead, TooLong, CannotWrite}
+use Rattle.command_words.specs.declared.outcome.Outcome.TheVariants.{NoMemory, Unwritten}
+use Rattle.command_words.specs.declared.outcome.Outcome.TheVariants as outcomes
+use Rattle.command_words.specs.declared.unread.Unread.TheVariants as of_unread
+use Rattle.command_words.specs.declared.unwritten.Unwritten.TheVariants as of_unwritten
 use Rattle.command_words.specs.Limits.{most_bytes}
 
 -- ---- fetches
@@ -29,11 +32,9 @@ last_after (name ∷ names) more failed v w last ends = inr (last_after names mo
 
 pub then_unread : (names more : List (List ℕ)) (v u w : View) (outcome : Outcome) → u ≡ after_fetches names v → Unread more u w outcome
     → Unread (names ++ more) v w outcome
-then_unread names more v u w Done after ends = absurd ends
 then_unread names more v u w NoMemory after ends = some_after names more v w (subst (λ u. HasFetched more u w) after ends)
-then_unread names more v u w BadWords after ends = absurd ends
-then_unread names more v u w (CannotRead name) after ends = last_after names more true v w name.now (subst (λ u. EndsAtFetch more true u w name.now) after ends)
-then_unread names more v u w (TooLong name) after ends = (
+then_unread names more v u w (outcomes.Unread (of_unread.File name)) after ends = last_after names more true v w name.now (subst (λ u. EndsAtFetch more true u w name.now) after ends)
+then_unread names more v u w (outcomes.Unread (of_unread.TooLong name)) after ends = (
   last_after names more false v w name.now (subst (λ u. EndsAtFetch more false u w name.now) after ends.0),
   subst (λ held. IsLonger (held name.now) most_bytes) (ap (λ v. v.held) after ∙ held_after names v) ends.1,
 )
@@ -56,7 +57,7 @@ has_put_none (p ∷ ps) v w same = inl same
 -- a name can't be written, so no file was put
 pub unwritable_puts : (files : List Putting) (line : List ℕ) (v w : View) (outcome : Outcome) → Unwritable (names_of files) v w outcome → PutsEnd files line v w outcome
 unwritable_puts files line v w NoMemory ends = has_put_none files v w ends
-unwritable_puts files line v w (CannotWrite name) ends = inr ends
+unwritable_puts files line v w (Unwritten (of_unwritten.File name)) ends = inr ends
 unwritable_puts files line v w _ ends = absurd ends
 
 -- two files are put under their names

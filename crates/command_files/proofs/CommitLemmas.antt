@@ -3,7 +3,8 @@ use Rattle.std.proofs.Common.{◌≡◌, ◌⊎◌, List, [], ◌∷◌, ℕ, in
 use Rattle.desk_outside.specs.Desk.{View, Unstored, after_step, Stored}
 use Rattle.command_files.specs.Calls.{Putting, EndsAtPut, NonePut, PutsEnd, CommitsEnd, HasPut, Unwritable, putting, Committed}
 use Rattle.command_words.specs.declared.outcome.Outcome.{Outcome}
-use Rattle.command_words.specs.declared.outcome.Outcome.TheVariants.{Done, NoMemory, CannotWrite, CannotPrint}
+use Rattle.command_words.specs.declared.outcome.Outcome.TheVariants.{Done, NoMemory, Unwritten}
+use Rattle.command_words.specs.declared.unwritten.Unwritten.TheVariants as of_unwritten
 
 -- ---- commits
 
@@ -16,8 +17,8 @@ one_end p v w last (inr (inr none, unstored)) = absurd none
 one_commits : (p : Putting) (line : List ℕ) (v w : View) (outcome : Outcome) → PutsEnd (p ∷ []) line v w outcome → CommitsEnd (p ∷ []) line v w outcome
 one_commits p line v w Done ends = ends
 one_commits p line v w NoMemory ends = ends
-one_commits p line v w (CannotWrite name) ends = one_end p v w name.now ends
-one_commits p line v w CannotPrint ends = ends
+one_commits p line v w (Unwritten (of_unwritten.File name)) ends = one_end p v w name.now ends
+one_commits p line v w (Unwritten of_unwritten.Output) ends = ends
 one_commits p line v w _ ends = absurd ends
 
 -- a file more was put before
@@ -25,8 +26,8 @@ more_commits : (p : Putting) (ps : List Putting) (line : List ℕ) (v u w : View
     → CommitsEnd (p ∷ ps) line v w outcome
 more_commits p ps line v u w Done put ends = subst (λ u. CommitsEnd ps line u w Done) put ends
 more_commits p ps line v u w NoMemory put ends = inr (subst (λ u. HasPut ps u w) put ends)
-more_commits p ps line v u w (CannotWrite name) put ends = inr (subst (λ u. EndsAtPut ps u w name.now) put ends)
-more_commits p ps line v u w CannotPrint put ends = subst (λ u. CommitsEnd ps line u w CannotPrint) put ends
+more_commits p ps line v u w (Unwritten (of_unwritten.File name)) put ends = inr (subst (λ u. EndsAtPut ps u w name.now) put ends)
+more_commits p ps line v u w (Unwritten of_unwritten.Output) put ends = subst (λ u. CommitsEnd ps line u w (Unwritten of_unwritten.Output)) put ends
 more_commits p ps line v u w _ put ends = absurd ends
 
 first_end : (p : Putting) (ps : List Putting) (v w : View) (last : List ℕ) → NonePut (p.name ∷ []) v w last → EndsAtPut (p ∷ ps) v w last
@@ -36,14 +37,14 @@ first_end p ps v w last (inr none, unstored) = absurd none
 -- the first of some files can't take its name
 first_fails : (p : Putting) (ps : List Putting) (line : List ℕ) (v w : View) (outcome : Outcome) → Unwritable (p.name ∷ []) v w outcome → CommitsEnd (p ∷ ps) line v w outcome
 first_fails p ps line v w NoMemory ends = inl ends
-first_fails p ps line v w (CannotWrite name) ends = first_end p ps v w name.now ends
+first_fails p ps line v w (Unwritten (of_unwritten.File name)) ends = first_end p ps v w name.now ends
 first_fails p ps line v w _ ends = absurd ends
 
 pub commits_put : (files : List Putting) (line : List ℕ) (v w : View) (outcome : Outcome) → CommitsEnd files line v w outcome → PutsEnd files line v w outcome
 commits_put files line v w Done ends = ends
 commits_put files line v w NoMemory ends = ends
-commits_put files line v w (CannotWrite name) ends = inl ends
-commits_put files line v w CannotPrint ends = ends
+commits_put files line v w (Unwritten (of_unwritten.File name)) ends = inl ends
+commits_put files line v w (Unwritten of_unwritten.Output) ends = ends
 commits_put files line v w _ ends = absurd ends
 
 -- a file was committed, and then the others

@@ -2,13 +2,14 @@
 
 ghost use Rattle.std.specs.Prelude.{◌≤◌, IfErr, [], ◌≡◌, ◌++◌, ℕ, List, true, IfOk, ◌∷◌, ◌⊎◌, ◌||◌};
 ghost use Rattle.desk_outside.specs.Desk.{Rose};
-ghost use Rattle.command_files.specs.Calls.{OneFetched, TwoFetched, PutsEnd, Committed, IsAmong, Unwritable, putting, CommitsEnd};
+ghost use Rattle.desk_outside.specs.Sink.{HasSome};
+ghost use Rattle.command_files.specs.Calls.{OneFetched, TwoFetched, OnePoured, PouredAndFetched, PutsEnd, Committed, IsAmong, Unwritable, putting, CommitsEnd};
 ghost use Rattle.command_words.specs.Outcomes.{IsFault};
 ghost use Rattle.command_files.specs.Sources.{source_bytes};
 
 use crate::source::{Source, TranscriptPieces, WordsPieces, WordsStage};
-use command_words::Outcome;
-use desk_outside::{BegunFile, Desk, DeskError, FetchError, Pieces, Readers, Slice};
+use command_words::{Outcome, Unread, Unwritten};
+use desk_outside::{BegunFile, Desk, DeskError, FetchError, Pieces, Readers, Sink, Slice};
 use std::alloc::{AllocError, Global};
 use std::thread::Threads;
 use transcript_text::TextPieces;
@@ -28,8 +29,28 @@ pub fn fetch<'a, D: Desk>(
 {
     match desk.fetch(alloc, name, MOST_BYTES) {
         Ok(bytes) => Ok(bytes),
-        Err(FetchError::Failed) => Err(Outcome::CannotRead(name)),
-        Err(FetchError::TooLong(_)) => Err(Outcome::TooLong(name)),
+        Err(FetchError::Failed) => Err(Outcome::Unread(Unread::File(name))),
+        Err(FetchError::TooLong(_)) => Err(Outcome::Unread(Unread::TooLong(name))),
+        Err(FetchError::Memory) => Err(Outcome::NoMemory),
+    }
+}
+
+/// Has a sink take the bytes of a file, or says how the command ends.
+pub fn pour<'a, D: Desk, S: Sink>(
+    alloc: Global,
+    name: &'a str,
+    sink: S,
+    desk: &mut D,
+) -> Result<S, Outcome<'a>>
+    requires { HasSome S.has sink }
+    ensures ends { OnePoured S.has name.now sink (D.view desk.old) (D.view desk.new) result }
+    ensures later { D.faults desk.old ≤ D.faults desk.new }
+    ensures cause { IfErr result (λ outcome. IsFault outcome → Rose (D.faults desk.old) (D.faults desk.new)) }
+{
+    match desk.pour(alloc, name, MOST_BYTES, sink) {
+        Ok(full) => Ok(full),
+        Err(FetchError::Failed) => Err(Outcome::Unread(Unread::File(name))),
+        Err(FetchError::TooLong(_)) => Err(Outcome::Unread(Unread::TooLong(name))),
         Err(FetchError::Memory) => Err(Outcome::NoMemory),
     }
 }
@@ -50,6 +71,24 @@ pub fn fetch_two<'a, D: Desk>(
     Ok((first_bytes, second_bytes))
 }
 
+/// Has a sink take the bytes of a file and then fetches another, or says how the command ends.
+pub fn pour_and_fetch<'a, D: Desk, S: Sink>(
+    alloc: Global,
+    first: &'a str,
+    sink: S,
+    second: &'a str,
+    desk: &mut D,
+) -> Result<(S, Vec<u8>), Outcome<'a>>
+    requires { HasSome S.has sink }
+    ensures ends { PouredAndFetched S.has first.now second.now sink (D.view desk.old) (D.view desk.new) result }
+    ensures later { D.faults desk.old ≤ D.faults desk.new }
+    ensures cause { IfErr result (λ outcome. IsFault outcome → Rose (D.faults desk.old) (D.faults desk.new)) }
+{
+    let full = or_fail!(pour(alloc, first, sink, desk));
+    let bytes = or_fail!(fetch(alloc, second, desk));
+    Ok((full, bytes))
+}
+
 /// Says a line.
 pub fn say<'a, D: Desk>(line: &[u8], desk: &mut D) -> Outcome<'a>
     ensures ends { PutsEnd [] line.now (D.view desk.old) (D.view desk.new) result }
@@ -58,7 +97,7 @@ pub fn say<'a, D: Desk>(line: &[u8], desk: &mut D) -> Outcome<'a>
 {
     match desk.say(line) {
         Ok(()) => Outcome::Done,
-        Err(DeskError::Failed) => Outcome::CannotPrint,
+        Err(DeskError::Failed) => Outcome::Unwritten(Unwritten::Output),
         Err(DeskError::Memory) => Outcome::NoMemory,
     }
 }
@@ -156,7 +195,7 @@ pub fn commit<'a, B: BegunFile + Drop, D: Desk<Begun = B>>(
     let Begun { name, file } = begun;
     match desk.commit(file) {
         Ok(()) => Ok(()),
-        Err(DeskError::Failed) => Err(Outcome::CannotWrite(name)),
+        Err(DeskError::Failed) => Err(Outcome::Unwritten(Unwritten::File(name))),
         Err(DeskError::Memory) => Err(Outcome::NoMemory),
     }
 }

@@ -30,7 +30,7 @@ pub use ahead::Ahead;
 pub use desk_calls::{
     Begun, NewFile, PendingFile, ThreeBegun, ThreeSources, begin, begin_three, commit,
     commit_failed, commit_one, commit_three, commit_two, fetch, fetch_two, first_of_three,
-    first_of_two, put_one, put_two, say,
+    first_of_two, pour, pour_and_fetch, put_one, put_two, say,
 };
 pub use leading::run_ahead;
 pub use source::Source;

@@ -5,7 +5,8 @@ use Rattle.event_schedule.specs.Transcripts.{TranscriptView}
 use Rattle.transcript_text.specs.declared.version.Version.TheVariants.{Two}
 use Rattle.transcript_text.specs.Heads.{read_of}
 use Rattle.command_words.specs.declared.outcome.Outcome.{Outcome}
-use Rattle.command_words.specs.declared.outcome.Outcome.TheVariants.{NoMemory, BadReport, NotInTime}
+use Rattle.command_words.specs.declared.outcome.Outcome.TheVariants.{NoMemory, BadText}
+use Rattle.command_words.specs.declared.text_fault.TextFault.TheVariants as of_text
 use Rattle.command_words.specs.Words.{InspectNames}
 use Rattle.command_texts.specs.Audits.{ReportRefuses, AreAuditTexts}
 use Rattle.command_texts.specs.Inspecting.{TextsRefuse, TimesRefuse, JudgeRefuses, InspectBytes, OfPlan, InspectRefuses, IsInspected}
@@ -24,7 +25,7 @@ use Rattle.command_texts.specs.InspectParts.{Judged}
 -- the report's text is refused, where the transcript's is read
 pub report_refuses : (names : InspectNames) (plan : PlanView) (tb rb : List ℕ) (t : TranscriptView) (outcome : Outcome) → read_of Two tb ≡ Ok t → ReportRefuses names.report rb outcome
     → TextsRefuse names plan tb rb outcome
-report_refuses names plan tb rb t (BadReport name line) is refused = (refused.0, (t, is, refused.1))
+report_refuses names plan tb rb t (BadText name (of_text.Report line)) is refused = (refused.0, (t, is, refused.1))
 report_refuses names plan tb rb t NoMemory is refused = tt
 report_refuses names plan tb rb t _ is refused = absurd refused
 
@@ -40,7 +41,7 @@ head_other plan text error is ends = subst (λ e. HeadEnds plan text (Err e)) is
 -- the entries are no run, where the lines are possible
 pub times_refuse : (transcript : List ℕ) (t : TranscriptView) (rows : List ReportRow) (outcome : Outcome) → IsPossible t.plan.groups (lines_in t) → TimesRefuse transcript t outcome
     → JudgeRefuses transcript t rows outcome
-times_refuse transcript t rows (NotInTime name line) possible refused = (refused.0, possible, refused.1)
+times_refuse transcript t rows (BadText name (of_text.NotInTime line)) possible refused = (refused.0, possible, refused.1)
 times_refuse transcript t rows NoMemory possible refused = tt
 times_refuse transcript t rows _ possible refused = absurd refused
 

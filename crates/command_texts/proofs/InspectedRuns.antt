@@ -28,7 +28,8 @@ use Rattle.totals_report.specs.declared.row.ReportRow.{ReportRow}
 use Rattle.totals_report.specs.Reports.{report_rows}
 use Rattle.audit_check.specs.declared.answers.AuditError.TheVariants as audit
 use Rattle.command_words.specs.declared.outcome.Outcome.{Outcome}
-use Rattle.command_words.specs.declared.outcome.Outcome.TheVariants.{NoMemory, Impossible, NotInTime, OtherRow}
+use Rattle.command_words.specs.declared.outcome.Outcome.TheVariants.{NoMemory, BadText, OtherRow}
+use Rattle.command_words.specs.declared.text_fault.TextFault.TheVariants as of_text
 use Rattle.command_texts.proofs.StoredLemmas.{audited_well}
 
 -- ---- each Send has a frame
@@ -122,7 +123,7 @@ runs_are_inspected sharing cupboard p r texts made =
     nothing : (name : List ℕ) (outcome : Outcome) → IsSomeRun (plan_in made.values) made.entries
         → JudgeRefuses name (transcript_in made.values made.entries) (report_rows (plan_in made.values) (row_in made.values made.entries)) outcome → outcome ≡ NoMemory
     nothing name NoMemory run refused = refl
-    nothing name (Impossible named line) run refused = absurd (audited_well sharing cupboard p r texts made (Err (audit.Line line)) refused.1)
-    nothing name (NotInTime named line) run refused = absurd (no_line_late (transcript_in made.values made.entries) line run refused.2)
+    nothing name (BadText named (of_text.Impossible line)) run refused = absurd (audited_well sharing cupboard p r texts made (Err (audit.Line line)) refused.1)
+    nothing name (BadText named (of_text.NotInTime line)) run refused = absurd (no_line_late (transcript_in made.values made.entries) line run refused.2)
     nothing name (OtherRow at one other) run refused = absurd (audited_well sharing cupboard p r texts made (Err (audit.Row at one other)) refused.1)
     nothing name _ run refused = absurd refused

@@ -6,7 +6,10 @@ use Rattle.command_words.specs.declared.known.KnownMeter.{KnownMeter}
 use Rattle.command_words.specs.Known.{is_known, AreSetsOf}
 use Rattle.plan_files.specs.PlanFiles.{PlanFileView}
 use Rattle.command_words.specs.declared.outcome.Outcome.{Outcome}
-use Rattle.command_words.specs.declared.outcome.Outcome.TheVariants.{NoMemory, BadReadings, BadPlan, BadTranscript, OtherPlan, OtherLine, OtherPresence, OtherKnown, OtherTotal}
+use Rattle.command_words.specs.declared.outcome.Outcome.TheVariants.{NoMemory, BadPlan, BadReadings, BadText}
+use Rattle.command_words.specs.declared.outcome.Outcome.TheVariants as outcomes
+use Rattle.command_words.specs.declared.text_fault.TextFault.TheVariants as of_text
+use Rattle.command_words.specs.declared.disagreement.Disagreement.TheVariants as of_disagreement
 use Rattle.command_words.specs.Words.{TwinNames}
 use Rattle.command_texts.specs.Twins.{TwinBytes, Compared, TwinRefuses}
 use Rattle.command_texts.specs.Pooled.{PooledRefuses, PooledCompared}
@@ -82,11 +85,11 @@ refuses-nobody names bytes (BadPlan name fault) (named, inl bad) = (named, bad)
 refuses-nobody names bytes (BadPlan name fault) (named, inr (file, is, outside, fault_is)) = absurd (false≢true (cc outside))
 refuses-nobody names bytes (BadReadings name fault) (inl (named, (file, is, within, bad))) = inl (named, (file, is, bad))
 refuses-nobody names bytes (BadReadings name fault) (inr (named, (file, first, is, within, first_is, bad))) = inr (named, (file, first, is, first_is, bad))
-refuses-nobody names bytes (BadTranscript name fault) (named, compared) = (named, compared-nobody bytes (twin.Transcript fault) compared)
-refuses-nobody names bytes (OtherPlan name) (named, compared) = (named, compared-nobody bytes twin.Head compared)
-refuses-nobody names bytes (OtherLine name line expected) (named, (found, compared)) =
+refuses-nobody names bytes (BadText name (of_text.Transcript fault)) (named, compared) = (named, compared-nobody bytes (twin.Transcript fault) compared)
+refuses-nobody names bytes (BadText name of_text.OtherPlan) (named, compared) = (named, compared-nobody bytes twin.Head compared)
+refuses-nobody names bytes (BadText name (of_text.OtherLine line expected)) (named, (found, compared)) =
     (named, (found, compared-nobody bytes (twin.NotThis line expected.line found expected.tick expected.fate) compared))
-refuses-nobody names bytes (OtherPresence group round meter) compared = compared-nobody bytes (twin.Differ (differ.Presence group round meter)) compared
-refuses-nobody names bytes (OtherKnown group round meter) (values, are, within, (t, is, apart)) = absurd (false≢true apart.first.known)
-refuses-nobody names bytes (OtherTotal group round first second) compared = compared-nobody bytes (twin.Differ (differ.Total group round first second)) compared
+refuses-nobody names bytes (outcomes.Disagree (of_disagreement.Presence group round meter)) compared = compared-nobody bytes (twin.Differ (differ.Presence group round meter)) compared
+refuses-nobody names bytes (outcomes.Disagree (of_disagreement.Known group round meter)) (values, are, within, (t, is, apart)) = absurd (false≢true apart.first.known)
+refuses-nobody names bytes (outcomes.Disagree (of_disagreement.Total group round first second)) compared = compared-nobody bytes (twin.Differ (differ.Total group round first second)) compared
 refuses-nobody names bytes _ ends = ends

@@ -12,7 +12,8 @@ use Rattle.audit_check.specs.declared.answers.AuditError.{AuditError}
 use Rattle.audit_check.specs.declared.answers.AuditError.TheVariants as audit
 use Rattle.audit_check.specs.Audits.{AuditEnds}
 use Rattle.command_words.specs.declared.outcome.Outcome.{Outcome}
-use Rattle.command_words.specs.declared.outcome.Outcome.TheVariants.{NoMemory, BadReport, BadTranscript, Impossible, OtherRow}
+use Rattle.command_words.specs.declared.outcome.Outcome.TheVariants.{NoMemory, BadText, OtherRow}
+use Rattle.command_words.specs.declared.text_fault.TextFault.TheVariants as of_text
 use Rattle.audit_check.specs.Statements.{FindsNone}
 use Rattle.command_texts.specs.Runs.{Texts, MakesBy}
 use Rattle.link_lanes.specs.Lanes.{Meaning}
@@ -34,16 +35,16 @@ Audited transcript_bytes report_bytes result =
 
 -- the report's text is refused; want of memory is free
 abbrev pub ReportRefuses : (report bytes : List ℕ) → Outcome → Type 0
-ReportRefuses report bytes (BadReport name line) = (name.now ≡ report) × (rows_of_text bytes ≡ Err line)
+ReportRefuses report bytes (BadText name (of_text.Report line)) = (name.now ≡ report) × (rows_of_text bytes ≡ Err line)
 ReportRefuses report bytes NoMemory = ⊤
 ReportRefuses report bytes _ = ⊥
 
 -- a text is refused, the transcript's before the report's, or else what they say is, by its cause; want of memory is free
 abbrev pub AuditRefuses : (transcript report transcript_bytes report_bytes : List ℕ) → Outcome → Type 0
-AuditRefuses transcript report tb rb (BadTranscript name fault) = (name.now ≡ transcript) × (read_of Two tb ≡ Err fault)
-AuditRefuses transcript report tb rb (BadReport name line) =
+AuditRefuses transcript report tb rb (BadText name (of_text.Transcript fault)) = (name.now ≡ transcript) × (read_of Two tb ≡ Err fault)
+AuditRefuses transcript report tb rb (BadText name (of_text.Report line)) =
     (name.now ≡ report) × ((t : TranscriptView) × (read_of Two tb ≡ Ok t) × (rows_of_text rb ≡ Err line))
-AuditRefuses transcript report tb rb (Impossible name line) = (name.now ≡ transcript) × Audited tb rb (Err (audit.Line line))
+AuditRefuses transcript report tb rb (BadText name (of_text.Impossible line)) = (name.now ≡ transcript) × Audited tb rb (Err (audit.Line line))
 AuditRefuses transcript report tb rb (OtherRow at from_frames reported) = Audited tb rb (Err (audit.Row at from_frames reported))
 AuditRefuses transcript report tb rb NoMemory = ⊤
 AuditRefuses transcript report tb rb _ = ⊥

@@ -5,7 +5,8 @@ use Rattle.std.specs.Prelude.{◌≡◌, ℕ, List, Ok, Err, ⊤, ◌≢◌, Opt
 use Rattle.plan_files.specs.Readings.{readings_of}
 use Rattle.plan_files.specs.declared.fault.FileFault.{FileFault}
 use Rattle.command_words.specs.declared.outcome.Outcome.{Outcome}
-use Rattle.command_words.specs.declared.outcome.Outcome.TheVariants.{NoMemory, BadPlan, BadReadings, BadTranscript, OtherPlan, NoPartner}
+use Rattle.command_words.specs.declared.outcome.Outcome.TheVariants.{NoMemory, BadPlan, BadReadings, BadText, NoPartner}
+use Rattle.command_words.specs.declared.text_fault.TextFault.TheVariants as of_text
 use Rattle.billing_read.specs.declared.bills.Bill.{Bill}
 use Rattle.billing_read.specs.Bills.{bills}
 use Rattle.command_words.specs.declared.words.Period.{Period}
@@ -73,8 +74,8 @@ IsTextElsewhere plan text = (t : TranscriptView) × IsTextOf t text × (t.plan �
 
 -- the transcript is refused, by its cause; want of memory is free
 abbrev pub TextRefuses : List ℕ → PlanView → List ℕ → Outcome → Type 0
-TextRefuses transcript plan text (BadTranscript name fault) = (name.now ≡ transcript) × (read_of Two text ≡ Err fault)
-TextRefuses transcript plan text (OtherPlan name) = (name.now ≡ transcript) × IsTextElsewhere plan text
+TextRefuses transcript plan text (BadText name (of_text.Transcript fault)) = (name.now ≡ transcript) × (read_of Two text ≡ Err fault)
+TextRefuses transcript plan text (BadText name of_text.OtherPlan) = (name.now ≡ transcript) × IsTextElsewhere plan text
 TextRefuses transcript plan text NoMemory = ⊤
 TextRefuses transcript plan text _ = ⊥
 

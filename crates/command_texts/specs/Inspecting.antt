@@ -6,7 +6,8 @@ use Rattle.event_schedule.specs.Transcripts.{TranscriptView}
 use Rattle.totals_report.specs.declared.row.ReportRow.{ReportRow}
 use Rattle.command_texts.specs.Audits.{AreAuditTexts}
 use Rattle.command_words.specs.declared.outcome.Outcome.{Outcome}
-use Rattle.command_words.specs.declared.outcome.Outcome.TheVariants.{NoMemory, BadPlan, BadTranscript, BadReport, OtherPlan, NotInTime, Impossible, OtherRow}
+use Rattle.command_words.specs.declared.outcome.Outcome.TheVariants.{NoMemory, BadPlan, BadText, OtherRow}
+use Rattle.command_words.specs.declared.text_fault.TextFault.TheVariants as of_text
 use Rattle.transcript_text.specs.declared.version.Version.TheVariants.{Two}
 use Rattle.transcript_text.specs.Heads.{read_of}
 use Rattle.totals_report.specs.Reading.{rows_of_text}
@@ -54,10 +55,10 @@ IsOfOtherPlan plan transcript report = (t : TranscriptView) × (rows : List Repo
 
 -- a text is refused, the transcript's before the report's, or else the transcript is of another plan; want of memory is free
 abbrev pub TextsRefuse : InspectNames → PlanView → (transcript report : List ℕ) → Outcome → Type 0
-TextsRefuse names plan tb rb (BadTranscript name fault) = (name.now ≡ names.transcript) × (read_of Two tb ≡ Err fault)
-TextsRefuse names plan tb rb (BadReport name line) =
+TextsRefuse names plan tb rb (BadText name (of_text.Transcript fault)) = (name.now ≡ names.transcript) × (read_of Two tb ≡ Err fault)
+TextsRefuse names plan tb rb (BadText name (of_text.Report line)) =
     (name.now ≡ names.report) × ((t : TranscriptView) × (read_of Two tb ≡ Ok t) × (rows_of_text rb ≡ Err line))
-TextsRefuse names plan tb rb (OtherPlan name) = (name.now ≡ names.transcript) × IsOfOtherPlan plan tb rb
+TextsRefuse names plan tb rb (BadText name of_text.OtherPlan) = (name.now ≡ names.transcript) × IsOfOtherPlan plan tb rb
 TextsRefuse names plan tb rb NoMemory = ⊤
 TextsRefuse names plan tb rb _ = ⊥
 
@@ -69,14 +70,14 @@ IsNotInTime t line =
 
 -- the entries are no run of the plan; want of memory is free
 abbrev pub TimesRefuse : (transcript : List ℕ) → TranscriptView → Outcome → Type 0
-TimesRefuse transcript t (NotInTime name line) = (name.now ≡ transcript) × IsNotInTime t line
+TimesRefuse transcript t (BadText name (of_text.NotInTime line)) = (name.now ≡ transcript) × IsNotInTime t line
 TimesRefuse transcript t NoMemory = ⊤
 TimesRefuse transcript t _ = ⊥
 
 -- a line is impossible, wherever it stands; or else the entries are no run of the plan; or else the report has other rows; want of memory is free
 abbrev pub JudgeRefuses : (transcript : List ℕ) → TranscriptView → List ReportRow → Outcome → Type 0
-JudgeRefuses transcript t rows (Impossible name line) = (name.now ≡ transcript) × ((k : ℕ) × (line ≡ entry_line t.plan k) × IsFirstImpossible t k)
-JudgeRefuses transcript t rows (NotInTime name line) = (name.now ≡ transcript) × IsPossible t.plan.groups (lines_in t) × IsNotInTime t line
+JudgeRefuses transcript t rows (BadText name (of_text.Impossible line)) = (name.now ≡ transcript) × ((k : ℕ) × (line ≡ entry_line t.plan k) × IsFirstImpossible t k)
+JudgeRefuses transcript t rows (BadText name (of_text.NotInTime line)) = (name.now ≡ transcript) × IsPossible t.plan.groups (lines_in t) × IsNotInTime t line
 JudgeRefuses transcript t rows (OtherRow at from_frames reported) = IsSomeRun t.plan t.entries × IsContradicted t rows at from_frames reported
 JudgeRefuses transcript t rows NoMemory = ⊤
 JudgeRefuses transcript t rows _ = ⊥

@@ -18,7 +18,9 @@ use Rattle.ideal_masks.specs.declared.Differ.TheVariants.{Presence, Total}
 use Rattle.twin_worlds.specs.declared.answers.TwinError.TheVariants as twin
 use Rattle.twin_worlds.specs.declared.answers.PoolTwinError.TheVariants as pool_twin
 use Rattle.command_words.specs.declared.outcome.Outcome.{Outcome}
-use Rattle.command_words.specs.declared.outcome.Outcome.TheVariants.{NoMemory, BadPlan, BadReadings, BadTranscript, OtherPlan, OtherLine, OtherPresence, OtherKnown, OtherTotal}
+use Rattle.command_words.specs.declared.outcome.Outcome.TheVariants.{NoMemory, BadPlan, BadReadings, BadText, Disagree}
+use Rattle.command_words.specs.declared.text_fault.TextFault.TheVariants as of_text
+use Rattle.command_words.specs.declared.disagreement.Disagreement.TheVariants as of_disagreement
 use Rattle.command_words.specs.Words.{TwinNames}
 
 -- the files have values, the plan has each known meter, and under the stream words of the keys this is what `pooled_twin` answers for the pool of these
@@ -56,16 +58,16 @@ abbrev pub PooledRefuses : List KnownMeter → TwinNames → TwinBytes → Outco
 PooledRefuses known names bytes (BadPlan name fault) = (name.now ≡ names.plan) × RefusesPlanFor known bytes fault
 PooledRefuses known names bytes (BadReadings name fault) =
     ((name.now ≡ names.readings) × RefusesFirstFor known bytes fault) ⊎ ((name.now ≡ names.other) × RefusesSecondFor known bytes fault)
-PooledRefuses known names bytes (BadTranscript name fault) =
+PooledRefuses known names bytes (BadText name (of_text.Transcript fault)) =
     (name.now ≡ names.transcript) × PooledCompared known bytes (Err (pool_twin.Other (twin.Transcript fault)))
-PooledRefuses known names bytes (OtherPlan name) = (name.now ≡ names.transcript) × PooledCompared known bytes (Err (pool_twin.Other twin.Head))
-PooledRefuses known names bytes (OtherLine name line expected) =
+PooledRefuses known names bytes (BadText name of_text.OtherPlan) = (name.now ≡ names.transcript) × PooledCompared known bytes (Err (pool_twin.Other twin.Head))
+PooledRefuses known names bytes (BadText name (of_text.OtherLine line expected)) =
     (name.now ≡ names.transcript)
     × ((found : Line) × PooledCompared known bytes (Err (pool_twin.Other (twin.NotThis line expected.line found expected.tick expected.fate))))
-PooledRefuses known names bytes (OtherPresence group round meter) =
+PooledRefuses known names bytes (Disagree (of_disagreement.Presence group round meter)) =
     PooledCompared known bytes (Err (pool_twin.Other (twin.Differ (Presence group round meter))))
-PooledRefuses known names bytes (OtherKnown group round meter) = PooledCompared known bytes (Err (pool_twin.Known group round meter))
-PooledRefuses known names bytes (OtherTotal group round first second) =
+PooledRefuses known names bytes (Disagree (of_disagreement.Known group round meter)) = PooledCompared known bytes (Err (pool_twin.Known group round meter))
+PooledRefuses known names bytes (Disagree (of_disagreement.Total group round first second)) =
     PooledCompared known bytes (Err (pool_twin.Other (twin.Differ (Total group round first second))))
 PooledRefuses known names bytes NoMemory = ⊤
 PooledRefuses known names bytes _ = ⊥

@@ -13,7 +13,8 @@ use Rattle.mask_stream.specs.KeyStreams.{streams}
 use Rattle.transcript_text.specs.EntryLines.{entry_line}
 use Rattle.cut_resume.specs.OnCourse.{IsFirstOff}
 use Rattle.command_words.specs.declared.outcome.Outcome.{Outcome}
-use Rattle.command_words.specs.declared.outcome.Outcome.TheVariants.{NoMemory, BadTranscript, OtherPlan}
+use Rattle.command_words.specs.declared.outcome.Outcome.TheVariants.{NoMemory, BadText}
+use Rattle.command_words.specs.declared.text_fault.TextFault.TheVariants as of_text
 use Rattle.cut_resume.specs.declared.errors.CutError.{CutError}
 use Rattle.cut_resume.specs.declared.errors.ResumeError.{ResumeError}
 use Rattle.cut_resume.specs.declared.errors.ResumeError.TheVariants.{NotThis as IsOff, Memory}
@@ -79,8 +80,8 @@ pub record IsNotThisRun (cupboard : List Meaning) (bytes : ResumeBytes) (line : 
 -- the cut that these bytes under this name are, where it is one of the plan; want of memory is free
 abbrev pub CutEnds : (name : List ℕ) → PlanView → (bytes : List ℕ) → Result TranscriptView Outcome → Type 0
 CutEnds cut plan bytes (Ok t) = IsCutOf plan bytes t
-CutEnds cut plan bytes (Err (BadTranscript name fault)) = (name.now ≡ cut) × (read_of Two (completed bytes) ≡ Err fault)
-CutEnds cut plan bytes (Err (OtherPlan name)) = (name.now ≡ cut) × IsOfOtherPlan plan bytes
+CutEnds cut plan bytes (Err (BadText name (of_text.Transcript fault))) = (name.now ≡ cut) × (read_of Two (completed bytes) ≡ Err fault)
+CutEnds cut plan bytes (Err (BadText name of_text.OtherPlan)) = (name.now ≡ cut) × IsOfOtherPlan plan bytes
 CutEnds cut plan bytes (Err NoMemory) = ⊤
 CutEnds cut plan bytes (Err _) = ⊥
 

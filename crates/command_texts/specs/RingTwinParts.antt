@@ -3,7 +3,8 @@ use Rattle.std.specs.Prelude.{◌≡◌, ℕ, List, Result}
 use Rattle.sparse_masks.specs.declared.RingDiffer.{RingDiffer}
 use Rattle.sparse_masks.specs.declared.RingDiffer.TheVariants.{Presence, Component, Memory}
 use Rattle.command_words.specs.declared.outcome.Outcome.{Outcome}
-use Rattle.command_words.specs.declared.outcome.Outcome.TheVariants.{NoMemory, OtherPresence, OtherComponent}
+use Rattle.command_words.specs.declared.outcome.Outcome.TheVariants.{NoMemory, Disagree}
+use Rattle.command_words.specs.declared.disagreement.Disagreement.TheVariants as of_disagreement
 use Rattle.group_plan.specs.Tables.{ReadingsView}
 use Rattle.plan_files.specs.PlanFiles.{PlanFileView}
 use Rattle.twin_worlds.specs.declared.rows.MovedRow.{MovedRow}
@@ -13,8 +14,8 @@ use Rattle.command_texts.specs.RingTwins.{RingBytesCompared}
 
 -- the outcome of tables that disagree on a ring by this cause
 abbrev pub IsDisagreement : RingDiffer → Outcome → Type 0
-IsDisagreement (Presence g r i) outcome = outcome ≡ OtherPresence g r i
-IsDisagreement (Component g r i a b) outcome = outcome ≡ OtherComponent g r i a b
+IsDisagreement (Presence g r i) outcome = outcome ≡ Disagree (of_disagreement.Presence g r i)
+IsDisagreement (Component g r i a b) outcome = outcome ≡ Disagree (of_disagreement.Component g r i a b)
 IsDisagreement Memory outcome = outcome ≡ NoMemory
 
 -- the comparison of any four files with these values, this text and this name of the transcript

@@ -20,7 +20,9 @@ use Rattle.plan_files.specs.PlanFiles.{plan_of}
 use Rattle.event_schedule.specs.declared.Line.{Line}
 use Rattle.twin_worlds.specs.declared.answers.TwinError.TheVariants as twin
 use Rattle.command_words.specs.declared.outcome.Outcome.{Outcome}
-use Rattle.command_words.specs.declared.outcome.Outcome.TheVariants.{NoMemory, BadPlan, BadReadings, BadTranscript, OtherPlan, OtherLine, OtherPresence, OtherComponent}
+use Rattle.command_words.specs.declared.outcome.Outcome.TheVariants.{NoMemory, BadPlan, BadReadings, BadText, Disagree}
+use Rattle.command_words.specs.declared.text_fault.TextFault.TheVariants as of_text
+use Rattle.command_words.specs.declared.disagreement.Disagreement.TheVariants as of_disagreement
 use Rattle.command_words.specs.Words.{TwinNames}
 
 -- ---- two worlds on a ring
@@ -70,12 +72,12 @@ abbrev pub RingTwinRefuses : ℕ → TwinNames → TwinBytes → Outcome → Typ
 RingTwinRefuses w names bytes (BadPlan name fault) = (name.now ≡ names.plan) × (plan_of bytes.plan ≡ Err fault)
 RingTwinRefuses w names bytes (BadReadings name fault) =
     ((name.now ≡ names.readings) × RefusesFirst bytes fault) ⊎ ((name.now ≡ names.other) × RefusesSecond bytes fault)
-RingTwinRefuses w names bytes (BadTranscript name fault) = (name.now ≡ names.transcript) × RingUnrecorded w bytes (twin.Transcript fault)
-RingTwinRefuses w names bytes (OtherPlan name) = (name.now ≡ names.transcript) × RingUnrecorded w bytes twin.Head
-RingTwinRefuses w names bytes (OtherLine name line expected) =
+RingTwinRefuses w names bytes (BadText name (of_text.Transcript fault)) = (name.now ≡ names.transcript) × RingUnrecorded w bytes (twin.Transcript fault)
+RingTwinRefuses w names bytes (BadText name of_text.OtherPlan) = (name.now ≡ names.transcript) × RingUnrecorded w bytes twin.Head
+RingTwinRefuses w names bytes (BadText name (of_text.OtherLine line expected)) =
     (name.now ≡ names.transcript) × ((found : Line) × RingUnrecorded w bytes (twin.NotThis line expected.line found expected.tick expected.fate))
-RingTwinRefuses w names bytes (OtherPresence group round meter) = RingDisagreed w bytes (Presence group round meter)
-RingTwinRefuses w names bytes (OtherComponent group round least first second) = RingDisagreed w bytes (Component group round least first second)
+RingTwinRefuses w names bytes (Disagree (of_disagreement.Presence group round meter)) = RingDisagreed w bytes (Presence group round meter)
+RingTwinRefuses w names bytes (Disagree (of_disagreement.Component group round least first second)) = RingDisagreed w bytes (Component group round least first second)
 RingTwinRefuses w names bytes NoMemory = ⊤
 RingTwinRefuses w names bytes _ = ⊥
 

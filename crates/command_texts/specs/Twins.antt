@@ -12,7 +12,9 @@ use Rattle.event_schedule.specs.declared.Line.{Line}
 use Rattle.ideal_masks.specs.declared.Differ.TheVariants.{Presence, Total}
 use Rattle.twin_worlds.specs.declared.answers.TwinError.TheVariants as twin
 use Rattle.command_words.specs.declared.outcome.Outcome.{Outcome}
-use Rattle.command_words.specs.declared.outcome.Outcome.TheVariants.{NoMemory, BadPlan, BadReadings, BadTranscript, OtherPlan, OtherLine, OtherPresence, OtherTotal}
+use Rattle.command_words.specs.declared.outcome.Outcome.TheVariants.{NoMemory, BadPlan, BadReadings, BadText, Disagree}
+use Rattle.command_words.specs.declared.text_fault.TextFault.TheVariants as of_text
+use Rattle.command_words.specs.declared.disagreement.Disagreement.TheVariants as of_disagreement
 use Rattle.command_words.specs.Words.{TwinNames}
 use Rattle.link_lanes.specs.Lanes.{Meaning}
 use Rattle.event_schedule.specs.Transcripts.{TranscriptView}
@@ -59,12 +61,12 @@ abbrev pub TwinRefuses : TwinNames → TwinBytes → Outcome → Type 0
 TwinRefuses names bytes (BadPlan name fault) = (name.now ≡ names.plan) × (plan_of bytes.plan ≡ Err fault)
 TwinRefuses names bytes (BadReadings name fault) =
     ((name.now ≡ names.readings) × RefusesFirst bytes fault) ⊎ ((name.now ≡ names.other) × RefusesSecond bytes fault)
-TwinRefuses names bytes (BadTranscript name fault) = (name.now ≡ names.transcript) × Compared bytes (Err (twin.Transcript fault))
-TwinRefuses names bytes (OtherPlan name) = (name.now ≡ names.transcript) × Compared bytes (Err twin.Head)
-TwinRefuses names bytes (OtherLine name line expected) =
+TwinRefuses names bytes (BadText name (of_text.Transcript fault)) = (name.now ≡ names.transcript) × Compared bytes (Err (twin.Transcript fault))
+TwinRefuses names bytes (BadText name of_text.OtherPlan) = (name.now ≡ names.transcript) × Compared bytes (Err twin.Head)
+TwinRefuses names bytes (BadText name (of_text.OtherLine line expected)) =
     (name.now ≡ names.transcript) × ((found : Line) × Compared bytes (Err (twin.NotThis line expected.line found expected.tick expected.fate)))
-TwinRefuses names bytes (OtherPresence group round meter) = Compared bytes (Err (twin.Differ (Presence group round meter)))
-TwinRefuses names bytes (OtherTotal group round first second) = Compared bytes (Err (twin.Differ (Total group round first second)))
+TwinRefuses names bytes (Disagree (of_disagreement.Presence group round meter)) = Compared bytes (Err (twin.Differ (Presence group round meter)))
+TwinRefuses names bytes (Disagree (of_disagreement.Total group round first second)) = Compared bytes (Err (twin.Differ (Total group round first second)))
 TwinRefuses names bytes NoMemory = ⊤
 TwinRefuses names bytes _ = ⊥
 

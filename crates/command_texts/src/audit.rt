@@ -1,35 +1,32 @@
 //! What a transcript and a report come to in an audit.
 
 ghost use Rattle.std.specs.Prelude.{ℕ, List, Ok, IfOk, IfErr, ◌≡◌};
-ghost use Rattle.audit_check.specs.Passes.{ReadsAs, IsReplayOf};
+ghost use Rattle.audit_check.specs.Passes.{ReadsAs, IsReplayOf, ReplayedText};
 ghost use Rattle.command_words.specs.Outcomes.{IsFault};
 ghost use Rattle.command_texts.specs.Audits.{AuditRefuses, ReportRefuses, AreAuditTexts, TextsAudited};
 ghost use Rattle.totals_report.specs.Texts.{rows_text};
 ghost use Rattle.totals_report.specs.Reading.{rows_of_text};
 ghost use Rattle.event_schedule.specs.Transcripts.{TranscriptView};
 
-use audit_check::{AuditCounts, AuditError, Replayed, replay_text};
-use command_words::{AuditFiles, Outcome};
+use audit_check::{AuditCounts, AuditError, Replayed};
+use command_words::{AuditFiles, Outcome, TextFault};
 use std::alloc::Global;
-use std::thread::Threads;
 use totals_report::{Report, ReportError, read_report};
 use transcript_text::ReadError;
 
-// What is kept of the transcript of this name's bytes, or how the command ends.
-fn replay_of<'a, R: Threads + Sync>(
-    rt: &R,
-    alloc: Global,
+// What is kept of the transcript of this name, or how the command ends.
+fn replay_of<'a>(
     name: &'a str,
-    bytes: &[u8],
+    replayed: Result<Replayed, ReadError>,
 ) -> Result<Replayed, Outcome<'a>>
-    ensures reads { IfOk result (ReadsAs bytes.now) }
-    ensures refused { (report rb : List ℕ) → IfErr result (λ outcome. AuditRefuses name.now report bytes.now rb outcome) }
+    ensures reads { (tb : List ℕ) → ReplayedText tb replayed → IfOk result (ReadsAs tb) }
+    ensures refused { (tb report rb : List ℕ) → ReplayedText tb replayed → IfErr result (λ outcome. AuditRefuses name.now report tb rb outcome) }
     ensures no_fault { IfErr result (λ outcome. ¬ IsFault outcome) }
 {
-    match replay_text(rt, alloc, bytes) {
+    match replayed {
         Ok(replayed) => Ok(replayed),
         Err(ReadError::Memory) => Err(Outcome::NoMemory),
-        Err(fault) => Err(Outcome::BadTranscript(name, fault)),
+        Err(fault) => Err(Outcome::BadText(name, TextFault::Transcript(fault))),
     }
 }
 
@@ -47,7 +44,7 @@ pub(crate) fn report_of<'a>(
     match read_report(alloc, bytes) {
         Ok(report) => Ok(report),
         Err(ReportError::Memory) => Err(Outcome::NoMemory),
-        Err(ReportError::Line(line)) => Err(Outcome::BadReport(name, line)),
+        Err(ReportError::Line(line)) => Err(Outcome::BadText(name, TextFault::Report(line))),
     }
 }
 
@@ -63,7 +60,7 @@ fn audit_values<'a>(
 {
     match replayed.audit(alloc, report) {
         Ok(counts) => Ok(counts),
-        Err(AuditError::Line(line)) => Err(Outcome::Impossible(name, line)),
+        Err(AuditError::Line(line)) => Err(Outcome::BadText(name, TextFault::Impossible(line))),
         Err(
             AuditError::Row {
                 at,
@@ -79,18 +76,17 @@ fn audit_values<'a>(
     }
 }
 
-/// The audit of the bytes of a transcript and a report.
-pub fn audit_texts<'a, R: Threads + Sync>(
-    rt: &R,
+/// The audit of what is kept of a transcript's text and of the bytes of a report.
+pub fn audit_texts<'a>(
     alloc: Global,
     files: AuditFiles<'a>,
-    transcript: &[u8],
+    replayed: Result<Replayed, ReadError>,
     report: &[u8],
 ) -> Result<AuditCounts, Outcome<'a>>
-    ensures ends { TextsAudited files.entry.transcript.now files.entry.report.now transcript.now report.now result }
+    ensures ends { (tb : List ℕ) → ReplayedText tb replayed → TextsAudited files.entry.transcript.now files.entry.report.now tb report.now result }
     ensures no_fault { IfErr result (λ outcome. ¬ IsFault outcome) }
 {
-    let replayed = match replay_of(rt, alloc, files.transcript, transcript) {
+    let replayed = match replay_of(files.transcript, replayed) {
         Ok(replayed) => replayed,
         Err(outcome) => return Err(outcome),
     };

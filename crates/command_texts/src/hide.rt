@@ -10,7 +10,7 @@ ghost use Rattle.command_words.specs.Commands.{hide_names_of};
 
 use crate::values::read_metered;
 use billing_read::{Partner, ReadingPlace, other_world, partner};
-use command_words::{HideWords, Outcome};
+use command_words::{HideWords, Outcome, TextFault};
 use group_plan::{Plan, Readings};
 use plan_files::write_readings;
 use std::alloc::{AllocError, Global};
@@ -47,8 +47,11 @@ fn transcript_of<'a, R: Threads + Sync>(
 {
     match transcript_of_plan(rt, alloc, plan, text) {
         Ok(transcript) => Ok(transcript),
-        Err(TwinError::Transcript(fault)) => Err(Outcome::BadTranscript(name, fault)),
-        Err(TwinError::Head) => Err(Outcome::OtherPlan(name)),
+        Err(TwinError::Transcript(fault)) => Err(Outcome::BadText(
+            name,
+            TextFault::Transcript(fault),
+        )),
+        Err(TwinError::Head) => Err(Outcome::BadText(name, TextFault::OtherPlan)),
         Err(TwinError::Memory) => Err(Outcome::NoMemory),
         Err(_) => unreachable!(),
     }

@@ -14,7 +14,7 @@ ghost use Rattle.run_course.specs.Beginnings.{IsSomeRun};
 
 use crate::audit::report_of;
 use audit_check::{AuditError, Inspected, inspect as inspect_lines};
-use command_words::{InspectFiles, Outcome};
+use command_words::{InspectFiles, Outcome, TextFault};
 use group_plan::Plan;
 use plan_files::{Failed, read_public};
 use run_course::{CourseError, in_time};
@@ -53,7 +53,7 @@ fn other_plan<'a>(alloc: Global, files: InspectFiles<'a>, report: &[u8]) -> Outc
     ensures no_fault { ¬ IsFault result }
 {
     match report_of(alloc, files.report, report) {
-        Ok(_report) => Outcome::OtherPlan(files.transcript),
+        Ok(_report) => Outcome::BadText(files.transcript, TextFault::OtherPlan),
         Err(outcome) => outcome,
     }
 }
@@ -74,7 +74,7 @@ fn read_texts<'a, R: Threads + Sync>(
         Ok(transcript) => transcript,
         Err(TwinError::Head) => return Err(other_plan(alloc, files, report)),
         Err(TwinError::Transcript(fault)) => {
-            return Err(Outcome::BadTranscript(files.transcript, fault));
+            return Err(Outcome::BadText(files.transcript, TextFault::Transcript(fault)));
         }
         Err(TwinError::Memory) => return Err(Outcome::NoMemory),
         Err(_) => unreachable!(),
@@ -93,9 +93,11 @@ fn check_times<'a>(alloc: Global, name: &'a str, transcript: &Transcript) -> Res
     let entries = transcript.len();
     match in_time(alloc, transcript) {
         Ok(()) => Ok(()),
-        Err(CourseError::Entry(entry)) => { Err(Outcome::NotInTime(name, entry_line(plan, entry))) }
+        Err(CourseError::Entry(entry)) => {
+            Err(Outcome::BadText(name, TextFault::NotInTime(entry_line(plan, entry))))
+        }
         Err(CourseError::Unfinished) => {
-            Err(Outcome::NotInTime(name, entry_line(plan, entries as u64)))
+            Err(Outcome::BadText(name, TextFault::NotInTime(entry_line(plan, entries as u64))))
         }
         Err(CourseError::Memory) => Err(Outcome::NoMemory),
     }
@@ -116,7 +118,7 @@ fn judge<'a>(
             or_fail!(check_times(alloc, name, transcript));
             Ok(found)
         }
-        Err(AuditError::Line(line)) => Err(Outcome::Impossible(name, line)),
+        Err(AuditError::Line(line)) => Err(Outcome::BadText(name, TextFault::Impossible(line))),
         Err(
             AuditError::Row {
                 at,

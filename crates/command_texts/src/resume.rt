@@ -13,7 +13,7 @@ use crate::run::{RunTexts, finished_texts};
 use crate::sharing::Sharing;
 use crate::values::RunInput;
 use collector_workers::{Crew, Gate};
-use command_words::Outcome;
+use command_words::{Outcome, TextFault};
 use cut_resume::{CutError, ResumeError, is_of_plan, read_cut, resume_plan};
 use group_plan::Plan;
 use link_lanes::Lane;
@@ -28,14 +28,15 @@ fn refused_cut<'a>(name: &'a str, fault: CutError) -> Outcome<'a>
     ensures refused { CutRefused name.now fault result }
     ensures no_fault { ¬ IsFault result }
 {
-    match fault {
-        CutError::Head(line) => Outcome::BadTranscript(name, ReadError::Head(line)),
-        CutError::Line(line) => Outcome::BadTranscript(name, ReadError::Line(line)),
-        CutError::Field(line, field) => Outcome::BadTranscript(name, ReadError::Field(line, field)),
-        CutError::Count(line) => Outcome::BadTranscript(name, ReadError::Count(line)),
-        CutError::After(line) => Outcome::BadTranscript(name, ReadError::After(line)),
-        CutError::Memory => Outcome::NoMemory,
-    }
+    let fault = match fault {
+        CutError::Head(line) => ReadError::Head(line),
+        CutError::Line(line) => ReadError::Line(line),
+        CutError::Field(line, field) => ReadError::Field(line, field),
+        CutError::Count(line) => ReadError::Count(line),
+        CutError::After(line) => ReadError::After(line),
+        CutError::Memory => return Outcome::NoMemory,
+    };
+    Outcome::BadText(name, TextFault::Transcript(fault))
 }
 
 /// The cut that the text of this name is, where it is one of the plan.
@@ -56,7 +57,7 @@ pub fn cut_in<'a, R: Threads + Sync>(
     };
     match is_of_plan(alloc, &cut, plan) {
         Ok(true) => Ok(cut),
-        Ok(false) => Err(Outcome::OtherPlan(name)),
+        Ok(false) => Err(Outcome::BadText(name, TextFault::OtherPlan)),
         Err(AllocError) => Err(Outcome::NoMemory),
     }
 }

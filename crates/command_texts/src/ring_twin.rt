@@ -11,7 +11,7 @@ ghost use Rattle.command_texts.specs.TwinTexts.{AreShort, bytes_of};
 
 use crate::twin::{Tables, TwinTexts, read_tables, world_refusal};
 use crate::values::plan_in;
-use command_words::{Outcome, TwinFiles};
+use command_words::{Disagreement, Outcome, TwinFiles};
 use mask_stream::ChaMasks;
 use plan_files::PlanFile;
 use sparse_masks::{RingDiffer, RingMasks, ring_offsets};
@@ -29,24 +29,24 @@ fn disagreement<'a>(cause: RingDiffer) -> Outcome<'a>
             group,
             round,
             meter,
-        } => Outcome::OtherPresence {
+        } => Outcome::Disagree(Disagreement::Presence {
             group,
             round,
             meter,
-        },
+        }),
         RingDiffer::Component {
             group,
             round,
             least,
             first,
             second,
-        } => Outcome::OtherComponent {
+        } => Outcome::Disagree(Disagreement::Component {
             group,
             round,
             least,
             first,
             second,
-        },
+        }),
         RingDiffer::Memory => Outcome::NoMemory,
     }
 }

@@ -16,7 +16,7 @@ ghost use Rattle.pair_keys.specs.Keys.{table_of};
 ghost use Rattle.command_words.specs.Known.{IsKnown, known_in};
 
 use crate::values::{plan_in, readings_in};
-use command_words::{Outcome, TwinFiles, known_sets};
+use command_words::{Disagreement, Outcome, TextFault, TwinFiles, known_sets};
 use event_schedule::Entry;
 use group_plan::{Plan, Readings};
 use ideal_masks::Differ;
@@ -56,34 +56,36 @@ pub(crate) fn world_refusal<'a>(transcript: &'a str, error: TwinError) -> Outcom
     ensures no_fault { ¬ IsFault result }
 {
     match error {
-        TwinError::Transcript(fault) => Outcome::BadTranscript(transcript, fault),
-        TwinError::Head => Outcome::OtherPlan(transcript),
+        TwinError::Transcript(fault) => Outcome::BadText(transcript, TextFault::Transcript(fault)),
+        TwinError::Head => Outcome::BadText(transcript, TextFault::OtherPlan),
         TwinError::NotThis {
             line,
             expected,
             found: _,
             tick,
             fate,
-        } => Outcome::OtherLine {
-            name: transcript,
-            line,
-            expected: Entry {
-                tick,
-                fate,
-                line: expected,
+        } => Outcome::BadText(
+            transcript,
+            TextFault::OtherLine {
+                line,
+                expected: Entry {
+                    tick,
+                    fate,
+                    line: expected,
+                },
             },
-        },
+        ),
         TwinError::Differ(
             Differ::Presence {
                 group,
                 round,
                 meter,
             },
-        ) => Outcome::OtherPresence {
+        ) => Outcome::Disagree(Disagreement::Presence {
             group,
             round,
             meter,
-        },
+        }),
         TwinError::Differ(
             Differ::Total {
                 group,
@@ -91,12 +93,12 @@ pub(crate) fn world_refusal<'a>(transcript: &'a str, error: TwinError) -> Outcom
                 first,
                 second,
             },
-        ) => Outcome::OtherTotal {
+        ) => Outcome::Disagree(Disagreement::Total {
             group,
             round,
             first,
             second,
-        },
+        }),
         TwinError::Differ(Differ::Memory) | TwinError::Memory => Outcome::NoMemory,
     }
 }
@@ -111,11 +113,11 @@ fn refusal<'a>(transcript: &'a str, error: PoolTwinError) -> Outcome<'a>
             group,
             round,
             meter,
-        } => Outcome::OtherKnown {
+        } => Outcome::Disagree(Disagreement::Known {
             group,
             round,
             meter,
-        },
+        }),
         PoolTwinError::Other(error) => world_refusal(transcript, error),
     }
 }

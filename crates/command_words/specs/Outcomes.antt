@@ -4,8 +4,17 @@ use Rattle.std.specs.Fmt.{decimal}
 use Rattle.std.specs.List.{flat_map}
 use Rattle.hex.specs.Hex.{encode_lower}
 use Rattle.plan_files.specs.declared.fault.FileFault.{FileFault}
+use Rattle.link_lanes.specs.declared.cupboard.RackError.{RackError}
 use Rattle.command_words.specs.declared.outcome.Outcome.{Outcome}
-use Rattle.command_words.specs.declared.outcome.Outcome.TheVariants.{Done, NoMemory, BadWords, CannotRead, CannotHear, TooLong, CannotWrite, CannotWritePart, CannotPrint, BadPlan, BadReadings, BadTranscript, BadReport, BadJournalHead, BadJournalLine, Impossible, NotInTime, NotThisRun, OtherRow, OtherPlan, OtherLine, OtherPresence, OtherKnown, OtherTotal, OtherComponent, BadLane, NoPartner}
+use Rattle.command_words.specs.declared.outcome.Outcome.TheVariants.{Done, NoMemory, BadWords, Unread, Unwritten, BadPlan, BadReadings, BadText, Disagree, OtherRow, BadLane, NoPartner}
+use Rattle.command_words.specs.declared.unread.Unread as unreads
+use Rattle.command_words.specs.declared.unread.Unread.TheVariants as of_unread
+use Rattle.command_words.specs.declared.unwritten.Unwritten as unwrittens
+use Rattle.command_words.specs.declared.unwritten.Unwritten.TheVariants as of_unwritten
+use Rattle.command_words.specs.declared.text_fault.TextFault.{TextFault}
+use Rattle.command_words.specs.declared.text_fault.TextFault.TheVariants as of_text
+use Rattle.command_words.specs.declared.disagreement.Disagreement.{Disagreement}
+use Rattle.command_words.specs.declared.disagreement.Disagreement.TheVariants as of_disagreement
 use Rattle.meter_files.specs.Names.{part_name}
 use Rattle.command_words.specs.Causes.{cause_text, rack_cause_name, read_error_name}
 use Rattle.transcript_text.specs.Faults.{fault_line}
@@ -19,28 +28,13 @@ abbrev pub status_of : Outcome → ℕ
 status_of Done = 0
 status_of NoMemory = 1
 status_of BadWords = 2
-status_of (CannotRead name) = 3
-status_of CannotHear = 3
-status_of (TooLong name) = 3
-status_of (CannotWrite name) = 4
-status_of (CannotWritePart prefix meter file) = 4
-status_of CannotPrint = 4
+status_of (Unread unread) = 3
+status_of (Unwritten unwritten) = 4
 status_of (BadPlan name fault) = 5
 status_of (BadReadings name fault) = 6
-status_of (BadTranscript name fault) = 7
-status_of (BadReport name line) = 7
-status_of (BadJournalHead name line) = 7
-status_of (BadJournalLine name line) = 7
-status_of (Impossible name line) = 7
-status_of (NotInTime name line) = 7
-status_of (NotThisRun name line) = 7
+status_of (BadText name fault) = 7
+status_of (Disagree disagreement) = 8
 status_of (OtherRow at from_frames reported) = 9
-status_of (OtherPlan name) = 7
-status_of (OtherLine name line expected) = 7
-status_of (OtherPresence group round meter) = 8
-status_of (OtherKnown group round meter) = 8
-status_of (OtherTotal group round first second) = 8
-status_of (OtherComponent group round least first second) = 8
 status_of (BadLane fault) = 10
 status_of (NoPartner group round meter) = 11
 
@@ -76,105 +70,77 @@ unfoldable pub row_complaint : ℕ → Option ReportRow → Option ReportRow →
 row_complaint at from_frames reported =
     codes "meteragg: row " ++ (decimal at ++ codes ": from frames ") ++ row_or_nothing from_frames ++ codes ", reported " ++ row_or_nothing reported ++ codes "\n"
 
+-- the complaint of what can't be read
+unfoldable pub unread_complaint : unreads.Unread → List ℕ
+unread_complaint (of_unread.File name) = codes "meteragg: cannot read " ++ (shown_name name.now ++ codes "\n")
+unread_complaint (of_unread.TooLong name) = codes "meteragg: " ++ (shown_name name.now ++ codes " is longer than 268435456 bytes\n")
+unread_complaint of_unread.Input = codes "meteragg: cannot read input\n"
+
+-- the complaint of what can't be written
+unfoldable pub unwritten_complaint : unwrittens.Unwritten → List ℕ
+unwritten_complaint (of_unwritten.File name) = codes "meteragg: cannot write " ++ (shown_name name.now ++ codes "\n")
+unwritten_complaint (of_unwritten.Part prefix meter file) = codes "meteragg: cannot write " ++ (shown_name (part_name prefix.now meter file) ++ codes "\n")
+unwritten_complaint of_unwritten.Output = codes "meteragg: cannot print\n"
+
+-- the complaint of a text of this name
+unfoldable pub text_complaint : List ℕ → TextFault → List ℕ
+text_complaint name (of_text.Transcript fault) = line_complaint name (fault_line fault) (read_error_name fault)
+text_complaint name (of_text.Report line) = line_complaint name line (codes "Line")
+text_complaint name (of_text.JournalHead line) = line_complaint name line (codes "Head")
+text_complaint name (of_text.JournalLine line) = line_complaint name line (codes "Line")
+text_complaint name (of_text.Impossible line) = line_complaint name line (codes "impossible")
+text_complaint name (of_text.NotInTime line) = line_complaint name line (codes "not in time")
+text_complaint name (of_text.NotThisRun line) = line_complaint name line (codes "not this run")
+text_complaint name of_text.OtherPlan = codes "meteragg: " ++ (shown_name name ++ codes ": other plan\n")
+text_complaint name (of_text.OtherLine line expected) = line_complaint name line (codes "expected " ++ entry_text Two expected)
+
+-- the complaint of two tables of readings
+unfoldable pub disagreement_complaint : Disagreement → List ℕ
+disagreement_complaint (of_disagreement.Presence group round meter) =
+    codes "meteragg: presence " ++ (decimal group ++ (codes " " ++ (decimal round ++ (codes " " ++ (decimal meter ++ codes "\n")))))
+disagreement_complaint (of_disagreement.Known group round meter) =
+    codes "meteragg: known " ++ (decimal group ++ (codes " " ++ (decimal round ++ (codes " " ++ (decimal meter ++ codes "\n")))))
+disagreement_complaint (of_disagreement.Total group round first second) =
+    codes "meteragg: total " ++ (decimal group ++ (codes " " ++ (decimal round ++ (codes " " ++ (decimal first ++ (codes " " ++ (decimal second ++ codes "\n")))))))
+disagreement_complaint (of_disagreement.Component group round least first second) =
+    codes "meteragg: component " ++ (decimal group ++ (codes " " ++ (decimal round ++ (codes " " ++ (decimal least ++ (codes " " ++ (decimal first ++ (codes " " ++ (decimal second ++ codes "\n")))))))))
+
+-- the complaint of a lane row that gets no lane
+unfoldable pub lane_complaint : RackError → List ℕ
+lane_complaint fault = codes "meteragg: lane row " ++ (decimal fault.row ++ (codes ": " ++ (rack_cause_name fault.cause ++ codes "\n")))
+
+-- the complaint of a reading without a partner
+unfoldable pub partner_complaint : ℕ → ℕ → ℕ → List ℕ
+partner_complaint group round meter = codes "meteragg: alone " ++ (decimal group ++ (codes " " ++ (decimal round ++ (codes " " ++ (decimal meter ++ codes "\n")))))
+
 -- the text of the complaint, none where the command was done
 unfoldable pub complaint_of : Outcome → List ℕ
 complaint_of Done = []
 complaint_of NoMemory = codes "meteragg: no memory\n"
 complaint_of BadWords = codes "meteragg: bad words\n"
-complaint_of (CannotRead name) = codes "meteragg: cannot read " ++ (shown_name name.now ++ codes "\n")
-complaint_of CannotHear = codes "meteragg: cannot read input\n"
-complaint_of (TooLong name) = codes "meteragg: " ++ (shown_name name.now ++ codes " is longer than 268435456 bytes\n")
-complaint_of (CannotWrite name) = codes "meteragg: cannot write " ++ (shown_name name.now ++ codes "\n")
-complaint_of (CannotWritePart prefix meter file) = codes "meteragg: cannot write " ++ (shown_name (part_name prefix.now meter file) ++ codes "\n")
-complaint_of CannotPrint = codes "meteragg: cannot print\n"
+complaint_of (Unread unread) = unread_complaint unread
+complaint_of (Unwritten unwritten) = unwritten_complaint unwritten
 complaint_of (BadPlan name fault) = file_complaint name.now fault
 complaint_of (BadReadings name fault) = file_complaint name.now fault
-complaint_of (BadTranscript name fault) = line_complaint name.now (fault_line fault) (read_error_name fault)
-complaint_of (BadReport name line) = line_complaint name.now line (codes "Line")
-complaint_of (BadJournalHead name line) = line_complaint name.now line (codes "Head")
-complaint_of (BadJournalLine name line) = line_complaint name.now line (codes "Line")
-complaint_of (Impossible name line) = line_complaint name.now line (codes "impossible")
-complaint_of (NotInTime name line) = line_complaint name.now line (codes "not in time")
-complaint_of (NotThisRun name line) = line_complaint name.now line (codes "not this run")
+complaint_of (BadText name fault) = text_complaint name.now fault
+complaint_of (Disagree disagreement) = disagreement_complaint disagreement
 complaint_of (OtherRow at from_frames reported) = row_complaint at from_frames reported
-complaint_of (OtherPlan name) = codes "meteragg: " ++ (shown_name name.now ++ codes ": other plan\n")
-complaint_of (OtherLine name line expected) = line_complaint name.now line (codes "expected " ++ entry_text Two expected)
-complaint_of (OtherPresence group round meter) =
-    codes "meteragg: presence " ++ (decimal group ++ (codes " " ++ (decimal round ++ (codes " " ++ (decimal meter ++ codes "\n")))))
-complaint_of (OtherKnown group round meter) =
-    codes "meteragg: known " ++ (decimal group ++ (codes " " ++ (decimal round ++ (codes " " ++ (decimal meter ++ codes "\n")))))
-complaint_of (OtherTotal group round first second) =
-    codes "meteragg: total " ++ (decimal group ++ (codes " " ++ (decimal round ++ (codes " " ++ (decimal first ++ (codes " " ++ (decimal second ++ codes "\n")))))))
-complaint_of (OtherComponent group round least first second) =
-    codes "meteragg: component " ++ (decimal group ++ (codes " " ++ (decimal round ++ (codes " " ++ (decimal least ++ (codes " " ++ (decimal first ++ (codes " " ++ (decimal second ++ codes "\n")))))))))
-complaint_of (BadLane fault) = codes "meteragg: lane row " ++ (decimal fault.row ++ (codes ": " ++ (rack_cause_name fault.cause ++ codes "\n")))
-complaint_of (NoPartner group round meter) =
-    codes "meteragg: alone " ++ (decimal group ++ (codes " " ++ (decimal round ++ (codes " " ++ (decimal meter ++ codes "\n")))))
-
--- the outcomes whose complaint names no file and tells no row of a report
-abbrev pub IsText : Outcome → Type 0
-IsText Done = ⊤
-IsText NoMemory = ⊤
-IsText BadWords = ⊤
-IsText CannotHear = ⊤
-IsText CannotPrint = ⊤
-IsText (OtherPresence group round meter) = ⊤
-IsText (OtherKnown group round meter) = ⊤
-IsText (OtherTotal group round first second) = ⊤
-IsText (OtherComponent group round least first second) = ⊤
-IsText (BadLane fault) = ⊤
-IsText (NoPartner group round meter) = ⊤
-IsText other = ⊥
-
--- the outcomes whose complaint is a file's name and what is wrong with the file
-abbrev pub HasName : Outcome → Type 0
-HasName (CannotRead name) = ⊤
-HasName (TooLong name) = ⊤
-HasName (CannotWrite name) = ⊤
-HasName (CannotWritePart prefix meter file) = ⊤
-HasName (BadPlan name fault) = ⊤
-HasName (BadReadings name fault) = ⊤
-HasName (BadTranscript name fault) = ⊤
-HasName (BadReport name line) = ⊤
-HasName (BadJournalHead name line) = ⊤
-HasName (BadJournalLine name line) = ⊤
-HasName (Impossible name line) = ⊤
-HasName (NotInTime name line) = ⊤
-HasName (NotThisRun name line) = ⊤
-HasName (OtherPlan name) = ⊤
-HasName other = ⊥
+complaint_of (BadLane fault) = lane_complaint fault
+complaint_of (NoPartner group round meter) = partner_complaint group round meter
 
 -- an expected line has a text
+abbrev pub HasText : TextFault → Type 0
+HasText (of_text.OtherLine line expected) = IsWritable expected.line
+HasText _ = ⊤
+
+-- what a complaint tells has a text
 abbrev pub HasComplaint : Outcome → Type 0
-HasComplaint (OtherLine name line expected) = IsWritable expected.line
+HasComplaint (BadText name fault) = HasText fault
 HasComplaint _ = ⊤
 
 -- the ends that come only of a fault of the desk, or of the wire
 abbrev pub IsFault : Outcome → Type 0
-IsFault Done = ⊥
-IsFault NoMemory = ⊥
-IsFault BadWords = ⊥
-IsFault (CannotRead name) = ⊤
-IsFault CannotHear = ⊤
-IsFault (TooLong name) = ⊥
-IsFault (CannotWrite name) = ⊤
-IsFault (CannotWritePart prefix meter file) = ⊤
-IsFault CannotPrint = ⊤
-IsFault (BadPlan name fault) = ⊥
-IsFault (BadReadings name fault) = ⊥
-IsFault (BadTranscript name fault) = ⊥
-IsFault (BadReport name line) = ⊥
-IsFault (BadJournalHead name line) = ⊥
-IsFault (BadJournalLine name line) = ⊥
-IsFault (Impossible name line) = ⊥
-IsFault (NotInTime name line) = ⊥
-IsFault (NotThisRun name line) = ⊥
-IsFault (OtherRow at from_frames reported) = ⊥
-IsFault (OtherPlan name) = ⊥
-IsFault (OtherLine name line expected) = ⊥
-IsFault (OtherPresence group round meter) = ⊥
-IsFault (OtherKnown group round meter) = ⊥
-IsFault (OtherTotal group round first second) = ⊥
-IsFault (OtherComponent group round least first second) = ⊥
-IsFault (BadLane fault) = ⊥
-IsFault (NoPartner group round meter) = ⊥
+IsFault (Unread (of_unread.TooLong name)) = ⊥
+IsFault (Unread unread) = ⊤
+IsFault (Unwritten unwritten) = ⊤
+IsFault _ = ⊥

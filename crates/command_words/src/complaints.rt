@@ -3,15 +3,19 @@
 ghost use Rattle.std.specs.Prelude.{◌≡◌, ◌++◌, IfOk, OnOk, codes, string_bytes};
 ghost use Rattle.command_words.specs.Causes.{key_text, plan_error_name, span_error_name, key_error_text, cause_text, rack_cause_name, read_error_name};
 ghost use Rattle.transcript_text.specs.Faults.{fault_line};
-ghost use Rattle.command_words.specs.Outcomes.{HasComplaint, HasName, IsText, complaint_of, file_complaint, line_complaint, row_complaint, row_or_nothing, shown_byte, shown_name};
+ghost use Rattle.command_words.specs.Outcomes.{HasComplaint, HasText, complaint_of, disagreement_complaint, file_complaint, lane_complaint, line_complaint, partner_complaint, row_complaint, row_or_nothing, shown_byte, shown_name, text_complaint, unread_complaint, unwritten_complaint};
 ghost use Rattle.transcript_text.specs.declared.version.Version.TheVariants.{Two};
 ghost use Rattle.transcript_text.specs.Spelling.{entry_text};
 ghost use Rattle.transcript_text.specs.Writing.{IsWritable};
 
+use crate::disagreement::Disagreement;
 use crate::outcome::Outcome;
+use crate::text_fault::TextFault;
+use crate::unread::Unread;
+use crate::unwritten::Unwritten;
 use event_schedule::Entry;
 use group_plan::{PlanError, SpanError};
-use link_lanes::RackCause;
+use link_lanes::{RackCause, RackError};
 use meter_files::part_name;
 use pair_keys::{KeyError, KeyId};
 use plan_files::{FileCause, FileFault};
@@ -255,14 +259,34 @@ fn transcript_complaint(alloc: Global, name: &str, fault: ReadError) -> Result<V
     line_complaint(alloc, name, fault_line(fault), &cause)
 }
 
-// The complaint of a name, and what is wrong with its file.
-#[tactic(auto, unfolding(crate::specs::Outcomes::complaint_of))]
-fn name_complaint(alloc: Global, outcome: &Outcome<'_>) -> Result<Vec<u8>, AllocError>
-    ensures { IfOk result (λ text. HasName outcome.now → text.items ≡ complaint_of outcome.now) }
+// The complaint of a text of this name.
+#[tactic(auto, unfolding(crate::specs::Outcomes::text_complaint))]
+fn text_complaint(alloc: Global, name: &str, fault: &TextFault) -> Result<Vec<u8>, AllocError>
+    requires { HasText fault.now }
+    ensures { IfOk result (λ text. text.items ≡ text_complaint name.now fault.now) }
 {
-    match outcome {
-        Outcome::CannotRead(name) => named(alloc, "meteragg: cannot read ", name, "\n"),
-        Outcome::TooLong(name) => {
+    match fault {
+        TextFault::Transcript(fault) => transcript_complaint(alloc, name, *fault),
+        TextFault::Report(line) | TextFault::JournalLine(line) => {
+            line_complaint(alloc, name, *line, "Line")
+        }
+        TextFault::JournalHead(line) => line_complaint(alloc, name, *line, "Head"),
+        TextFault::Impossible(line) => line_complaint(alloc, name, *line, "impossible"),
+        TextFault::NotInTime(line) => line_complaint(alloc, name, *line, "not in time"),
+        TextFault::NotThisRun(line) => line_complaint(alloc, name, *line, "not this run"),
+        TextFault::OtherPlan => named(alloc, "meteragg: ", name, ": other plan\n"),
+        TextFault::OtherLine { line, expected } => expected_complaint(alloc, name, *line, expected),
+    }
+}
+
+// The complaint of what can't be read.
+#[tactic(auto, unfolding(crate::specs::Outcomes::unread_complaint))]
+fn unread_complaint(alloc: Global, unread: &Unread<'_>) -> Result<Vec<u8>, AllocError>
+    ensures { IfOk result (λ text. text.items ≡ unread_complaint unread.now) }
+{
+    match unread {
+        Unread::File(name) => named(alloc, "meteragg: cannot read ", name, "\n"),
+        Unread::TooLong(name) => {
             named(
                 alloc,
                 "meteragg: ",
@@ -270,8 +294,18 @@ fn name_complaint(alloc: Global, outcome: &Outcome<'_>) -> Result<Vec<u8>, Alloc
                 " is longer than 268435456 bytes\n",
             )
         }
-        Outcome::CannotWrite(name) => named(alloc, "meteragg: cannot write ", name, "\n"),
-        Outcome::CannotWritePart {
+        Unread::Input => Vec::from_slice(alloc, b"meteragg: cannot read input\n"),
+    }
+}
+
+// The complaint of what can't be written.
+#[tactic(auto, unfolding(crate::specs::Outcomes::unwritten_complaint))]
+fn unwritten_complaint(alloc: Global, unwritten: &Unwritten<'_>) -> Result<Vec<u8>, AllocError>
+    ensures { IfOk result (λ text. text.items ≡ unwritten_complaint unwritten.now) }
+{
+    match unwritten {
+        Unwritten::File(name) => named(alloc, "meteragg: cannot write ", name, "\n"),
+        Unwritten::Part {
             prefix,
             meter,
             file,
@@ -279,67 +313,58 @@ fn name_complaint(alloc: Global, outcome: &Outcome<'_>) -> Result<Vec<u8>, Alloc
             let name = part_name(alloc, prefix, *meter, *file)?;
             named(alloc, "meteragg: cannot write ", &name, "\n")
         }
-        Outcome::BadPlan(name, fault) | Outcome::BadReadings(name, fault) => {
-            file_complaint(alloc, name, *fault)
-        }
-        Outcome::BadTranscript(name, fault) => transcript_complaint(alloc, name, *fault),
-        Outcome::BadReport(name, line) | Outcome::BadJournalLine(name, line) => {
-            line_complaint(alloc, name, *line, "Line")
-        }
-        Outcome::BadJournalHead(name, line) => line_complaint(alloc, name, *line, "Head"),
-        Outcome::Impossible(name, line) => line_complaint(alloc, name, *line, "impossible"),
-        Outcome::NotInTime(name, line) => line_complaint(alloc, name, *line, "not in time"),
-        Outcome::NotThisRun(name, line) => line_complaint(alloc, name, *line, "not this run"),
-        Outcome::OtherPlan(name) => named(alloc, "meteragg: ", name, ": other plan\n"),
-        _ => Ok(Vec::new(alloc)),
+        Unwritten::Output => Vec::from_slice(alloc, b"meteragg: cannot print\n"),
     }
 }
 
-// The text of a complaint that names no file.
-#[tactic(auto, unfolding(crate::specs::Outcomes::complaint_of))]
-fn text_complaint(alloc: Global, outcome: &Outcome<'_>) -> Result<String, AllocError>
-    ensures { IfOk result (λ text. IsText outcome.now → string_bytes text ≡ complaint_of outcome.now) }
+// The complaint of two tables of readings.
+#[tactic(auto, unfolding(crate::specs::Outcomes::disagreement_complaint))]
+fn disagreement_complaint(alloc: Global, disagreement: &Disagreement) -> Result<String, AllocError>
+    ensures { IfOk result (λ text. string_bytes text ≡ disagreement_complaint disagreement.now) }
 {
-    match outcome {
-        Outcome::NoMemory => String::from_str(alloc, "meteragg: no memory\n"),
-        Outcome::BadWords => String::from_str(alloc, "meteragg: bad words\n"),
-        Outcome::CannotHear => String::from_str(alloc, "meteragg: cannot read input\n"),
-        Outcome::CannotPrint => String::from_str(alloc, "meteragg: cannot print\n"),
-        Outcome::OtherPresence {
+    match disagreement {
+        Disagreement::Presence {
             group,
             round,
             meter,
         } => format!(in alloc; "meteragg: presence {group} {round} {meter}\n"),
-        Outcome::OtherKnown {
+        Disagreement::Known {
             group,
             round,
             meter,
         } => format!(in alloc; "meteragg: known {group} {round} {meter}\n"),
-        Outcome::OtherTotal {
+        Disagreement::Total {
             group,
             round,
             first,
             second,
         } => format!(in alloc; "meteragg: total {group} {round} {first} {second}\n"),
-        Outcome::OtherComponent {
+        Disagreement::Component {
             group,
             round,
             least,
             first,
             second,
         } => { format!(in alloc; "meteragg: component {group} {round} {least} {first} {second}\n") }
-        Outcome::BadLane(fault) => {
-            let row = fault.row;
-            let cause = rack_cause_name(fault.cause);
-            format!(in alloc; "meteragg: lane row {row}: {cause}\n")
-        }
-        Outcome::NoPartner {
-            group,
-            round,
-            meter,
-        } => format!(in alloc; "meteragg: alone {group} {round} {meter}\n"),
-        _ => Ok(String::new(alloc)),
     }
+}
+
+// The complaint of a lane row that gets no lane.
+#[tactic(auto, unfolding(crate::specs::Outcomes::lane_complaint))]
+fn lane_complaint(alloc: Global, fault: RackError) -> Result<String, AllocError>
+    ensures { IfOk result (λ text. string_bytes text ≡ lane_complaint fault) }
+{
+    let row = fault.row;
+    let cause = rack_cause_name(fault.cause);
+    format!(in alloc; "meteragg: lane row {row}: {cause}\n")
+}
+
+// The complaint of a reading without a partner.
+#[tactic(auto, unfolding(crate::specs::Outcomes::partner_complaint))]
+fn partner_complaint(alloc: Global, group: u16, round: u32, meter: u8) -> Result<String, AllocError>
+    ensures { IfOk result (λ text. string_bytes text ≡ partner_complaint group round meter) }
+{
+    format!(in alloc; "meteragg: alone {group} {round} {meter}\n")
 }
 
 /// The text of the complaint, none where the command was done.
@@ -349,27 +374,28 @@ pub fn complaint(alloc: Global, outcome: &Outcome<'_>) -> Result<Vec<u8>, AllocE
     ensures { IfOk result (λ text. text.items ≡ complaint_of outcome.now) }
 {
     match outcome {
+        Outcome::Done => Ok(Vec::new(alloc)),
+        Outcome::NoMemory => Vec::from_slice(alloc, b"meteragg: no memory\n"),
+        Outcome::BadWords => Vec::from_slice(alloc, b"meteragg: bad words\n"),
+        Outcome::Unread(unread) => unread_complaint(alloc, unread),
+        Outcome::Unwritten(unwritten) => unwritten_complaint(alloc, unwritten),
+        Outcome::BadPlan(name, fault) | Outcome::BadReadings(name, fault) => {
+            file_complaint(alloc, name, *fault)
+        }
+        Outcome::BadText(name, fault) => text_complaint(alloc, name, fault),
+        Outcome::Disagree(disagreement) => {
+            Ok(disagreement_complaint(alloc, disagreement)?.into_bytes())
+        }
         Outcome::OtherRow {
             at,
             from_frames,
             reported,
         } => row_complaint(alloc, *at, from_frames, reported),
-        Outcome::OtherLine {
-            name,
-            line,
-            expected,
-        } => expected_complaint(alloc, name, *line, expected),
-        Outcome::Done
-        | Outcome::NoMemory
-        | Outcome::BadWords
-        | Outcome::CannotHear
-        | Outcome::CannotPrint
-        | Outcome::OtherPresence { .. }
-        | Outcome::OtherKnown { .. }
-        | Outcome::OtherTotal { .. }
-        | Outcome::OtherComponent { .. }
-        | Outcome::BadLane(_)
-        | Outcome::NoPartner { .. } => Ok(text_complaint(alloc, outcome)?.into_bytes()),
-        _ => name_complaint(alloc, outcome),
+        Outcome::BadLane(fault) => Ok(lane_complaint(alloc, *fault)?.into_bytes()),
+        Outcome::NoPartner {
+            group,
+            round,
+            meter,
+        } => Ok(partner_complaint(alloc, *group, *round, *meter)?.into_bytes()),
     }
 }

@@ -2,18 +2,26 @@
 #![tactic(auto)]
 
 mod complaints;
+mod disagreement;
 mod known;
 mod meter_parts;
 mod outcome;
 mod parsing;
 mod role_parts;
+mod text_fault;
+mod unread;
+mod unwritten;
 mod usage;
 mod words;
 
 pub use complaints::complaint;
+pub use disagreement::Disagreement;
 pub use known::{KnownMeter, known_sets};
-pub use outcome::Outcome;
+pub use outcome::{Outcome, status};
 pub use parsing::parse;
+pub use text_fault::TextFault;
+pub use unread::Unread;
+pub use unwritten::Unwritten;
 pub use usage::{USAGE, VERSION};
 pub use words::{
     AuditFiles, BillFiles, BillWords, CollectFiles, Command, ConvertFiles, HideFiles, HideWords,

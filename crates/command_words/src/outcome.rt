@@ -1,13 +1,17 @@
-//! How a command ends.
+//! How a command ends, and its status.
 
-use event_schedule::Entry;
+ghost use Rattle.std.specs.Prelude.{◌≡◌};
+ghost use Rattle.command_words.specs.Outcomes.{status_of};
+
+use crate::disagreement::Disagreement;
+use crate::text_fault::TextFault;
+use crate::unread::Unread;
+use crate::unwritten::Unwritten;
 use link_lanes::RackError;
-use meter_files::PartFile;
 use plan_files::FileFault;
 use totals_report::ReportRow;
-use transcript_text::ReadError;
 
-/// How a command ends. A name is the word that named the file.
+/// How a command ends: one case for each status. A name is the word that named the file.
 #[derive(Clone, Copy)]
 pub enum Outcome<'a> {
     /// The command was done.
@@ -16,86 +20,24 @@ pub enum Outcome<'a> {
     NoMemory,
     /// The words are no command.
     BadWords,
-    /// The file can't be read.
-    CannotRead(&'a str),
-    /// The input can't be read.
-    CannotHear,
-    /// The file is longer than 2^28 bytes.
-    TooLong(&'a str),
-    /// The file can't be written.
-    CannotWrite(&'a str),
-    /// This file of a meter can't be written; the prefix begins its name.
-    CannotWritePart {
-        prefix: &'a str,
-        meter: u8,
-        file: PartFile,
-    },
-    /// The output can't be written.
-    CannotPrint,
+    /// A file or the input can't be read, or a file is too long.
+    Unread(Unread<'a>),
+    /// A file or the output can't be written.
+    Unwritten(Unwritten<'a>),
     /// The plan file has this fault.
     BadPlan(&'a str, FileFault),
     /// The readings file has this fault.
     BadReadings(&'a str, FileFault),
-    /// The transcript's text has this fault.
-    BadTranscript(&'a str, ReadError),
-    /// The report's text is refused at this line, counted from 1.
-    BadReport(&'a str, u64),
-    /// This line of the journal, counted from 1, is the first that isn't that of the head.
-    BadJournalHead(&'a str, u64),
-    /// This line of the journal behind its head, counted from 1 with the head's, is the first that has no form or can't have come.
-    BadJournalLine(&'a str, u64),
-    /// This line of the transcript, counted from 1, is the first that is not possible.
-    Impossible(&'a str, u64),
+    /// The text of a transcript, a report or a journal has this fault.
+    BadText(&'a str, TextFault),
+    /// Two tables of readings don't agree.
+    Disagree(Disagreement),
     /// This row of the report, counted from 1, is the first that is not the one that the frames give; both rows, or none
     /// where a side has ended.
     OtherRow {
         at: u32,
         from_frames: Option<ReportRow>,
         reported: Option<ReportRow>,
-    },
-    /// The line of this entry, counted from 1, is the first with which no run of the plan begins; or all entries begin one that goes
-    /// on, and this is the line behind them.
-    NotInTime(&'a str, u64),
-    /// The entry of this line of a cut transcript, counted from 1, is the first with which the run of the files does not begin.
-    NotThisRun(&'a str, u64),
-    /// The transcript is one of another plan.
-    OtherPlan(&'a str),
-    /// This line of the transcript, counted from 1, is the first that isn't the one of the readings under the keys; the
-    /// expected one, with the tick and the fate that stand there.
-    OtherLine {
-        name: &'a str,
-        line: u64,
-        expected: Entry,
-    },
-    /// One table of readings alone has one of this meter in this round; all are counted from 0.
-    OtherPresence {
-        group: u16,
-        round: u32,
-        meter: u8,
-    },
-    /// The two tables have other readings of this meter in this round, who is one of those that share what they know; all are
-    /// counted from 0.
-    OtherKnown {
-        group: u16,
-        round: u32,
-        meter: u8,
-    },
-    /// The two tables have these sums, in watt-hours, over the survivors of this opened round; or, against meters that share
-    /// what they know, over the other survivors of this round that is open to them.
-    OtherTotal {
-        group: u16,
-        round: u32,
-        first: u64,
-        second: u64,
-    },
-    /// The two tables have these sums, in watt-hours, over the opened component of masks in this round that has this least member; all
-    /// numbers of places are counted from 0.
-    OtherComponent {
-        group: u16,
-        round: u32,
-        least: u8,
-        first: u64,
-        second: u64,
     },
     /// A lane row of the plan file gets no lane.
     BadLane(RackError),
@@ -105,4 +47,24 @@ pub enum Outcome<'a> {
         round: u32,
         meter: u8,
     },
+}
+
+/// The status of a command that ends so.
+pub fn status(outcome: &Outcome<'_>) -> u8
+    ensures { result ≡ status_of outcome.now }
+{
+    match outcome {
+        Outcome::Done => 0,
+        Outcome::NoMemory => 1,
+        Outcome::BadWords => 2,
+        Outcome::Unread(_) => 3,
+        Outcome::Unwritten(_) => 4,
+        Outcome::BadPlan(_, _) => 5,
+        Outcome::BadReadings(_, _) => 6,
+        Outcome::BadText(_, _) => 7,
+        Outcome::Disagree(_) => 8,
+        Outcome::OtherRow { .. } => 9,
+        Outcome::BadLane(_) => 10,
+        Outcome::NoPartner { .. } => 11,
+    }
 }

@@ -15,7 +15,8 @@ use Rattle.command_texts.specs.Runs.{RefusesLane, RefusesReadings}
 use Rattle.plan_files.specs.declared.fault.FileFault.{FileFault}
 use Rattle.plan_files.specs.Readings.{readings_of}
 use Rattle.command_words.specs.declared.outcome.Outcome.{Outcome}
-use Rattle.command_words.specs.declared.outcome.Outcome.TheVariants.{NoMemory, BadPlan, BadReadings, BadTranscript, BadReport, Impossible, NotInTime, OtherRow, OtherPlan, BadLane, NoPartner}
+use Rattle.command_words.specs.declared.outcome.Outcome.TheVariants.{NoMemory, BadPlan, BadReadings, BadText, OtherRow, BadLane, NoPartner}
+use Rattle.command_words.specs.declared.text_fault.TextFault.TheVariants as of_text
 use Rattle.run_commands.specs.RunEnds.{RunRefuses, fetched_by, put_by, RunEndsBy}
 use Rattle.file_commands.specs.AuditEnds.{AuditCommandEnds}
 use Rattle.run_commands.specs.LoadEnds.{made_plan_text, made_readings_text, MakeEnds, LoadRefuses, put_where, LoadEnds}
@@ -163,9 +164,9 @@ no_difference t rows at one other same first = first.differ (sym first.one_is �
 audit_not_refused : (transcript report : List ℕ) (v : View) (tb rb : List ℕ) (outcome : Outcome) → AuditAccepts transcript report v
     → IsRead (v.held transcript) tb → IsRead (v.held report) rb → AuditRefuses transcript report tb rb outcome → IsCalm outcome
 audit_not_refused transcript report v tb rb NoMemory good t_read r_read ends = inr (inr refl)
-audit_not_refused transcript report v tb rb (BadTranscript name fault) good t_read r_read ends = absurd (transcript_not_refused transcript report v good tb fault t_read ends.1)
-audit_not_refused transcript report v tb rb (BadReport name line) good t_read r_read (named, (t, is, bad)) = absurd (report_not_refused transcript report v good rb line r_read bad)
-audit_not_refused transcript report v tb rb (Impossible name line) good t_read r_read (named, (t, rows, texts, (k, number, first))) =
+audit_not_refused transcript report v tb rb (BadText name (of_text.Transcript fault)) good t_read r_read ends = absurd (transcript_not_refused transcript report v good tb fault t_read ends.1)
+audit_not_refused transcript report v tb rb (BadText name (of_text.Report line)) good t_read r_read (named, (t, is, bad)) = absurd (report_not_refused transcript report v good rb line r_read bad)
+audit_not_refused transcript report v tb rb (BadText name (of_text.Impossible line)) good t_read r_read (named, (t, rows, texts, (k, number, first))) =
     let same = audited_same transcript report v good tb rb t rows t_read r_read texts in
     absurd (all_possible t k (subst (λ t. IsPossible t.plan.groups (lines_in t)) same.0 good.possible) first)
 audit_not_refused transcript report v tb rb (OtherRow at one other) good t_read r_read (t, rows, texts, ends) =
@@ -209,7 +210,7 @@ converted_is old v good bytes is =
 
 text_not_refused : (old : List ℕ) (v : View) (bytes : List ℕ) (outcome : Outcome) → ConvertAccepts old v → IsRead (v.held old) bytes → ConvertRefuses old bytes outcome → IsCalm outcome
 text_not_refused old v bytes NoMemory good is ends = inr (inr refl)
-text_not_refused old v bytes (BadTranscript name fault) good is ends = absurd (ok_or_err _ _ _ (converted_is old v good bytes is) ends.1)
+text_not_refused old v bytes (BadText name (of_text.Transcript fault)) good is ends = absurd (ok_or_err _ _ _ (converted_is old v good bytes is) ends.1)
 text_not_refused old v bytes _ good is ends = absurd ends
 
 convert_calm : (old transcript : List ℕ) (v w : View) (outcome : Outcome) → ConvertAccepts old v → ConvertEnds old transcript v w outcome → IsCalm outcome
@@ -251,17 +252,17 @@ module _ (names : InspectNames) (v : View) (good : InspectAccepts names v) where
 
   texts_not_refused : (plan : PlanView) (outcome : Outcome) → plan ≡ good.lines.plan → TextsRefuse names plan good.bytes.transcript good.bytes.report outcome → IsCalm outcome
   texts_not_refused plan NoMemory same ends = inr (inr refl)
-  texts_not_refused plan (BadTranscript name fault) same ends = absurd (ok_or_err _ _ _ good.transcript_read ends.1)
-  texts_not_refused plan (BadReport name line) same (named, (t, is, bad)) = absurd (ok_or_err _ _ _ good.report_read bad)
-  texts_not_refused plan (OtherPlan name) same (named, (t, rows, texts, other)) =
+  texts_not_refused plan (BadText name (of_text.Transcript fault)) same ends = absurd (ok_or_err _ _ _ good.transcript_read ends.1)
+  texts_not_refused plan (BadText name (of_text.Report line)) same (named, (t, is, bad)) = absurd (ok_or_err _ _ _ good.report_read bad)
+  texts_not_refused plan (BadText name of_text.OtherPlan) same (named, (t, rows, texts, other)) =
       absurd (other (ap (λ (t : TranscriptView). t.plan) (ok_same _ _ _ texts.transcript good.transcript_read) ∙ sym same))
   texts_not_refused plan _ same ends = absurd ends
 
   judged_well : (t : TranscriptView) (rows : List ReportRow) (outcome : Outcome) → good.lines ≡ t → good.rows ≡ rows → JudgeRefuses names.transcript t rows outcome → IsCalm outcome
   judged_well t rows NoMemory same rows_same ends = inr (inr refl)
-  judged_well t rows (Impossible name line) same rows_same (named, (k, number, first)) =
+  judged_well t rows (BadText name (of_text.Impossible line)) same rows_same (named, (k, number, first)) =
       absurd (all_possible t k (subst (λ (t : TranscriptView). IsPossible t.plan.groups (lines_in t)) same good.possible) first)
-  judged_well t rows (NotInTime name line) same rows_same (named, possible, late) = absurd (no_line_late t line (subst (λ (t : TranscriptView). IsSomeRun t.plan t.entries) same good.run) late)
+  judged_well t rows (BadText name (of_text.NotInTime line)) same rows_same (named, possible, late) = absurd (no_line_late t line (subst (λ (t : TranscriptView). IsSomeRun t.plan t.entries) same good.run) late)
   judged_well t rows (OtherRow at one other) same rows_same (run, ends) =
       absurd (no_difference t rows at one other (sym rows_same ∙ good.given ∙ ap rows_by_frames same) ends.first)
   judged_well t rows _ same rows_same ends = absurd ends
@@ -321,8 +322,8 @@ same_three names period place v good bytes read =
 text_of_plan : (names : HideNames) (period : Period) (place : PlaceWords) (v : View) (good : HideAccepts names period place v) (plan : PlanView) (outcome : Outcome)
     → plan ≡ good.values.file.plan → TextRefuses names.transcript plan good.bytes.transcript outcome → IsCalm outcome
 text_of_plan names period place v good plan NoMemory same ends = inr (inr refl)
-text_of_plan names period place v good plan (BadTranscript name fault) same ends = absurd (ok_or_err _ _ _ good.of_plan.text_of.read ends.1)
-text_of_plan names period place v good plan (OtherPlan name) same (named, (t, text, other)) =
+text_of_plan names period place v good plan (BadText name (of_text.Transcript fault)) same ends = absurd (ok_or_err _ _ _ good.of_plan.text_of.read ends.1)
+text_of_plan names period place v good plan (BadText name of_text.OtherPlan) same (named, (t, text, other)) =
     absurd (other (ap (λ t. t.plan) (ok_same _ _ _ text.read good.of_plan.text_of.read) ∙ good.of_plan.plan_is ∙ sym same))
 text_of_plan names period place v good plan _ same ends = absurd ends
 

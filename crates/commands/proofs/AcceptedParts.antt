@@ -5,7 +5,7 @@ use Rattle.group_plan.specs.Plans.{size}
 use Rattle.desk_outside.specs.Desk.{View, Step}
 use Rattle.meter_files.specs.Putting.{files_below}
 use Rattle.command_words.specs.declared.outcome.Outcome.{Outcome}
-use Rattle.command_words.specs.declared.outcome.Outcome.TheVariants.{Done, NoMemory, CannotWritePart, CannotPrint, BadPlan}
+use Rattle.command_words.specs.declared.outcome.Outcome.TheVariants.{Done, NoMemory, Unwritten, BadPlan}
 use Rattle.command_files.specs.Calls.{IsRead, after_fetches}
 use Rattle.file_commands.specs.PartsEnds.{FilesPut, PartsRefuses, PartsEnds}
 use Rattle.pair_keys.specs.declared.KeyError.TheVariants.{Range}
@@ -23,8 +23,7 @@ use Rattle.command_texts.specs.Lines.{parts_line}
 files_calm : (prefix : List ℕ) (names : List (List ℕ)) (files : List Step) (line : List ℕ) (v w : View) (outcome : Outcome) → FilesPut prefix names files line v w outcome → IsCalm outcome
 files_calm prefix names files line v w Done ends = inr (inl refl)
 files_calm prefix names files line v w NoMemory ends = inr (inr refl)
-files_calm prefix names files line v w (CannotWritePart before i file) ends = inl tt
-files_calm prefix names files line v w CannotPrint ends = inl tt
+files_calm prefix names files line v w (Unwritten unwritten) ends = inl tt
 files_calm prefix names files line v w _ ends = absurd ends
 
 -- an accepted plan has no fault

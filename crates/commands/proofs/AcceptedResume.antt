@@ -17,7 +17,8 @@ use Rattle.mask_stream.specs.KeyStreams.{streams}
 use Rattle.plan_files.specs.Readings.{readings_of}
 use Rattle.event_schedule.specs.Transcripts.{TranscriptView}
 use Rattle.command_words.specs.declared.outcome.Outcome.{Outcome}
-use Rattle.command_words.specs.declared.outcome.Outcome.TheVariants.{NoMemory, BadPlan, BadReadings, BadTranscript, BadLane, NotThisRun, OtherPlan}
+use Rattle.command_words.specs.declared.outcome.Outcome.TheVariants.{NoMemory, BadPlan, BadReadings, BadText, BadLane}
+use Rattle.command_words.specs.declared.text_fault.TextFault.TheVariants as of_text
 use Rattle.command_texts.specs.Runs.{Values, plan_in}
 use Rattle.command_texts.proofs.RunLemmas.{same_values}
 use Rattle.command_files.specs.Calls.{after_fetches, putting}
@@ -57,11 +58,11 @@ module _ (cupboard : List Meaning) (names : ResumeNames) (v : View) (good : Resu
   resume_not_refused (BadReadings name fault) (named, (file, slots, is, hung, bad)) =
       let same : good.values.file ≡ file = ok_same _ _ _ good.of_bytes.plan is in
       absurd (ok_or_err _ _ _ (ap (λ f. readings_of f.plan good.bytes.readings) (sym same) ∙ good.of_bytes.readings) bad)
-  resume_not_refused (BadTranscript name fault) (named, (values, bad)) = absurd (ok_or_err _ _ _ good.of_plan.read bad)
-  resume_not_refused (OtherPlan name) (named, (values, are, other)) =
+  resume_not_refused (BadText name (of_text.Transcript fault)) (named, (values, bad)) = absurd (ok_or_err _ _ _ good.of_plan.read bad)
+  resume_not_refused (BadText name of_text.OtherPlan) (named, (values, are, other)) =
       absurd (other.other (ap (λ (t : TranscriptView). t.plan) (ok_same _ _ _ other.read good.of_plan.read) ∙ good.of_plan.of_plan
       ∙ ap (λ (x : Values). plan_in x) (same_values cupboard good.bytes.plan good.bytes.readings good.values values good.of_bytes are)))
-  resume_not_refused (NotThisRun name line) (named, n) = absurd (never_off line n)
+  resume_not_refused (BadText name (of_text.NotThisRun line)) (named, n) = absurd (never_off line n)
   resume_not_refused _ ends = absurd ends
 
 pub resume_calm : (cupboard : List Meaning) (names : ResumeNames) (v w : View) (outcome : Outcome) → ResumeAccepts cupboard names v → ResumeCommandEnds cupboard names v w outcome → IsCalm outcome

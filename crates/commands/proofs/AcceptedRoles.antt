@@ -30,7 +30,9 @@ use Rattle.apart_roles.specs.HeadEndStarts.{HeadEndStarts, follow_logged}
 use Rattle.apart_roles.specs.MeterStarts.{IsMeter, MeterStarts, follow_noted}
 use Rattle.command_words.specs.Words.{CollectNames}
 use Rattle.command_words.specs.declared.outcome.Outcome.{Outcome}
-use Rattle.command_words.specs.declared.outcome.Outcome.TheVariants.{Done, NoMemory, CannotRead, CannotHear, CannotWrite, CannotPrint, BadPlan, BadJournalHead, BadJournalLine}
+use Rattle.command_words.specs.declared.outcome.Outcome.TheVariants.{Done, NoMemory, Unread, Unwritten, BadPlan, BadText}
+use Rattle.command_words.specs.declared.unread.Unread.TheVariants as of_unread
+use Rattle.command_words.specs.declared.text_fault.TextFault.TheVariants as of_text
 use Rattle.command_files.specs.Calls.{IsRead, putting}
 use Rattle.command_texts.specs.Inspecting.{PublicTextRefuses}
 use Rattle.apart_roles.specs.MeterRuns.{StopsInRun}
@@ -128,16 +130,15 @@ no_head follow is name head v w number good (inr opened) =
 
 stopped_calm : (journal : List ℕ) (stops : RoleError → Type 0) (outcome : Outcome) → Stopped journal stops outcome → IsCalm outcome
 stopped_calm journal stops NoMemory ends = inr (inr refl)
-stopped_calm journal stops CannotHear ends = inl tt
-stopped_calm journal stops (CannotWrite name) ends = inl tt
-stopped_calm journal stops CannotPrint ends = inl tt
+stopped_calm journal stops (Unread of_unread.Input) ends = inl tt
+stopped_calm journal stops (Unwritten unwritten) ends = inl tt
 stopped_calm journal stops _ ends = absurd ends
 
 not_started_calm : {R : Type 0} (journal : List ℕ) (gives : Result (Start R) RoleError → Type 0) (outcome : Outcome)
     → ((number : ℕ) → gives (Ok (starts.Head number)) → ⊥) → ((number : ℕ) → gives (Ok (starts.Line number)) → ⊥) → NotStarted journal gives outcome → IsCalm outcome
-not_started_calm journal gives (CannotRead name) head line ends = inl tt
-not_started_calm journal gives (BadJournalHead name number) head line ends = absurd (head number ends.1)
-not_started_calm journal gives (BadJournalLine name number) head line ends = absurd (line number ends.1)
+not_started_calm journal gives (Unread (of_unread.File name)) head line ends = inl tt
+not_started_calm journal gives (BadText name (of_text.JournalHead number)) head line ends = absurd (head number ends.1)
+not_started_calm journal gives (BadText name (of_text.JournalLine number)) head line ends = absurd (line number ends.1)
 not_started_calm journal gives outcome head line ends = stopped_calm journal (λ error. gives (Err error)) outcome ends
 
 -- ---- `collect`

@@ -19,7 +19,9 @@ use Rattle.twin_worlds.specs.declared.answers.TwinError.TheVariants as twin
 use Rattle.twin_worlds.specs.Twins.{TwinEnds, SameWorldEnds, PooledTwinEnds}
 use Rattle.twin_worlds.proofs.HonestLemmas.{honest-have-twins, honest-have-same-world, honest-have-pooled}
 use Rattle.ideal_masks.specs.declared.Differ.TheVariants.{Presence, Total}
-use Rattle.command_words.specs.declared.outcome.Outcome.TheVariants.{NoMemory, BadPlan, BadReadings, BadTranscript, OtherPlan, OtherLine, OtherPresence, OtherKnown, OtherTotal, OtherComponent}
+use Rattle.command_words.specs.declared.outcome.Outcome.TheVariants.{NoMemory, BadPlan, BadReadings, BadText, Disagree}
+use Rattle.command_words.specs.declared.text_fault.TextFault.TheVariants as of_text
+use Rattle.command_words.specs.declared.disagreement.Disagreement.TheVariants as of_disagreement
 use Rattle.twin_worlds.specs.MasksText.{masks_text}
 use Rattle.command_texts.specs.Lines.{moved_line, counted_line}
 use Rattle.event_schedule.specs.Transcripts.{TranscriptView}
@@ -134,11 +136,11 @@ twin_not_refused names v good NoMemory ends = inr (inr refl)
 twin_not_refused names v good (BadPlan name fault) ends = absurd (plan_not_refused good.bytes good.values good.of_bytes fault ends.1)
 twin_not_refused names v good (BadReadings name fault) (inl ends) = absurd (first_not_refused good.bytes good.values good.of_bytes fault ends.1)
 twin_not_refused names v good (BadReadings name fault) (inr ends) = absurd (second_not_refused good.bytes good.values good.of_bytes fault ends.1)
-twin_not_refused names v good (BadTranscript name fault) ends = absurd (none_compared names v good (twin.Transcript fault) ends.1 (λ is. cc))
-twin_not_refused names v good (OtherPlan name) ends = absurd (none_compared names v good twin.Head ends.1 (λ is. cc))
-twin_not_refused names v good (OtherLine name line expected) (named, (found, ends)) = absurd (none_compared names v good (twin.NotThis line expected.line found expected.tick expected.fate) ends (λ is. cc))
-twin_not_refused names v good (OtherPresence group round meter) ends = absurd (none_compared names v good (twin.Differ (Presence group round meter)) ends (λ is. cc))
-twin_not_refused names v good (OtherTotal group round first second) ends = absurd (none_compared names v good (twin.Differ (Total group round first second)) ends (λ is. cc))
+twin_not_refused names v good (BadText name (of_text.Transcript fault)) ends = absurd (none_compared names v good (twin.Transcript fault) ends.1 (λ is. cc))
+twin_not_refused names v good (BadText name of_text.OtherPlan) ends = absurd (none_compared names v good twin.Head ends.1 (λ is. cc))
+twin_not_refused names v good (BadText name (of_text.OtherLine line expected)) (named, (found, ends)) = absurd (none_compared names v good (twin.NotThis line expected.line found expected.tick expected.fate) ends (λ is. cc))
+twin_not_refused names v good (Disagree (of_disagreement.Presence group round meter)) ends = absurd (none_compared names v good (twin.Differ (Presence group round meter)) ends (λ is. cc))
+twin_not_refused names v good (Disagree (of_disagreement.Total group round first second)) ends = absurd (none_compared names v good (twin.Differ (Total group round first second)) ends (λ is. cc))
 twin_not_refused names v good _ ends = absurd ends
 
 pub twin_calm : (names : TwinNames) (v w : View) (outcome : Outcome) → TwinAccepts names v → TwinCommandEnds names v w outcome → IsCalm outcome
@@ -200,12 +202,12 @@ module _ (w : ℕ) (names : TwinNames) (v : View) (good : RingTwinAccepts w name
   ring_twin_not_refused (BadPlan name fault) ends = absurd (plan_not_refused good.bytes good.values good.of_bytes fault ends.1)
   ring_twin_not_refused (BadReadings name fault) (inl ends) = absurd (first_not_refused good.bytes good.values good.of_bytes fault ends.1)
   ring_twin_not_refused (BadReadings name fault) (inr ends) = absurd (second_not_refused good.bytes good.values good.of_bytes fault ends.1)
-  ring_twin_not_refused (BadTranscript name fault) ends = absurd (ring_recorded (twin.Transcript fault) ends.1 (λ is. cc))
-  ring_twin_not_refused (OtherPlan name) ends = absurd (ring_recorded twin.Head ends.1 (λ is. cc))
-  ring_twin_not_refused (OtherLine name line expected) (named, (found, ends)) =
+  ring_twin_not_refused (BadText name (of_text.Transcript fault)) ends = absurd (ring_recorded (twin.Transcript fault) ends.1 (λ is. cc))
+  ring_twin_not_refused (BadText name of_text.OtherPlan) ends = absurd (ring_recorded twin.Head ends.1 (λ is. cc))
+  ring_twin_not_refused (BadText name (of_text.OtherLine line expected)) (named, (found, ends)) =
       absurd (ring_recorded (twin.NotThis line expected.line found expected.tick expected.fate) ends (λ is. cc))
-  ring_twin_not_refused (OtherPresence group round meter) ends = absurd (ring_agreed (ring.Presence group round meter) ends)
-  ring_twin_not_refused (OtherComponent group round least first second) ends = absurd (ring_agreed (ring.Component group round least first second) ends)
+  ring_twin_not_refused (Disagree (of_disagreement.Presence group round meter)) ends = absurd (ring_agreed (ring.Presence group round meter) ends)
+  ring_twin_not_refused (Disagree (of_disagreement.Component group round least first second)) ends = absurd (ring_agreed (ring.Component group round least first second) ends)
   ring_twin_not_refused _ ends = absurd ends
 
 pub ring_twin_calm : (w : ℕ) (names : TwinNames) (v u : View) (outcome : Outcome) → RingTwinAccepts w names v → RingTwinEnds w names v u outcome → IsCalm outcome
@@ -264,12 +266,12 @@ pooled_not_refused known names v good (BadPlan name fault) ends = absurd (not_ou
 pooled_not_refused known names v good (BadReadings name fault) (inl (named, (file, plan, within, bad))) = absurd (first_not_refused good.bytes good.values good.of_bytes fault (file, plan, bad))
 pooled_not_refused known names v good (BadReadings name fault) (inr (named, (file, first, plan, within, is, bad))) =
     absurd (second_not_refused good.bytes good.values good.of_bytes fault (file, first, plan, is, bad))
-pooled_not_refused known names v good (BadTranscript name fault) ends = absurd (none_pooled known names v good (pool_twin.Other (twin.Transcript fault)) ends.1 (λ is. cc))
-pooled_not_refused known names v good (OtherPlan name) ends = absurd (none_pooled known names v good (pool_twin.Other twin.Head) ends.1 (λ is. cc))
-pooled_not_refused known names v good (OtherLine name line expected) (named, (found, ends)) = absurd (none_pooled known names v good (pool_twin.Other (twin.NotThis line expected.line found expected.tick expected.fate)) ends (λ is. cc))
-pooled_not_refused known names v good (OtherPresence group round meter) ends = absurd (none_pooled known names v good (pool_twin.Other (twin.Differ (Presence group round meter))) ends (λ is. cc))
-pooled_not_refused known names v good (OtherKnown group round meter) ends = absurd (none_pooled known names v good (pool_twin.Known group round meter) ends (λ is. cc))
-pooled_not_refused known names v good (OtherTotal group round first second) ends = absurd (none_pooled known names v good (pool_twin.Other (twin.Differ (Total group round first second))) ends (λ is. cc))
+pooled_not_refused known names v good (BadText name (of_text.Transcript fault)) ends = absurd (none_pooled known names v good (pool_twin.Other (twin.Transcript fault)) ends.1 (λ is. cc))
+pooled_not_refused known names v good (BadText name of_text.OtherPlan) ends = absurd (none_pooled known names v good (pool_twin.Other twin.Head) ends.1 (λ is. cc))
+pooled_not_refused known names v good (BadText name (of_text.OtherLine line expected)) (named, (found, ends)) = absurd (none_pooled known names v good (pool_twin.Other (twin.NotThis line expected.line found expected.tick expected.fate)) ends (λ is. cc))
+pooled_not_refused known names v good (Disagree (of_disagreement.Presence group round meter)) ends = absurd (none_pooled known names v good (pool_twin.Other (twin.Differ (Presence group round meter))) ends (λ is. cc))
+pooled_not_refused known names v good (Disagree (of_disagreement.Known group round meter)) ends = absurd (none_pooled known names v good (pool_twin.Known group round meter) ends (λ is. cc))
+pooled_not_refused known names v good (Disagree (of_disagreement.Total group round first second)) ends = absurd (none_pooled known names v good (pool_twin.Other (twin.Differ (Total group round first second))) ends (λ is. cc))
 pooled_not_refused known names v good _ ends = absurd ends
 
 pub pooled_calm : (known : List KnownMeter) (names : TwinNames) (v w : View) (outcome : Outcome) → PooledAccepts known names v → PooledCommandEnds known names v w outcome → IsCalm outcome

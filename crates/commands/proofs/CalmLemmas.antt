@@ -7,7 +7,9 @@ use Rattle.commands.specs.Accepted.{HoldsFile}
 use Rattle.command_words.specs.Limits.{most_bytes}
 use Rattle.command_words.specs.declared.outcome.Outcome.{Outcome}
 use Rattle.command_words.specs.Outcomes.{status_of, IsFault}
-use Rattle.command_words.specs.declared.outcome.Outcome.TheVariants.{Done, NoMemory, CannotRead, TooLong, CannotWrite, CannotWritePart, CannotPrint}
+use Rattle.command_words.specs.declared.outcome.Outcome.TheVariants.{Done, NoMemory, Unwritten}
+use Rattle.command_words.specs.declared.outcome.Outcome.TheVariants as outcomes
+use Rattle.command_words.specs.declared.unread.Unread.TheVariants as of_unread
 use Rattle.command_files.proofs.CallLemmas.{unwritable_puts}
 
 -- ---- what was read
@@ -44,9 +46,7 @@ IsCalm outcome = IsFault outcome ⊎ ((status_of outcome ≡ 0) ⊎ (status_of o
 pub puts_calm : (files : List Putting) (line : List ℕ) (v w : View) (outcome : Outcome) → PutsEnd files line v w outcome → IsCalm outcome
 puts_calm files line v w Done ends = inr (inl refl)
 puts_calm files line v w NoMemory ends = inr (inr refl)
-puts_calm files line v w (CannotWrite name) ends = inl tt
-puts_calm files line v w (CannotWritePart prefix meter file) ends = inl tt
-puts_calm files line v w CannotPrint ends = inl tt
+puts_calm files line v w (Unwritten unwritten) ends = inl tt
 puts_calm files line v w _ ends = absurd ends
 
 -- a name that can't be written
@@ -57,8 +57,8 @@ unwritable_calm files v w outcome ends = puts_calm files [] v w outcome (unwrita
 pub unread_calm : (names : List (List ℕ)) (v w : View) (outcome : Outcome)
     → ((last : List ℕ) → EndsAtFetch names false v w last → IsLonger (v.held last) most_bytes → ⊥) → Unread names v w outcome → IsCalm outcome
 unread_calm names v w NoMemory short ends = inr (inr refl)
-unread_calm names v w (CannotRead name) short ends = inl tt
-unread_calm names v w (TooLong name) short ends = absurd (short name.now ends.0 ends.1)
+unread_calm names v w (outcomes.Unread (of_unread.TooLong name)) short ends = absurd (short name.now ends.0 ends.1)
+unread_calm names v w (outcomes.Unread unread) short ends = inl tt
 unread_calm names v w _ short ends = absurd ends
 
 pub one_is_short : (v w : View) (name told : List ℕ) → HoldsFile v name told → (last : List ℕ) → EndsAtFetch (name ∷ []) false v w last → IsLonger (v.held last) most_bytes → ⊥

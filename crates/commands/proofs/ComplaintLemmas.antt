@@ -1,7 +1,8 @@
 -- Each outcome of a command has a complaint.
-use Rattle.std.proofs.Common.{refl, ◌≡◌, ℕ, List, inl, inr, subst, sym}
+use Rattle.std.proofs.Common.{ℕ, List, inl, inr, subst, sym}
 use Rattle.command_words.specs.declared.outcome.Outcome.{Outcome}
-use Rattle.command_words.specs.declared.outcome.Outcome.TheVariants.{OtherLine}
+use Rattle.command_words.specs.declared.outcome.Outcome.TheVariants.{BadText}
+use Rattle.command_words.specs.declared.text_fault.TextFault.TheVariants as of_text
 use Rattle.command_words.specs.Outcomes.{HasComplaint}
 use Rattle.std.specs.Prelude.{None, Some, Option}
 use Rattle.link_lanes.specs.Lanes.{Meaning}
@@ -10,13 +11,9 @@ use Rattle.commands.specs.Ends.{Ends}
 use Rattle.commands.specs.Outside.{OutsideView}
 use Rattle.commands.proofs.RoleEndings.{collect_of_role, meter_of_role}
 
--- an outcome that is no line of a transcript that should be another has one
-either : (outcome : Outcome) → ((name : _) (line : ℕ) (expected : _) → outcome ≡ OtherLine name line expected → HasComplaint outcome) → HasComplaint outcome
-either (OtherLine name line expected) other = other name line expected refl
-either _ other = tt
-
-of_line : (cupboard : List Meaning) (command : Command) (o p : OutsideView) (name : _) (line : ℕ) (expected : _) → Ends cupboard (Some command) o p (OtherLine name line expected)
-    → HasComplaint (OtherLine name line expected)
+-- an expected line has a text
+of_line : (cupboard : List Meaning) (command : Command) (o p : OutsideView) (name : _) (line : ℕ) (expected : _) → Ends cupboard (Some command) o p (BadText name (of_text.OtherLine line expected))
+    → HasComplaint (BadText name (of_text.OtherLine line expected))
 of_line cupboard (Run names workers) o p name line expected (inl unread, kept) = absurd unread
 of_line cupboard (Run names workers) o q name line expected (inr (p, r, p_read, r_read, inl refused), kept) = absurd refused.0
 of_line cupboard (Run names workers) o q name line expected (inr (p, r, p_read, r_read, inr (inl (values, ends))), kept) = absurd ends
@@ -59,8 +56,8 @@ of_line cupboard (Public plan public) o p name line expected (inr (bytes, read, 
 of_line cupboard (Parts plan g prefix) o p name line expected (inl unread, kept) = absurd unread
 of_line cupboard (Parts plan g prefix) o p name line expected (inr (bytes, read, inl refused), kept) = absurd refused.0
 of_line cupboard (Parts plan g prefix) o p name line expected (inr (bytes, read, inr (file, value, inside, ends)), kept) = absurd ends
-of_line cupboard (Collect names) o p name line expected ends = absurd (collect_of_role names o.desk p.desk o.wire p.wire (OtherLine name line expected) ends)
-of_line cupboard (Meter meter journal) o p name line expected ends = absurd (meter_of_role meter journal o.desk p.desk o.wire p.wire (OtherLine name line expected) ends)
+of_line cupboard (Collect names) o p name line expected ends = absurd (collect_of_role names o.desk p.desk o.wire p.wire (BadText name (of_text.OtherLine line expected)) ends)
+of_line cupboard (Meter meter journal) o p name line expected ends = absurd (meter_of_role meter journal o.desk p.desk o.wire p.wire (BadText name (of_text.OtherLine line expected)) ends)
 of_line cupboard (Inspect names) o p name line expected (inl unread, kept) = absurd unread
 of_line cupboard (Inspect names) o p name line expected (inr (bytes, read, inl (inl public, after)), kept) = absurd public
 of_line cupboard (Inspect names) o p name line expected (inr (bytes, read, inl (inr (inl (plan, is, refused)), after)), kept) = absurd refused
@@ -78,9 +75,8 @@ of_line cupboard Help o p name line expected (ends, kept) = absurd ends
 of_line cupboard Version o p name line expected (ends, kept) = absurd ends
 
 by_command : (cupboard : List Meaning) (command : Command) (o p : OutsideView) (outcome : Outcome) → Ends cupboard (Some command) o p outcome → HasComplaint outcome
-by_command cupboard command o p outcome ends =
-    either outcome (λ name line expected is.
-    subst HasComplaint (sym is) (of_line cupboard command o p name line expected (subst (λ outcome. Ends cupboard (Some command) o p outcome) is ends)))
+by_command cupboard command o p (BadText name (of_text.OtherLine line expected)) ends = of_line cupboard command o p name line expected ends
+by_command cupboard command o p _ ends = tt
 
 pub has_complaint : (cupboard : List Meaning) (asked : Option Command) (o p : OutsideView) (outcome : Outcome) → Ends cupboard asked o p outcome → HasComplaint outcome
 has_complaint cupboard None o p outcome (is, after) = subst HasComplaint (sym is) tt

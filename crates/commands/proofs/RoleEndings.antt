@@ -22,7 +22,9 @@ use Rattle.apart_roles.specs.HeadEndStarts.{HeadEndStarts}
 use Rattle.apart_roles.specs.MeterStarts.{IsMeter, MeterStarts}
 use Rattle.command_words.specs.Words.{CollectNames}
 use Rattle.command_words.specs.declared.outcome.Outcome.{Outcome}
-use Rattle.command_words.specs.declared.outcome.Outcome.TheVariants.{Done, NoMemory, CannotRead, CannotHear, TooLong, CannotWrite, CannotPrint, BadPlan, BadJournalHead, BadJournalLine}
+use Rattle.command_words.specs.declared.outcome.Outcome.TheVariants.{Done, NoMemory, Unwritten, BadPlan, BadText}
+use Rattle.command_words.specs.declared.outcome.Outcome.TheVariants as outcomes
+use Rattle.command_words.specs.declared.text_fault.TextFault.TheVariants as of_text
 use Rattle.command_files.specs.Calls.{Unread, Unwritable}
 use Rattle.command_texts.specs.Inspecting.{PublicTextRefuses}
 use Rattle.apart_roles.specs.MeterRuns.{StopsInRun}
@@ -56,38 +58,33 @@ meter_somewhere keys name v w meter starts = opened _ _ name _ v starts.view met
 abbrev pub IsOfRole : Outcome → Type 0
 IsOfRole Done = ⊤
 IsOfRole NoMemory = ⊤
-IsOfRole (CannotRead name) = ⊤
-IsOfRole CannotHear = ⊤
-IsOfRole (TooLong name) = ⊤
-IsOfRole (CannotWrite name) = ⊤
-IsOfRole CannotPrint = ⊤
+IsOfRole (outcomes.Unread unread) = ⊤
+IsOfRole (Unwritten unwritten) = ⊤
 IsOfRole (BadPlan name fault) = ⊤
-IsOfRole (BadJournalHead name line) = ⊤
-IsOfRole (BadJournalLine name line) = ⊤
+IsOfRole (BadText name (of_text.JournalHead line)) = ⊤
+IsOfRole (BadText name (of_text.JournalLine line)) = ⊤
 IsOfRole _ = ⊥
 
 unread_by_role : (names : List (List ℕ)) (v w : View) (outcome : Outcome) → Unread names v w outcome → IsOfRole outcome
 unread_by_role names v w NoMemory ends = tt
-unread_by_role names v w (CannotRead name) ends = tt
-unread_by_role names v w (TooLong name) ends = tt
+unread_by_role names v w (outcomes.Unread unread) ends = tt
 unread_by_role names v w _ ends = absurd ends
 
 stopped_by_role : (journal : List ℕ) (stops : RoleError → Type 0) (outcome : Outcome) → Stopped journal stops outcome → IsOfRole outcome
 stopped_by_role journal stops NoMemory ends = tt
-stopped_by_role journal stops CannotHear ends = tt
-stopped_by_role journal stops (CannotWrite name) ends = tt
-stopped_by_role journal stops CannotPrint ends = tt
+stopped_by_role journal stops (outcomes.Unread unread) ends = tt
+stopped_by_role journal stops (Unwritten unwritten) ends = tt
 stopped_by_role journal stops _ ends = absurd ends
 
 not_started_by_role : {R : Type 0} (journal : List ℕ) (gives : Result (Start R) RoleError → Type 0) (outcome : Outcome) → NotStarted journal gives outcome → IsOfRole outcome
-not_started_by_role journal gives (CannotRead name) ends = tt
-not_started_by_role journal gives (BadJournalHead name line) ends = tt
-not_started_by_role journal gives (BadJournalLine name line) ends = tt
+not_started_by_role journal gives (outcomes.Unread unread) ends = tt
+not_started_by_role journal gives (BadText name (of_text.JournalHead line)) ends = tt
+not_started_by_role journal gives (BadText name (of_text.JournalLine line)) ends = tt
 not_started_by_role journal gives outcome ends = stopped_by_role journal (λ error. gives (Err error)) outcome ends
 
 unwritable_by_role : (names : List (List ℕ)) (v w : View) (outcome : Outcome) → Unwritable names v w outcome → IsOfRole outcome
 unwritable_by_role names v w NoMemory ends = tt
-unwritable_by_role names v w (CannotWrite name) ends = tt
+unwritable_by_role names v w (Unwritten unwritten) ends = tt
 unwritable_by_role names v w _ ends = absurd ends
 
 last_of_role : (plan : PlanView) (names : CollectNames) (a : Place) (w : View) (y : WireView) (outcome : Outcome) → LastTurn plan names a w y outcome → IsOfRole outcome

@@ -4,7 +4,7 @@ ghost use Rattle.std.specs.Prelude.{None, ◌≤◌, map, string_bytes, ◌≡�
 ghost use Rattle.commands.specs.Outside.{FaultsRose, with_wire};
 ghost use Rattle.command_words.specs.Words.{command_of};
 ghost use Rattle.commands.specs.Ends.{Ends};
-ghost use Rattle.command_words.specs.Outcomes.{IsFault, HasComplaint, status_of};
+ghost use Rattle.command_words.specs.Outcomes.{IsFault, HasComplaint};
 ghost use Rattle.commands.specs.Promise.{Tells, EndsAndTells};
 ghost use Rattle.commands.specs.Accepted.{AcceptedIsDone};
 ghost use Rattle.command_texts.specs.Audits.{RunsAreConfirmed, RunsAreShort};
@@ -14,7 +14,7 @@ ghost use Rattle.command_texts.specs.Inspecting.{RunsAreInspected};
 use crate::outside::Outside;
 use collector_workers::Gate;
 use command_files::say;
-use command_words::{Command, Outcome, USAGE, VERSION, complaint, parse};
+use command_words::{Command, Outcome, USAGE, VERSION, complaint, parse, status};
 use desk_outside::{Desk, Wire};
 use file_commands::{audit, bill, convert, hide, inspect, parts, pooled, public, ring_twin, twin};
 use link_lanes::Lane;
@@ -76,36 +76,6 @@ fn tell<D: Desk>(alloc: Global, outcome: &Outcome<'_>, desk: &mut D)
         return;
     };
     let _ = desk.complain(&text);
-}
-
-fn status(outcome: &Outcome<'_>) -> u8
-    ensures { result ≡ status_of outcome.now }
-{
-    match outcome {
-        Outcome::Done => 0,
-        Outcome::NoMemory => 1,
-        Outcome::BadWords => 2,
-        Outcome::CannotRead(_) | Outcome::CannotHear | Outcome::TooLong(_) => 3,
-        Outcome::CannotWrite(_) | Outcome::CannotWritePart { .. } | Outcome::CannotPrint => 4,
-        Outcome::BadPlan(_, _) => 5,
-        Outcome::BadReadings(_, _) => 6,
-        Outcome::BadTranscript(_, _)
-        | Outcome::BadReport(_, _)
-        | Outcome::BadJournalHead(_, _)
-        | Outcome::BadJournalLine(_, _)
-        | Outcome::Impossible(_, _)
-        | Outcome::NotInTime(_, _)
-        | Outcome::NotThisRun(_, _)
-        | Outcome::OtherPlan(_)
-        | Outcome::OtherLine { .. } => 7,
-        Outcome::OtherPresence { .. }
-        | Outcome::OtherKnown { .. }
-        | Outcome::OtherTotal { .. }
-        | Outcome::OtherComponent { .. } => 8,
-        Outcome::OtherRow { .. } => 9,
-        Outcome::BadLane(_) => 10,
-        Outcome::NoPartner { .. } => 11,
-    }
 }
 
 /// Does what the words ask for outside, with the lanes of the cupboard, complains where that fails, and answers the

@@ -8,7 +8,8 @@ use Rattle.desk_outside.specs.Desk.{View, Step, after_steps}
 use Rattle.meter_files.specs.Putting.{PutsSome, IsFree}
 use Rattle.std.specs.List.{All}
 use Rattle.command_words.specs.declared.outcome.Outcome.{Outcome}
-use Rattle.command_words.specs.declared.outcome.Outcome.TheVariants.{Done, NoMemory, CannotWrite, CannotPrint, BadPlan}
+use Rattle.command_words.specs.declared.outcome.Outcome.TheVariants.{Done, NoMemory, Unwritten, BadPlan}
+use Rattle.command_words.specs.declared.unwritten.Unwritten.TheVariants as of_unwritten
 use Rattle.command_files.specs.Calls.{PutsEnd, IsRead, after_fetches}
 use Rattle.file_commands.specs.PartsEnds.{FilesPut, PartsRefuses, PartsEnds, PartsPut}
 use Rattle.command_texts.specs.Refusals.{PublicRefuses}
@@ -30,8 +31,8 @@ said_by : (prefix : List ℕ) (names : List (List ℕ)) (files : List Step) (lin
     → FilesPut prefix names files line v w outcome
 said_by prefix names files line v w Done free ends = (free, ends)
 said_by prefix names files line v w NoMemory free ends = record { front = files; rest = []; split = sym (append-nil files); left = ends }
-said_by prefix names files line v w (CannotWrite name) free ends = elim ends [ inl h ↦ absurd h | inr h ↦ absurd h.0 ]
-said_by prefix names files line v w CannotPrint free ends = (free, ends)
+said_by prefix names files line v w (Unwritten (of_unwritten.File name)) free ends = elim ends [ inl h ↦ absurd h | inr h ↦ absurd h.0 ]
+said_by prefix names files line v w (Unwritten of_unwritten.Output) free ends = (free, ends)
 said_by prefix names files line v w _ free ends = absurd ends
 
 -- the line is said behind files that are put

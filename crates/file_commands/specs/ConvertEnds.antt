@@ -3,7 +3,8 @@ use Rattle.std.specs.Prelude.{ℕ, List, [], ◌∷◌, ◌≡◌, Err, ⊤, ◌
 use Rattle.command_files.specs.Calls.{putting, PutsEnd, IsRead, after_fetches, Unread}
 use Rattle.desk_outside.specs.Desk.{View}
 use Rattle.command_words.specs.declared.outcome.Outcome.{Outcome}
-use Rattle.command_words.specs.declared.outcome.Outcome.TheVariants.{NoMemory, BadTranscript}
+use Rattle.command_words.specs.declared.outcome.Outcome.TheVariants.{NoMemory, BadText}
+use Rattle.command_words.specs.declared.text_fault.TextFault.TheVariants as of_text
 use Rattle.command_texts.specs.Lines.{converted_line}
 use Rattle.transcript_text.specs.declared.version.Version.TheVariants.{One}
 use Rattle.event_schedule.specs.Transcripts.{TranscriptView}
@@ -19,7 +20,7 @@ TranscriptPut transcript bytes v w outcome =
 
 -- the text of OLD is refused; want of memory is free
 abbrev pub ConvertRefuses : (old bytes : List ℕ) → Outcome → Type 0
-ConvertRefuses old bytes (BadTranscript name fault) = (name.now ≡ old) × (read_of One bytes ≡ Err fault)
+ConvertRefuses old bytes (BadText name (of_text.Transcript fault)) = (name.now ≡ old) × (read_of One bytes ≡ Err fault)
 ConvertRefuses old bytes NoMemory = ⊤
 ConvertRefuses old bytes _ = ⊥
 

@@ -5,7 +5,8 @@ use Rattle.plan_files.specs.Faults.{in_row}
 use Rattle.plan_files.specs.PlanFiles.{PlanFileView, plan_of}
 use Rattle.plan_files.specs.declared.fault.FileCause.TheVariants.{Key}
 use Rattle.command_words.specs.declared.outcome.Outcome.{Outcome}
-use Rattle.command_words.specs.declared.outcome.Outcome.TheVariants.{NoMemory, BadPlan, Done, CannotWritePart, CannotPrint}
+use Rattle.command_words.specs.declared.outcome.Outcome.TheVariants.{Done, NoMemory, Unwritten, BadPlan}
+use Rattle.command_words.specs.declared.unwritten.Unwritten.TheVariants as of_unwritten
 use Rattle.std.specs.List.{All}
 use Rattle.desk_outside.specs.Desk.{View, Step, IsPrefixOf, Said, after_step, after_steps}
 use Rattle.meter_files.specs.Names.{part_name, names_below}
@@ -28,9 +29,9 @@ PartsRefuses plan g bytes _ = ⊥
 abbrev pub FilesPut : (prefix : List ℕ) (names : List (List ℕ)) (files : List Step) (line : List ℕ) → View → View → Outcome → Type 0
 FilesPut prefix names files line v w Done = All (IsFree v) names × (w ≡ after_step (after_steps v files) (Said line false))
 FilesPut prefix names files line v w NoMemory = PutsSome files v w
-FilesPut prefix names files line v w (CannotWritePart before i file) =
+FilesPut prefix names files line v w (Unwritten (of_unwritten.Part before i file)) =
     (before.now ≡ prefix) × (StopsAtName names v w (part_name prefix i file) ⊎ (All (IsFree v) names × StopsAtFile files v w (part_name prefix i file)))
-FilesPut prefix names files line v w CannotPrint =
+FilesPut prefix names files line v w (Unwritten of_unwritten.Output) =
     All (IsFree v) names × ((front : List ℕ) × IsPrefixOf front line × (w ≡ after_step (after_steps v files) (Said front true)))
 FilesPut prefix names files line v w _ = ⊥
 

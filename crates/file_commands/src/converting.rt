@@ -7,7 +7,7 @@ ghost use Rattle.command_words.specs.Outcomes.{IsFault};
 
 use command_files::{NewFile, Source, fetch, put_one};
 use command_texts::converted_line;
-use command_words::{ConvertFiles, Outcome};
+use command_words::{ConvertFiles, Outcome, TextFault};
 use desk_outside::{Desk, Readers};
 use std::alloc::Global;
 use std::thread::Threads;
@@ -28,7 +28,7 @@ pub fn convert<'a, R: Threads + Sync, D: Desk>(
     let transcript = match read_old(rt, alloc, &bytes) {
         Ok(transcript) => transcript,
         Err(ReadError::Memory) => return Outcome::NoMemory,
-        Err(fault) => return Outcome::BadTranscript(files.old, fault),
+        Err(fault) => return Outcome::BadText(files.old, TextFault::Transcript(fault)),
     };
     let Ok(line) = converted_line(alloc, transcript.len()) else {
         return Outcome::NoMemory;

@@ -8,7 +8,7 @@ ghost use Rattle.file_commands.specs.PartsEnds.{PartsPut, PartsEnds};
 
 use command_files::{fetch, say};
 use command_texts::{parts_line, plan_in};
-use command_words::{Outcome, PartsWords};
+use command_words::{Outcome, PartsWords, Unwritten};
 use desk_outside::Desk;
 use group_plan::Plan;
 use meter_files::{PartFailure, put_parts};
@@ -49,11 +49,11 @@ fn put_and_say<'a, D: Desk>(
     match put_parts(alloc, keys, group, prefix, desk) {
         Ok(()) => say(line.as_bytes(), desk),
         Err(PartFailure::Memory) => Outcome::NoMemory,
-        Err(PartFailure::Unwritable { meter, file }) => Outcome::CannotWritePart {
+        Err(PartFailure::Unwritable { meter, file }) => Outcome::Unwritten(Unwritten::Part {
             prefix,
             meter,
             file,
-        },
+        }),
     }
 }
 

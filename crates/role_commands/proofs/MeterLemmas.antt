@@ -10,7 +10,7 @@ use Rattle.apart_roles.specs.MeterRuns.{StopsInRun}
 use Rattle.apart_roles.specs.MeterTurns.{HasJournal}
 use Rattle.command_words.specs.Outcomes.{IsFault}
 use Rattle.command_words.specs.declared.outcome.Outcome.{Outcome}
-use Rattle.command_words.specs.declared.outcome.Outcome.TheVariants.{NoMemory, CannotHear, CannotWrite, CannotPrint}
+use Rattle.command_words.specs.declared.outcome.Outcome.TheVariants.{NoMemory, Unread, Unwritten}
 use Rattle.role_commands.specs.MeterEnds.{RunEnds}
 use Rattle.role_commands.specs.Told.{Stopped}
 use Rattle.role_commands.proofs.FaultLemmas.{FaultsBy, from_same, meter_run_fault}
@@ -19,9 +19,8 @@ use Rattle.role_commands.proofs.ToldLemmas.{TellsOf, told_rose}
 -- a run that stops is told, and that is how it ends
 pub run_stopped : (role : MeterApart) (lines : List Noted) (journal : List ℕ) (v w : WireView) (outcome : Outcome) → Stopped journal (λ error. StopsInRun role lines error v w) outcome → RunEnds role lines journal v w outcome
 run_stopped role lines journal v w NoMemory stopped = stopped
-run_stopped role lines journal v w CannotHear stopped = stopped
-run_stopped role lines journal v w (CannotWrite name) stopped = stopped
-run_stopped role lines journal v w CannotPrint stopped = stopped
+run_stopped role lines journal v w (Unread unread) stopped = stopped
+run_stopped role lines journal v w (Unwritten unwritten) stopped = stopped
 run_stopped role lines journal v w _ stopped = absurd stopped
 
 -- the faults that a run which stopped has raised since before the start

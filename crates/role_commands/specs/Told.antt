@@ -5,19 +5,22 @@ use Rattle.apart_roles.specs.declared.outcome.RoleError.TheVariants.{Input, Jour
 use Rattle.apart_roles.specs.declared.outcome.Start.{Start}
 use Rattle.apart_roles.specs.declared.outcome.Start.TheVariants as starts
 use Rattle.command_words.specs.declared.outcome.Outcome.{Outcome}
-use Rattle.command_words.specs.declared.outcome.Outcome.TheVariants.{NoMemory, CannotHear, CannotRead, CannotWrite, CannotPrint, BadJournalHead, BadJournalLine}
+use Rattle.command_words.specs.declared.outcome.Outcome.TheVariants.{NoMemory, Unread, Unwritten, BadText}
+use Rattle.command_words.specs.declared.unread.Unread.TheVariants as of_unread
+use Rattle.command_words.specs.declared.unwritten.Unwritten.TheVariants as of_unwritten
+use Rattle.command_words.specs.declared.text_fault.TextFault.TheVariants as of_text
 
 -- the role stopped for a cause of which this holds, and the command tells it
 abbrev pub Stopped : (journal : List ℕ) → (RoleError → Type 0) → Outcome → Type 0
 Stopped journal stops NoMemory = stops Memory
-Stopped journal stops CannotHear = stops Input
-Stopped journal stops (CannotWrite name) = (name.now ≡ journal) × stops Journal
-Stopped journal stops CannotPrint = stops Output
+Stopped journal stops (Unread of_unread.Input) = stops Input
+Stopped journal stops (Unwritten (of_unwritten.File name)) = (name.now ≡ journal) × stops Journal
+Stopped journal stops (Unwritten of_unwritten.Output) = stops Output
 Stopped journal stops _ = ⊥
 
 -- the start gave no role, and this holds of what it gave, which the command tells
 abbrev pub NotStarted : {R : Type 0} → (journal : List ℕ) → (Result (Start R) RoleError → Type 0) → Outcome → Type 0
-NotStarted journal gives (CannotRead name) = (name.now ≡ journal) × gives (Ok starts.Unreadable)
-NotStarted journal gives (BadJournalHead name line) = (name.now ≡ journal) × gives (Ok (starts.Head line))
-NotStarted journal gives (BadJournalLine name line) = (name.now ≡ journal) × gives (Ok (starts.Line line))
+NotStarted journal gives (Unread (of_unread.File name)) = (name.now ≡ journal) × gives (Ok starts.Unreadable)
+NotStarted journal gives (BadText name (of_text.JournalHead line)) = (name.now ≡ journal) × gives (Ok (starts.Head line))
+NotStarted journal gives (BadText name (of_text.JournalLine line)) = (name.now ≡ journal) × gives (Ok (starts.Line line))
 NotStarted journal gives outcome = Stopped journal (λ error. gives (Err error)) outcome

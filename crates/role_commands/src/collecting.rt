@@ -16,7 +16,7 @@ use crate::told::stopped;
 use apart_roles::{Pause, Start, run_head_end, start_head_end};
 use command_files::fetch;
 use command_texts::public_in;
-use command_words::{CollectFiles, Outcome};
+use command_words::{CollectFiles, Outcome, TextFault, Unread};
 use desk_outside::{Desk, Wire};
 use group_plan::Plan;
 use head_end::HeadEnd;
@@ -47,9 +47,9 @@ fn start<'a, W: Wire>(
 {
     match start_head_end(alloc, wire, journal, plan) {
         Ok(Start::Ready(head)) => Ok(head),
-        Ok(Start::Unreadable) => Err(Outcome::CannotRead(journal)),
-        Ok(Start::Head(line)) => Err(Outcome::BadJournalHead(journal, line)),
-        Ok(Start::Line(line)) => Err(Outcome::BadJournalLine(journal, line)),
+        Ok(Start::Unreadable) => Err(Outcome::Unread(Unread::File(journal))),
+        Ok(Start::Head(line)) => Err(Outcome::BadText(journal, TextFault::JournalHead(line))),
+        Ok(Start::Line(line)) => Err(Outcome::BadText(journal, TextFault::JournalLine(line))),
         Err(error) => Err(stopped(journal, error)),
     }
 }

@@ -13,7 +13,7 @@ ghost use Rattle.meter_files.specs.Whole.{IsWhole};
 use crate::told::stopped;
 use apart_roles::{Start, run_meter, start_meter};
 use command_files::fetch;
-use command_words::{MeterFiles, Outcome};
+use command_words::{MeterFiles, Outcome, TextFault, Unread};
 use desk_outside::{Desk, Wire};
 use meter_apart::{MeterApart, MeterKeys, Part};
 use meter_files::{MeterFile, read_meter};
@@ -83,9 +83,9 @@ fn start<'a, W: Wire>(
 {
     match start_meter(alloc, wire, journal, keys) {
         Ok(Start::Ready(meter)) => Ok(meter),
-        Ok(Start::Unreadable) => Err(Outcome::CannotRead(journal)),
-        Ok(Start::Head(line)) => Err(Outcome::BadJournalHead(journal, line)),
-        Ok(Start::Line(line)) => Err(Outcome::BadJournalLine(journal, line)),
+        Ok(Start::Unreadable) => Err(Outcome::Unread(Unread::File(journal))),
+        Ok(Start::Head(line)) => Err(Outcome::BadText(journal, TextFault::JournalHead(line))),
+        Ok(Start::Line(line)) => Err(Outcome::BadText(journal, TextFault::JournalLine(line))),
         Err(error) => Err(stopped(journal, error)),
     }
 }

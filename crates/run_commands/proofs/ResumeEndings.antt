@@ -8,7 +8,8 @@ use Rattle.command_texts.specs.ResumeRuns.{ResumeBytes, CutEnds, IsCutOf, Resume
 use Rattle.command_files.proofs.CallLemmas.{read_after}
 use Rattle.link_lanes.specs.Lanes.{Meaning}
 use Rattle.command_words.specs.declared.outcome.Outcome.{Outcome}
-use Rattle.command_words.specs.declared.outcome.Outcome.TheVariants.{NoMemory, BadPlan, BadReadings, BadLane, BadTranscript, OtherPlan, NotThisRun}
+use Rattle.command_words.specs.declared.outcome.Outcome.TheVariants.{NoMemory, BadPlan, BadReadings, BadText, BadLane}
+use Rattle.command_words.specs.declared.text_fault.TextFault.TheVariants as of_text
 use Rattle.command_texts.specs.Refusals.{FilesRefused}
 use Rattle.command_texts.specs.Runs.{AreValues, Values}
 use Rattle.std.specs.Borrow.{Bor}
@@ -45,8 +46,8 @@ files_refuse cupboard names bytes _ is = absurd is
 -- the cut is refused, where the files have values
 cut_refuses : (cupboard : List Meaning) (names : ResumeNames) (bytes : ResumeBytes) (v : Values) (outcome : Outcome) → AreValues cupboard bytes.plan bytes.readings v
     → CutEnds names.cut v.file.plan bytes.cut (Err outcome) → ResumeRefuses cupboard names bytes outcome
-cut_refuses cupboard names bytes v (BadTranscript name fault) are is = (is.0, ((v, are), is.1))
-cut_refuses cupboard names bytes v (OtherPlan name) are is = (is.0, (v, are, is.1))
+cut_refuses cupboard names bytes v (BadText name (of_text.Transcript fault)) are is = (is.0, ((v, are), is.1))
+cut_refuses cupboard names bytes v (BadText name of_text.OtherPlan) are is = (is.0, (v, are, is.1))
 cut_refuses cupboard names bytes v NoMemory are is = tt
 cut_refuses cupboard names bytes v _ are is = absurd is
 
@@ -76,10 +77,10 @@ module _ (cupboard : List Meaning) (names : ResumeNames) (v u w x : View) (plan 
 
   -- the cut is not on course
   pub off_course : (text : List ℕ) (values : Values) (t : TranscriptView) (name : Bor (List ℕ)) (line : ℕ) (why : ResumeError) → text ≡ cut → AreValues cupboard plan readings values → IsCutOf values.file.plan text t
-      → name.now ≡ names.cut → why ≡ IsOff line → ResumeTextsEnd values t (Err why) → ResumeCommandEnds cupboard names v x (NotThisRun name line)
+      → name.now ≡ names.cut → why ≡ IsOff line → ResumeTextsEnd values t (Err why) → ResumeCommandEnds cupboard names v x (BadText name (of_text.NotThisRun line))
   off_course text values t name line why text_is are of_plan named why_is ends =
       let off : ResumeTextsEnd values t (Err (IsOff line)) = subst (λ (e : ResumeError). ResumeTextsEnd values t (Err e)) why_is ends in
-      refuses (NotThisRun name line) (
+      refuses (BadText name (of_text.NotThisRun line)) (
         named,
         record {
           values = values;

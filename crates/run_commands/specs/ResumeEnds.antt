@@ -8,7 +8,8 @@ use Rattle.command_texts.specs.Runs.{Texts, IsOnly, RefusesLane, RefusesReadings
 use Rattle.link_lanes.specs.Lanes.{Meaning}
 use Rattle.command_words.specs.declared.outcome.Outcome.{Outcome}
 use Rattle.plan_files.specs.PlanFiles.{plan_of}
-use Rattle.command_words.specs.declared.outcome.Outcome.TheVariants.{NoMemory, BadPlan, BadReadings, BadTranscript, BadLane, NotThisRun, OtherPlan}
+use Rattle.command_words.specs.declared.outcome.Outcome.TheVariants.{NoMemory, BadPlan, BadReadings, BadText, BadLane}
+use Rattle.command_words.specs.declared.text_fault.TextFault.TheVariants as of_text
 
 -- they were read under these names
 pub record AreResumeBytes (names : ResumeNames) (v : View) (bytes : ResumeBytes) : Type 0 where
@@ -38,9 +39,9 @@ abbrev pub ResumeRefuses : List Meaning → ResumeNames → ResumeBytes → Outc
 ResumeRefuses cupboard names bytes (BadPlan name fault) = (name.now ≡ names.plan) × (plan_of bytes.plan ≡ Err fault)
 ResumeRefuses cupboard names bytes (BadLane fault) = RefusesLane cupboard bytes.plan fault
 ResumeRefuses cupboard names bytes (BadReadings name fault) = (name.now ≡ names.readings) × RefusesReadings cupboard bytes.plan bytes.readings fault
-ResumeRefuses cupboard names bytes (BadTranscript name fault) = (name.now ≡ names.cut) × RefusesCut cupboard bytes fault
-ResumeRefuses cupboard names bytes (OtherPlan name) = (name.now ≡ names.cut) × HasOtherPlan cupboard bytes
-ResumeRefuses cupboard names bytes (NotThisRun name line) = (name.now ≡ names.cut) × IsNotThisRun cupboard bytes line
+ResumeRefuses cupboard names bytes (BadText name (of_text.Transcript fault)) = (name.now ≡ names.cut) × RefusesCut cupboard bytes fault
+ResumeRefuses cupboard names bytes (BadText name of_text.OtherPlan) = (name.now ≡ names.cut) × HasOtherPlan cupboard bytes
+ResumeRefuses cupboard names bytes (BadText name (of_text.NotThisRun line)) = (name.now ≡ names.cut) × IsNotThisRun cupboard bytes line
 ResumeRefuses cupboard names bytes NoMemory = ⊤
 ResumeRefuses cupboard names bytes _ = ⊥
 

@@ -11,7 +11,7 @@ use command_files::{
     Ahead, PendingFile, Source, begin, commit_two, fetch, fetch_two, first_of_two,
 };
 use command_texts::{cut_in, read_run, resume_texts};
-use command_words::{Outcome, ResumeWords};
+use command_words::{Outcome, ResumeWords, TextFault};
 use cut_resume::{ResumeError, begun_bytes};
 use desk_outside::{BegunFile, Desk, Readers};
 use link_lanes::Lane;
@@ -60,7 +60,10 @@ pub fn resume<'a, R: Threads + Wait + Sync, D: Desk, G: Gate>(
     let texts = match resume_texts(&crew, input, &cut) {
         Ok(texts) => texts,
         Err(fault) => match fault {
-            ResumeError::NotThis(line) => return Outcome::NotThisRun(files.cut, line),
+            ResumeError::NotThis(line) => return Outcome::BadText(
+                files.cut,
+                TextFault::NotThisRun(line),
+            ),
             ResumeError::Memory => return Outcome::NoMemory,
         },
     };
