@@ -283,35 +283,29 @@ fn check_confirmed(
     Ok(())
 }
 
-// Audits the transcript and the report, with this end: its status, and what is then complained, or said where the status is 0.
+// Audits what a desk holds, with this end: its status, and what is then complained, or said where the status is 0.
 fn check_audit(
     rt: &(impl Threads + Wait + Abort + Sync),
     alloc: Global,
-    name: &str,
-    transcript: &str,
-    report: &str,
+    desk: &mut MemoryDesk,
     status: u8,
     text: &str,
+    name: &str,
 ) -> Result<(), Fail> {
-    let mut desk = desk_of(alloc, transcript, report, Vec::new(alloc))?;
     if status == 0 {
-        check_confirmed(rt, alloc, &mut desk, text, name)
-    } else {
-        check_refused(
-            rt,
-            alloc,
-            AUDIT,
-            &mut desk,
-            Refusal {
-                status,
-                complaint: text,
-            },
-            name,
-        )?;
-        check_said(rt, &desk, "", name);
-        Ok(())
+        return check_confirmed(rt, alloc, desk, text, name);
     }
+    let refusal = Refusal {
+        status,
+        complaint: text,
+    };
+    check_refused(rt, alloc, AUDIT, desk, refusal, name)?;
+    check_said(rt, desk, "", name);
+    Ok(())
 }
+
+// The most bytes of a piece in which a transcript comes: fewer than any line has, more than some, and all.
+const PIECES: [usize; 3] = [5, 90, usize::MAX];
 
 #[test]
 fn audits(rt: HostRuntime) -> Result<(), Fail> {
@@ -320,7 +314,11 @@ fn audits(rt: HostRuntime) -> Result<(), Fail> {
         let (name, there, instead, row, other, status, text) = *case;
         let transcript = replaced(alloc, TRANSCRIPT, there, instead)?;
         let report = replaced(alloc, REPORT, row, other)?;
-        check_audit(&rt, alloc, name, &transcript, &report, status, text)?;
+        for piece_bytes in PIECES {
+            let desk = desk_of(alloc, &transcript, &report, Vec::new(alloc))?;
+            let mut desk = desk.with_pieces(piece_bytes);
+            check_audit(&rt, alloc, &mut desk, status, text, name)?;
+        }
     }
     Ok(())
 }

@@ -16,7 +16,7 @@ use std::test::Fail;
 use std::{fs, io};
 
 // Begins a file, appends the bytes, and commits it.
-fn put<D: Desk>(desk: &mut D, name: &str, bytes: &[u8]) -> Result<(), DeskError> {
+pub(crate) fn put<D: Desk>(desk: &mut D, name: &str, bytes: &[u8]) -> Result<(), DeskError> {
     let mut file = desk.begin(name, Readers::Any)?;
     file.append(&mut Slice { rest: bytes });
     desk.commit(file)
@@ -131,7 +131,7 @@ fn memory_desk_fails_the_listed_calls_and_absent_names(rt: HostRuntime) -> Resul
 }
 
 // An empty folder for a test.
-fn empty_folder(rt: &HostRuntime, name: &str) -> io::Result<()> {
+pub(crate) fn empty_folder(rt: &HostRuntime, name: &str) -> io::Result<()> {
     let _ = fs::remove_dir_all(rt, name);
     fs::create_dir(rt, name)
 }

@@ -7,6 +7,8 @@
 #[cfg(test)]
 mod cut_resume_rows;
 #[cfg(test)]
+mod desk_outside_pour_rows;
+#[cfg(test)]
 mod desk_outside_rows;
 #[cfg(test)]
 mod fixtures;
