@@ -1,0 +1,5 @@
+pub mod ReadLemmas
+pub mod TickLemmas
+mod SinkLemmas
+mod FeedLemmas
+mod KeptLemmas
