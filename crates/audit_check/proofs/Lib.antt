@@ -14,6 +14,5 @@ pub mod RunLengths
 pub mod OpenedLemmas
 pub mod MeetLemmas
 pub mod FollowLemmas
-pub mod ReadLemmas
 pub mod PassLemmas
 pub mod JudgingLemmas

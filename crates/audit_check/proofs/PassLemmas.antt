@@ -143,7 +143,7 @@ judges_none p = λ plan front over. subst (λ es. IsPassOver plan es p) (sym (ap
 pub judges_both : (p q last : Pass) (xs ys : List Entry) → Judges p xs q → Judges q ys last → Judges p (xs ++ ys) last
 judges_both p q last xs ys one other = λ plan front over. subst (λ es. IsPassOver plan es last) (append_assoc front xs ys) (other plan (front ++ xs) (one plan front over))
 
-judged_ends : (plan : PlanView) (es : List Entry) (p : Pass) → IsPassOver plan es p → LinesEnd plan (lines_of es) p.impossible p.replay.rounds
+pub judged_ends : (plan : PlanView) (es : List Entry) (p : Pass) → IsPassOver plan es p → LinesEnd plan (lines_of es) p.impossible p.replay.rounds
 judged_ends plan es p over = by_line p.impossible over
   where
     by_line : (o : Option ℕ) → AreJudged plan es p o → LinesEnd plan (lines_of es) o p.replay.rounds

@@ -3,7 +3,6 @@
 
 mod answers;
 mod auditing;
-mod body;
 mod comparing;
 mod judging;
 mod meeting;

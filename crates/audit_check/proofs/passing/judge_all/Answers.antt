@@ -1,12 +1,11 @@
-use Rattle.std.proofs.Common.{All, List, Option, Ok, Vec, [], ◌++◌, ◌∙◌, ap, refl, sym, subst, append-nil}
+use Rattle.std.proofs.Common.{All, Option, Ok, Vec, [], ◌++◌, ◌∙◌, ap, refl, subst}
 use Rattle.std.specs.declared.alloc.Global.{Global}
 use Rattle.group_plan.specs.Plans.{PlanView}
 use Rattle.event_schedule.specs.declared.Entry.{Entry}
 use Rattle.event_schedule.specs.Transcripts.{Fits}
 use Rattle.transcript_text.specs.Ahead.{AheadView, BatchEnds, IsNextBatch, entries_of}
 use Rattle.transcript_text.specs.Reading.{before}
-use Rattle.audit_check.specs.Passes.{IsPassOver}
-use Rattle.audit_check.proofs.ReadLemmas.{nothing_before, some_more}
+use Rattle.transcript_feed.proofs.ReadLemmas.{nothing_before, some_more}
 use Rattle.audit_check.proofs.PassLemmas.{judges_both, judges_none, pass_ends}
 use Rattle.audit_check.proofs.passing.judge_all.Goals as goal
 

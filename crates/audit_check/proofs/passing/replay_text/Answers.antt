@@ -4,7 +4,7 @@ use Rattle.transcript_text.specs.declared.fault.ReadError.{ReadError}
 use Rattle.transcript_text.specs.Reading.{Fails}
 use Rattle.audit_check.specs.Passes.{IsLineOf, IsPassOver, PassEnds}
 use Rattle.audit_check.proofs.PassLemmas.{text_fails, text_replayed}
-use Rattle.audit_check.proofs.ReadLemmas.{nothing_before}
+use Rattle.transcript_feed.proofs.ReadLemmas.{nothing_before}
 use Rattle.audit_check.proofs.passing.replay_text.Goals as goal
 
 pub returns : goal.returns
