@@ -23,7 +23,7 @@ use Rattle.twin_worlds.specs.MovedRows.{rows_of, AreMoved}
 use Rattle.twin_worlds.specs.declared.answers.PoolTwinError.{PoolTwinError}
 use Rattle.twin_worlds.specs.declared.answers.PoolTwinError.TheVariants as pool_twin
 use Rattle.twin_worlds.specs.Twins.{IsTextOf, lines_under, IsRecord, shifted_for, SameWorldEnds, TwinEnds, PooledTwinEnds}
-use Rattle.twin_worlds.specs.Ends.{HeadEnds, LinesEnd, BookEnds, WorldBookEnds, AgreementEnds, PooledAgreementEnds}
+use Rattle.twin_worlds.specs.Ends.{TextEnds, BookEnds, RecordBookEnds, AgreementEnds, PooledAgreementEnds}
 use Rattle.twin_worlds.proofs.MovedLemmas.{are-moved}
 
 -- ---- the stream words of keys
@@ -37,26 +37,33 @@ streams_small keys = record { own = λ g r i. word_small _ r; pair = λ g r i j.
 
 -- ---- refusals of the first world
 
--- the head is refused
-pub head-refused : (m : Masks) (x : ReadingsView) (text : List ℕ) (e : TwinError) → HeadEnds x.plan text (Err e) → SameWorldEnds m x text (Err e)
-head-refused m x text (twin.Transcript refusal) ends = ends
-head-refused m x text twin.Head ends = ends
-head-refused m x text (twin.NotThis line expected found tick fate) ends = absurd ends
-head-refused m x text (twin.Differ cause) ends = absurd ends
-head-refused m x text twin.Memory ends = tt
+-- the text is refused
+pub text-refused : (m : Masks) (x : ReadingsView) (text : List ℕ) (e : TwinError) → TextEnds text (Err e) → SameWorldEnds m x text (Err e)
+text-refused m x text (twin.Transcript refusal) ends = ends
+text-refused m x text twin.Head ends = absurd ends
+text-refused m x text (twin.NotThis line expected found tick fate) ends = absurd ends
+text-refused m x text (twin.Differ cause) ends = absurd ends
+text-refused m x text twin.Memory ends = tt
 
--- the lines are refused
-pub lines-refused : (m : Masks) (x : ReadingsView) (text : List ℕ) (t : TranscriptView) (e : TwinError) → IsTextOf t text → t.plan ≡ x.plan → LinesEnd m x t (Err e) → SameWorldEnds m x text (Err e)
-lines-refused m x text t (twin.Transcript refusal) text_of plan_is ends = absurd ends
-lines-refused m x text t twin.Head text_of plan_is ends = absurd ends
-lines-refused m x text t (twin.NotThis line expected found tick fate) text_of plan_is ends = (t, text_of, plan_is, ends)
-lines-refused m x text t (twin.Differ cause) text_of plan_is ends = absurd ends
-lines-refused m x text t twin.Memory text_of plan_is ends = tt
+-- the plan is refused, or a line is
+pub book-refused : (m : Masks) (x : ReadingsView) (text : List ℕ) (t : TranscriptView) (e : TwinError) → IsTextOf t text → RecordBookEnds m x t (Err e) → SameWorldEnds m x text (Err e)
+book-refused m x text t (twin.Transcript refusal) text_of ends = absurd ends.1
+book-refused m x text t twin.Head text_of other = (t, text_of, other)
+book-refused m x text t (twin.NotThis line expected found tick fate) text_of ends = (t, text_of, ends.0, ends.1)
+book-refused m x text t (twin.Differ cause) text_of ends = absurd ends.1
+book-refused m x text t twin.Memory text_of ends = tt
 
--- a book of the lines is one of the text
-pub world-book : (m : Masks) (x : ReadingsView) (text : List ℕ) (t : TranscriptView) (result : Result BookView TwinError) → IsTextOf t text → t.plan ≡ x.plan → BookEnds m x t result → WorldBookEnds m x text result
-world-book m x text t (Ok b) text_of plan_is ends = (t, record { text_of = text_of; plan_is = plan_is; lines_are = ends.0 }, ends.1)
-world-book m x text t (Err e) text_of plan_is ends = lines-refused m x text t e text_of plan_is ends
+-- a book of the lines is one of the record
+pub book-ends : (m : Masks) (x : ReadingsView) (t : TranscriptView) (result : Result BookView TwinError) → t.plan ≡ x.plan → BookEnds m x t result → RecordBookEnds m x t result
+book-ends m x t (Ok b) plan_is ends = (plan_is, ends.0, ends.1)
+book-ends m x t (Err (twin.Transcript refusal)) plan_is ends = (plan_is, ends)
+book-ends m x t (Err twin.Head) plan_is ends = absurd ends
+book-ends m x t (Err (twin.NotThis line expected found tick fate)) plan_is ends = (plan_is, ends)
+book-ends m x t (Err (twin.Differ cause)) plan_is ends = (plan_is, ends)
+book-ends m x t (Err twin.Memory) plan_is ends = tt
+
+pub is-record : (m : Masks) (x : ReadingsView) (text : List ℕ) (t : TranscriptView) (b : BookView) → IsTextOf t text → RecordBookEnds m x t (Ok b) → IsRecord m x text t
+is-record m x text t b text_of ends = record { text_of = text_of; plan_is = ends.0; lines_are = ends.1 }
 
 pub world-refused : (m : Masks) (x y : ReadingsView) (text : List ℕ) (e : TwinError) → SameWorldEnds m x text (Err e) → TwinEnds m x y text (Err e)
 world-refused m x y text (twin.Transcript refusal) ends = ends

@@ -21,7 +21,7 @@ use Rattle.twin_worlds.specs.declared.answers.TwinError.{TwinError}
 use Rattle.twin_worlds.specs.declared.answers.TwinError.TheVariants as twin
 use Rattle.twin_worlds.specs.declared.answers.PoolTwinError.{PoolTwinError}
 use Rattle.twin_worlds.specs.declared.answers.PoolTwinError.TheVariants as pool_twin
-use Rattle.twin_worlds.specs.Twins.{IsTextOf, lines_under, IsRecord, IsFirstOther, DisagreeAfter, DisagreeForAfter, KnowsApart, SameWorldEnds}
+use Rattle.twin_worlds.specs.Twins.{IsTextOf, lines_under, IsFirstOther, DisagreeAfter, DisagreeForAfter, KnowsApart}
 
 -- the bytes are the text of a transcript, or are refused so; want of memory is free
 abbrev pub TextEnds : List ℕ → Result TranscriptView TwinError → Type 0
@@ -50,10 +50,12 @@ abbrev pub BookEnds : Masks → ReadingsView → TranscriptView → Result BookV
 BookEnds m x t (Ok b) = (lines_of t.entries ≡ lines_under x m t) × HasEvents x (events_of t.entries) b
 BookEnds m x t (Err e) = LinesEnd m x t (Err e)
 
--- a book of the events of a transcript of these bytes that x gives under m; or none is answered
-abbrev pub WorldBookEnds : Masks → ReadingsView → List ℕ → Result BookView TwinError → Type 0
-WorldBookEnds m x text (Ok b) = (t : TranscriptView) × IsRecord m x text t × HasEvents x (events_of t.entries) b
-WorldBookEnds m x text (Err e) = SameWorldEnds m x text (Err e)
+-- a book of the events of t, which is of the plan of x and whose lines are those of x under m; or why there is none
+abbrev pub RecordBookEnds : Masks → ReadingsView → TranscriptView → Result BookView TwinError → Type 0
+RecordBookEnds m x t (Ok b) = (t.plan ≡ x.plan) × (lines_of t.entries ≡ lines_under x m t) × HasEvents x (events_of t.entries) b
+RecordBookEnds m x t (Err twin.Head) = t.plan ≢ x.plan
+RecordBookEnds m x t (Err twin.Memory) = ⊤
+RecordBookEnds m x t (Err e) = (t.plan ≡ x.plan) × LinesEnd m x t (Err e)
 
 -- after these events the tables agree, and these are their offsets; or they don't, by this cause
 abbrev pub AgreementEnds : ReadingsView → ReadingsView → List Event → Result (List Offset) TwinError → Type 0

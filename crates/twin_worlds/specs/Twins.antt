@@ -7,11 +7,13 @@ use Rattle.event_schedule.specs.Events.{lines_of, events_of}
 use Rattle.event_schedule.specs.Tables.{Masks}
 use Rattle.event_schedule.specs.Transcript.{transcript}
 use Rattle.transcript_text.specs.declared.version.Version.TheVariants.{Two}
+use Rattle.transcript_text.specs.declared.fault.ReadError.{ReadError}
 use Rattle.transcript_text.specs.declared.fault.ReadError.TheVariants as fault
 use Rattle.event_schedule.specs.Transcripts.{TranscriptView, IsTranscript}
 use Rattle.transcript_text.specs.Spelling.{transcript_text}
 use Rattle.transcript_text.specs.EntryLines.{entry_line}
 use Rattle.transcript_text.specs.Heads.{read_of}
+use Rattle.transcript_text.specs.Reading.{Fails}
 use Rattle.transcript_text.specs.Writing.{IsWritable}
 use Rattle.ideal_masks.specs.declared.Differ.{Differ}
 use Rattle.ideal_masks.specs.declared.Differ.TheVariants as differ
@@ -34,6 +36,11 @@ pub record IsTextOf (t : TranscriptView) (text : List ℕ) : Type 0 where
   pub sound : IsTranscript t
   pub text_is : text ≡ transcript_text t
   pub read : read_of Two text ≡ Ok t
+
+-- what was read of a text: the transcript whose text it is, or its first fault; want of memory is free
+abbrev pub IsReadOf : List ℕ → Result TranscriptView ReadError → Type 0
+IsReadOf text (Ok t) = IsTextOf t text
+IsReadOf text (Err f) = Fails f (read_of Two text)
 
 -- the lines that the readings x give under the masks m for the events of t
 abbrev pub lines_under : ReadingsView → Masks → TranscriptView → List Line

@@ -16,7 +16,10 @@ pub use answers::{PoolTwinError, TwinError};
 pub use moving::moved_rows;
 pub use rows::{MovedRow, MovedWords};
 pub use tables::ReadingTables;
-pub use twins::{pooled_twin, same_world, transcript_of_plan, twin};
+pub use twins::{
+    pooled_twin, pooled_twin_of_read, same_world, same_world_of_read, transcript_of_plan, twin,
+    twin_of_read,
+};
 pub use writing::moved_text;
 
 pub mod laws;

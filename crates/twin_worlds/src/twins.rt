@@ -1,13 +1,13 @@
 //! Two worlds of one transcript.
 
-ghost use Rattle.std.specs.Prelude.{◌≡◌};
+ghost use Rattle.std.specs.Prelude.{◌≡◌, ℕ, List, IfOk};
 ghost use Rattle.pair_keys.specs.Keys.{table_of};
 ghost use Rattle.group_plan.specs.Tables.{presence_of};
 ghost use Rattle.mask_stream.specs.KeyStreams.{streams};
 ghost use Rattle.ideal_masks.specs.Pools.{pool_of};
 ghost use Rattle.ideal_masks.specs.Replaying.{events_in};
-ghost use Rattle.twin_worlds.specs.Ends.{TextEnds, HeadEnds, WorldBookEnds, AgreementEnds, PooledAgreementEnds};
-ghost use Rattle.twin_worlds.specs.Twins.{SameWorldEnds, TwinEnds, PooledTwinEnds};
+ghost use Rattle.twin_worlds.specs.Ends.{TextEnds, HeadEnds, RecordBookEnds, AgreementEnds, PooledAgreementEnds};
+ghost use Rattle.twin_worlds.specs.Twins.{IsReadOf, SameWorldEnds, TwinEnds, PooledTwinEnds};
 
 use crate::comparing::book_of;
 use crate::heads::is_same_plan;
@@ -24,19 +24,33 @@ use std::thread::Threads;
 use transcript_log::Transcript;
 use transcript_text::{ReadError, read};
 
+// The transcript that was read, or the fault of its text as a twin tells it.
+fn transcript_of(read: Result<Transcript, ReadError>) -> Result<Transcript, TwinError>
+    ensures { (text : List ℕ) → IsReadOf text read → TextEnds text result }
+{
+    match read {
+        Ok(transcript) => Ok(transcript),
+        Err(ReadError::Memory) => Err(TwinError::Memory),
+        Err(fault) => Err(TwinError::Transcript(fault)),
+    }
+}
+
+// What a text is read as.
+fn read_text<R: Threads + Sync>(rt: &R, alloc: Global, text: &[u8]) -> Result<Transcript, ReadError>
+    ensures { IsReadOf text.now result }
+{
+    read(rt, alloc, text)
+}
+
 // The transcript of a text.
-fn transcript_of<R: Threads + Sync>(
+fn transcript_of_text<R: Threads + Sync>(
     rt: &R,
     alloc: Global,
     text: &[u8],
 ) -> Result<Transcript, TwinError>
     ensures { TextEnds text.now result }
 {
-    match read(rt, alloc, text) {
-        Ok(transcript) => Ok(transcript),
-        Err(ReadError::Memory) => Err(TwinError::Memory),
-        Err(fault) => Err(TwinError::Transcript(fault)),
-    }
+    transcript_of(read_text(rt, alloc, text))
 }
 
 /// The transcript of a text, where it is of this plan; else `Transcript`, `Head` or `Memory`.
@@ -48,7 +62,7 @@ pub fn transcript_of_plan<R: Threads + Sync>(
 ) -> Result<Transcript, TwinError>
     ensures { HeadEnds plan.now text.now result }
 {
-    let transcript = transcript_of(rt, alloc, text)?;
+    let transcript = transcript_of_text(rt, alloc, text)?;
     if is_same_plan(alloc, transcript.plan(), plan)? {
         Ok(transcript)
     } else {
@@ -104,8 +118,42 @@ fn agreed_pooled_offsets(
     }
 }
 
-/// The transcript of a text, where it is of this plan and the first table of readings gives it under these masks; else
+// A book of the events of a transcript, where it is of the plan of the first table, which gives its lines under these masks.
+fn record_book<R: Threads + Sync, M: Masks + Sync>(
+    rt: &R,
+    alloc: Global,
+    masks: &M,
+    first: &Readings,
+    transcript: &Transcript,
+) -> Result<Book, TwinError>
+    requires { M.plan masks.now ≡ first.now.plan }
+    ensures { RecordBookEnds (M.table masks.now) first.now transcript.now result }
+{
+    if !is_same_plan(alloc, transcript.plan(), first.plan())? {
+        return Err(TwinError::Head);
+    }
+    book_of(rt, alloc, masks, first, transcript)
+}
+
+/// The transcript that was read, where it is of the plan of the first table of readings, which gives it under these masks; else
 /// `Transcript`, `Head`, `NotThis` or `Memory`, the first in this order.
+pub fn same_world_of_read<R: Threads + Sync, M: Masks + Sync>(
+    rt: &R,
+    alloc: Global,
+    masks: &M,
+    first: &Readings,
+    read: Result<Transcript, ReadError>,
+) -> Result<Transcript, TwinError>
+    requires { M.plan masks.now ≡ first.now.plan }
+    ensures ends { (text : List ℕ) → IsReadOf text read → SameWorldEnds (M.table masks.now) first.now text result }
+    ensures plan { IfOk result (λ t. t.plan ≡ first.now.plan) }
+{
+    let transcript = transcript_of(read)?;
+    let _book = record_book(rt, alloc, masks, first, &transcript)?;
+    Ok(transcript)
+}
+
+/// The same of a text that is to be read.
 pub fn same_world<R: Threads + Sync, M: Masks + Sync>(
     rt: &R,
     alloc: Global,
@@ -118,28 +166,33 @@ pub fn same_world<R: Threads + Sync, M: Masks + Sync>(
     requires first { first.now.plan ≡ plan.now }
     ensures { SameWorldEnds (M.table masks.now) first.now text.now result }
 {
-    let transcript = transcript_of_plan(rt, alloc, plan, text)?;
-    let _book = book_of(rt, alloc, masks, first, &transcript)?;
-    Ok(transcript)
+    same_world_of_read(rt, alloc, masks, first, read_text(rt, alloc, text))
 }
 
-// A book of the events of a text, where it is the text of the first table's transcript under these masks.
-fn world_book<R: Threads + Sync, M: Masks + Sync>(
+/// The mask words that move so that the second table of readings gives the transcript that was read, where the first table gives it
+/// under the words of the keys.
+pub fn twin_of_read<R: Threads + Sync>(
     rt: &R,
     alloc: Global,
-    masks: &M,
-    first: &Readings,
-    text: &[u8],
-) -> Result<Book, TwinError>
-    requires { M.plan masks.now ≡ first.now.plan }
-    ensures { WorldBookEnds (M.table masks.now) first.now text.now result }
+    keys: &KeyTable,
+    tables: &ReadingTables,
+    read: Result<Transcript, ReadError>,
+) -> Result<MovedWords, TwinError>
+    requires keys { (table_of keys.now).plan ≡ tables.now.first.now.plan }
+    requires second { tables.now.second.now.plan ≡ tables.now.first.now.plan }
+    ensures { (text : List ℕ) → IsReadOf text read → TwinEnds (streams (table_of keys.now)) tables.now.first.now tables.now.second.now text result }
 {
-    let transcript = transcript_of_plan(rt, alloc, first.plan(), text)?;
-    book_of(rt, alloc, masks, first, &transcript)
+    let first = tables.first;
+    let _groups = first.plan().groups();
+    let masks = ChaMasks::new(keys);
+    let transcript = transcript_of(read)?;
+    let book = record_book(rt, alloc, &masks, first, &transcript)?;
+    drop(transcript);
+    let offsets = agreed_offsets(alloc, first, tables.second, &book)?;
+    Ok(moved_rows(alloc, &masks, &offsets)?)
 }
 
-/// The mask words that move so that the second table of readings gives the transcript of this text, where the first table
-/// gives it under the words of the keys.
+/// The same of a text that is to be read.
 pub fn twin<R: Threads + Sync>(
     rt: &R,
     alloc: Global,
@@ -151,17 +204,35 @@ pub fn twin<R: Threads + Sync>(
     requires second { tables.now.second.now.plan ≡ tables.now.first.now.plan }
     ensures { TwinEnds (streams (table_of keys.now)) tables.now.first.now tables.now.second.now text.now result }
 {
+    twin_of_read(rt, alloc, keys, tables, read_text(rt, alloc, text))
+}
+
+/// The mask words that move so that the second table of readings gives the transcript that was read, and a pool of meters the
+/// same readings and the same words, where the first table gives it under the words of the keys. `known` are the meters of
+/// the pool, as a set for each group; a group past the last has none.
+pub fn pooled_twin_of_read<R: Threads + Sync>(
+    rt: &R,
+    alloc: Global,
+    keys: &KeyTable,
+    known: &[MeterSet],
+    tables: &ReadingTables,
+    read: Result<Transcript, ReadError>,
+) -> Result<MovedWords, PoolTwinError>
+    requires keys { (table_of keys.now).plan ≡ tables.now.first.now.plan }
+    requires second { tables.now.second.now.plan ≡ tables.now.first.now.plan }
+    ensures { (text : List ℕ) → IsReadOf text read → PooledTwinEnds (pool_of known.now) (streams (table_of keys.now)) tables.now.first.now tables.now.second.now text result }
+{
     let first = tables.first;
     let _groups = first.plan().groups();
     let masks = ChaMasks::new(keys);
-    let book = world_book(rt, alloc, &masks, first, text)?;
-    let offsets = agreed_offsets(alloc, first, tables.second, &book)?;
+    let transcript = transcript_of(read)?;
+    let book = record_book(rt, alloc, &masks, first, &transcript)?;
+    drop(transcript);
+    let offsets = agreed_pooled_offsets(alloc, known, first, tables.second, &book)?;
     Ok(moved_rows(alloc, &masks, &offsets)?)
 }
 
-/// The mask words that move so that the second table of readings gives the transcript of this text, and a pool of meters the
-/// same readings and the same words, where the first table gives it under the words of the keys. `known` are the meters of
-/// the pool, as a set for each group; a group past the last has none.
+/// The same of a text that is to be read.
 pub fn pooled_twin<R: Threads + Sync>(
     rt: &R,
     alloc: Global,
@@ -174,10 +245,5 @@ pub fn pooled_twin<R: Threads + Sync>(
     requires second { tables.now.second.now.plan ≡ tables.now.first.now.plan }
     ensures { PooledTwinEnds (pool_of known.now) (streams (table_of keys.now)) tables.now.first.now tables.now.second.now text.now result }
 {
-    let first = tables.first;
-    let _groups = first.plan().groups();
-    let masks = ChaMasks::new(keys);
-    let book = world_book(rt, alloc, &masks, first, text)?;
-    let offsets = agreed_pooled_offsets(alloc, known, first, tables.second, &book)?;
-    Ok(moved_rows(alloc, &masks, &offsets)?)
+    pooled_twin_of_read(rt, alloc, keys, known, tables, read_text(rt, alloc, text))
 }
