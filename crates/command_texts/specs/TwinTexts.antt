@@ -1,7 +1,7 @@
--- The bytes of the four files of `twin`, as the program holds them.
+-- What the program holds of the four files of `twin`.
 use Rattle.command_texts.specs.declared.twin.TwinTexts.{TwinTexts}
 use Rattle.command_texts.specs.Twins.{TwinBytes}
-use Rattle.std.specs.Prelude.{◌≤◌, length, ◌≡◌, ◌⊎◌, Ok, Err, ⊤, Result}
+use Rattle.std.specs.Prelude.{◌≤◌, length, ◌≡◌, ◌⊎◌, Ok, Err, ⊤, Result, ℕ, List}
 use Rattle.command_words.specs.Limits.{most_bytes}
 use Rattle.group_plan.specs.Plans.{PlanView}
 use Rattle.group_plan.specs.Tables.{ReadingsView}
@@ -11,15 +11,15 @@ use Rattle.command_words.specs.declared.outcome.Outcome.TheVariants.{NoMemory, B
 use Rattle.command_words.specs.Words.{TwinNames}
 use Rattle.command_texts.specs.declared.twin.Tables.{Tables}
 
--- the bytes that are held
-abbrev pub bytes_of : TwinTexts → TwinBytes
-bytes_of texts = record { plan = texts.plan.items; readings = texts.readings.items; other = texts.other.items; transcript = texts.transcript.items }
+-- the bytes that are held, and those of the transcript
+abbrev pub bytes_with : TwinTexts → List ℕ → TwinBytes
+bytes_with texts transcript = record { plan = texts.plan.items; readings = texts.readings.items; other = texts.other.items; transcript = transcript }
 
--- the plan file and the readings files have not too many bytes
-pub record AreShort (bytes : TwinBytes) : Type 0 where
-  pub plan : length bytes.plan ≤ most_bytes
-  pub readings : length bytes.readings ≤ most_bytes
-  pub other : length bytes.other ≤ most_bytes
+-- none of the files has too many bytes
+pub record AreShort (texts : TwinTexts) : Type 0 where
+  pub plan : length texts.plan.items ≤ most_bytes
+  pub readings : length texts.readings.items ≤ most_bytes
+  pub other : length texts.other.items ≤ most_bytes
 
 -- the first readings file has a fault for the plan, or else the second; want of memory is free
 abbrev pub TablesRefused : TwinNames → TwinBytes → PlanView → Outcome → Type 0

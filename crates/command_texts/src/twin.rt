@@ -9,7 +9,8 @@ ghost use Rattle.command_texts.specs.Twins.{TwinBytes};
 ghost use Rattle.command_texts.specs.Pooled.{PooledCompared, PooledRefuses, BytesPooled};
 ghost use Rattle.command_words.specs.Words.{TwinNames};
 ghost use Rattle.command_words.specs.Commands.{twin_names_of};
-ghost use Rattle.command_texts.specs.TwinTexts.{AreShort, TablesEnd, bytes_of};
+ghost use Rattle.twin_worlds.specs.Twins.{IsReadOf};
+ghost use Rattle.command_texts.specs.TwinTexts.{AreShort, TablesEnd, bytes_with};
 ghost use Rattle.command_texts.specs.PooledParts.{IsPlanFor};
 ghost use Rattle.plan_files.specs.PlanFiles.{view_of};
 ghost use Rattle.pair_keys.specs.Keys.{table_of};
@@ -25,7 +26,9 @@ use pair_keys::KeyError;
 use plan_files::{FileCause, FileFault, PlanFile};
 use std::alloc::Global;
 use std::thread::Threads;
-use twin_worlds::{MovedWords, PoolTwinError, ReadingTables, TwinError, pooled_twin};
+use transcript_log::Transcript;
+use transcript_text::ReadError;
+use twin_worlds::{MovedWords, PoolTwinError, ReadingTables, TwinError, pooled_twin_of_read};
 
 /// The fault of a plan that hasn't each known meter.
 const OUTSIDE_PLAN: FileFault = FileFault {
@@ -33,13 +36,12 @@ const OUTSIDE_PLAN: FileFault = FileFault {
     cause: FileCause::Key(KeyError::Range),
 };
 
-/// The bytes of the four files: a plan, two tables of readings and a transcript.
+/// The bytes of the files that are read whole: a plan and two tables of readings.
 #[derive(Drop)]
 pub struct TwinTexts {
     pub plan: Vec<u8>,
     pub readings: Vec<u8>,
     pub other: Vec<u8>,
-    pub transcript: Vec<u8>,
 }
 
 /// Both tables of readings, the second of which is to take the place of the first.
@@ -129,8 +131,8 @@ pub(crate) fn read_tables<'a>(
     plan: &Plan,
     texts: &TwinTexts,
 ) -> Result<Tables, Outcome<'a>>
-    requires short { AreShort (bytes_of texts.now) }
-    ensures ends { TablesEnd (twin_names_of files.entry) (bytes_of texts.now) plan.now result }
+    requires short { AreShort texts.now }
+    ensures ends { (tb : List ℕ) → TablesEnd (twin_names_of files.entry) (bytes_with texts.now tb) plan.now result }
     ensures no_fault { IfErr result (λ outcome. ¬ IsFault outcome) }
 {
     let first = or_fail!(readings_in(alloc, files.readings, plan, &texts.readings));
@@ -146,10 +148,11 @@ fn compare_tables<'a, R: Threads + Sync>(
     file: &PlanFile,
     sets: &[MeterSet],
     texts: &TwinTexts,
+    read: Result<Transcript, ReadError>,
 ) -> Result<MovedWords, Outcome<'a>>
-    requires short { AreShort (bytes_of texts.now) }
+    requires short { AreShort texts.now }
     requires keys { (table_of file.now.keys).plan ≡ file.now.plan }
-    ensures ends { (known : List KnownMeter) → IsPlanFor known (bytes_of texts.now) (view_of file.now) sets.now → BytesPooled known (twin_names_of files.entry) (bytes_of texts.now) result }
+    ensures ends { (tb : List ℕ) (known : List KnownMeter) → IsReadOf tb read → IsPlanFor known (bytes_with texts.now tb) (view_of file.now) sets.now → BytesPooled known (twin_names_of files.entry) (bytes_with texts.now tb) result }
     ensures no_fault { IfErr result (λ outcome. ¬ IsFault outcome) }
 {
     let tables = or_fail!(read_tables(alloc, files, &file.plan, texts));
@@ -157,23 +160,25 @@ fn compare_tables<'a, R: Threads + Sync>(
         first: &tables.first,
         second: &tables.second,
     };
-    match pooled_twin(rt, alloc, &file.keys, sets, &both, &texts.transcript) {
+    match pooled_twin_of_read(rt, alloc, &file.keys, sets, &both, read) {
         Ok(moved) => Ok(moved),
         Err(error) => Err(refusal(files.transcript, error)),
     }
 }
 
-/// The mask words that move from the first readings to the other ones, against the meters that the word names.
+/// The mask words that move from the first readings to the other ones, against the meters that the word names. The transcript was read
+/// before, or has this fault.
 pub fn words_moved<'a, R: Threads + Sync>(
     rt: &R,
     alloc: Global,
     known: &str,
     files: TwinFiles<'a>,
     texts: &TwinTexts,
+    read: Result<Transcript, ReadError>,
 ) -> Result<MovedWords, Outcome<'a>>
-    requires short { AreShort (bytes_of texts.now) }
+    requires short { AreShort texts.now }
     requires known { IsKnown known.now }
-    ensures ends { BytesPooled (known_in known.now) (twin_names_of files.entry) (bytes_of texts.now) result }
+    ensures ends { (tb : List ℕ) → IsReadOf tb read → BytesPooled (known_in known.now) (twin_names_of files.entry) (bytes_with texts.now tb) result }
     ensures no_fault { IfErr result (λ outcome. ¬ IsFault outcome) }
 {
     let file = or_fail!(plan_in(alloc, files.plan, &texts.plan));
@@ -182,5 +187,5 @@ pub fn words_moved<'a, R: Threads + Sync>(
         Ok(None) => return Err(Outcome::BadPlan(files.plan, OUTSIDE_PLAN)),
         Err(_) => return Err(Outcome::NoMemory),
     };
-    compare_tables(rt, alloc, files, &file, &sets, texts)
+    compare_tables(rt, alloc, files, &file, &sets, texts, read)
 }

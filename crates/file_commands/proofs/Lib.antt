@@ -5,3 +5,4 @@ pub mod PartsEndings
 pub mod TwinEndings
 pub mod BillingEndings
 pub mod InspectEndings
+mod PouringLemmas

@@ -35,6 +35,11 @@ moved_are_said verb name rows count v w outcome text line text_is line_is count_
     subst (λ line. PutsEnd (putting name (masks_text rows) ∷ []) line v w outcome) (line_is ∙ ap (counted_line verb) count_is)
     (subst (λ text. PutsEnd (putting name text ∷ []) line v w outcome) text_is ends)
 
+-- what the files say is refused
+pub twin_refused : (verb : List ℕ) (refuses : TwinBytes → Outcome → Type 0) (compares : TwinBytes → List MovedRow → Type 0) (names : TwinNames) (v u : View) (outcome : Outcome) (bytes : TwinBytes)
+    → AreReadBy names v bytes → u ≡ after_fetches (compared_by names) v → refuses bytes outcome → ComparedEndsAs verb refuses compares names v u outcome
+twin_refused verb refuses compares names v u outcome bytes read after refused = inr (bytes, read, inl (refused, after))
+
 pub twin_ends : (verb : List ℕ) (refuses : TwinBytes → Outcome → Type 0) (compares : TwinBytes → List MovedRow → Type 0) (names : TwinNames) (v u w : View) (outcome : Outcome) (rows : List MovedRow) (bytes : TwinBytes)
     → AreReadBy names v bytes → u ≡ after_fetches (compared_by names) v → compares bytes rows → MovedAreSaid verb names.masks rows u w outcome → ComparedEndsAs verb refuses compares names v w outcome
 twin_ends verb refuses compares names v u w outcome rows bytes read after compared ends =

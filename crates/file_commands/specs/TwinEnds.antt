@@ -11,8 +11,9 @@ use Rattle.command_texts.specs.Lines.{moved_line, counted_line}
 use Rattle.command_words.specs.declared.known.KnownMeter.{KnownMeter}
 use Rattle.command_texts.specs.Pooled.{PooledCompared, PooledRefuses}
 use Rattle.command_texts.specs.RingTwins.{RingCompared, RingTwinRefuses}
-use Rattle.command_texts.specs.declared.twin.TwinTexts.{TwinTexts}
-use Rattle.command_texts.specs.TwinTexts.{bytes_of}
+use Rattle.command_texts.specs.TwinTexts.{bytes_with}
+use Rattle.twin_worlds.specs.Twins.{IsReadOf}
+use Rattle.file_commands.specs.declared.twins.Fetched.{Fetched}
 
 -- they were read under these names
 pub record AreReadBy (names : TwinNames) (v : View) (bytes : TwinBytes) : Type 0 where
@@ -79,6 +80,7 @@ RingTwinEnds width names v w outcome = ComparedEndsAs (codes "twin") (RingTwinRe
 -- ---- the parts
 
 -- the four files were read, or the first fetch that gave none ends the command
-abbrev pub TextsFetched : TwinNames → View → View → Result TwinTexts Outcome → Type 0
-TextsFetched names v w (Ok texts) = AreReadBy names v (bytes_of texts) × (w ≡ after_fetches (compared_by names) v)
+abbrev pub TextsFetched : TwinNames → View → View → Result Fetched Outcome → Type 0
+TextsFetched names v w (Ok fetched) =
+    (tb : List ℕ) × AreReadBy names v (bytes_with fetched.texts tb) × IsReadOf tb fetched.read × (w ≡ after_fetches (compared_by names) v)
 TextsFetched names v w (Err outcome) = Unread (compared_by names) v w outcome

@@ -27,6 +27,7 @@ mod converting;
 mod hiding;
 mod inspecting;
 mod part_files;
+mod pouring;
 mod publishing;
 mod ring_twins;
 mod twins;

@@ -6,7 +6,7 @@ ghost use Rattle.command_words.specs.Commands.{twin_names_of};
 ghost use Rattle.command_words.specs.Outcomes.{IsFault};
 ghost use Rattle.file_commands.specs.TwinEnds.{RingTwinEnds};
 
-use crate::twins::{fetch_texts, put_moved};
+use crate::twins::{Fetched, fetch_texts, put_moved};
 use command_texts::ring_words_moved;
 use command_words::{Outcome, RingTwinWords};
 use desk_outside::Desk;
@@ -26,7 +26,7 @@ pub fn ring_twin<'a, R: Threads + Sync, D: Desk>(
     ensures cause { IsFault result → Rose (D.faults desk.old) (D.faults desk.new) }
 {
     let files = words.files;
-    let texts = or_end!(fetch_texts(alloc, files, desk));
-    let moved = or_end!(ring_words_moved(rt, alloc, words.width, files, &texts));
+    let Fetched { texts, read } = or_end!(fetch_texts(rt, alloc, files, desk));
+    let moved = or_end!(ring_words_moved(rt, alloc, words.width, files, &texts, read));
     put_moved(rt, alloc, "twin", files.masks, &moved, desk)
 }

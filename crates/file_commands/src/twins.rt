@@ -7,32 +7,43 @@ ghost use Rattle.command_words.specs.Outcomes.{IsFault};
 ghost use Rattle.file_commands.specs.TwinEnds.{TextsFetched, MovedAreSaid, PooledEndsAs, TwinCommandEnds, PooledCommandEnds};
 ghost use Rattle.command_words.specs.Known.{IsKnown, known_in};
 
+use crate::pouring::fetch_and_pour;
 use command_files::{NewFile, Source, fetch_two, put_one};
 use command_texts::{TwinTexts, counted_line, words_moved};
 use command_words::{Outcome, PooledWords, TwinFiles};
 use desk_outside::{Desk, Readers};
 use std::alloc::Global;
 use std::thread::Threads;
+use transcript_log::Transcript;
+use transcript_text::ReadError;
 use twin_worlds::{MovedWords, moved_text};
 
-// Fetches the four files.
-pub(crate) fn fetch_texts<'a, D: Desk>(
+/// What the four files of a comparison came to: the bytes of those that are read whole, and the transcript or its first fault.
+#[derive(Drop)]
+pub(crate) struct Fetched {
+    pub texts: TwinTexts,
+    pub read: Result<Transcript, ReadError>,
+}
+
+// Fetches the four files. The transcript is read while it comes.
+pub(crate) fn fetch_texts<'a, R: Threads + Sync, D: Desk>(
+    rt: &R,
     alloc: Global,
     files: TwinFiles<'a>,
     desk: &mut D,
-) -> Result<TwinTexts, Outcome<'a>>
+) -> Result<Fetched, Outcome<'a>>
     ensures ends { TextsFetched (twin_names_of files.entry) (D.view desk.old) (D.view desk.new) result }
     ensures later { D.faults desk.old ≤ D.faults desk.new }
     ensures cause { IfErr result (λ outcome. IsFault outcome → Rose (D.faults desk.old) (D.faults desk.new)) }
 {
     let (plan, readings) = or_fail!(fetch_two(alloc, files.plan, files.readings, desk));
-    let (other, transcript) = or_fail!(fetch_two(alloc, files.other, files.transcript, desk));
-    Ok(TwinTexts {
+    let (other, read) = or_fail!(fetch_and_pour(rt, alloc, files.other, files.transcript, desk));
+    let texts = TwinTexts {
         plan,
         readings,
         other,
-        transcript,
-    })
+    };
+    Ok(Fetched { texts, read })
 }
 
 // Puts the file of the words that move, and says how many they are, as the command of this name.
@@ -78,8 +89,8 @@ fn twin_for<'a, R: Threads + Sync, D: Desk>(
     ensures later { D.faults desk.old ≤ D.faults desk.new }
     ensures cause { IsFault result → Rose (D.faults desk.old) (D.faults desk.new) }
 {
-    let texts = or_end!(fetch_texts(alloc, files, desk));
-    let moved = or_end!(words_moved(rt, alloc, known, files, &texts));
+    let Fetched { texts, read } = or_end!(fetch_texts(rt, alloc, files, desk));
+    let moved = or_end!(words_moved(rt, alloc, known, files, &texts, read));
     put_moved(rt, alloc, verb, files.masks, &moved, desk)
 }
 

@@ -1,5 +1,4 @@
-use Rattle.std.proofs.Common.{◌∙◌, ℕ, List, [], refl}
-use Rattle.audit_check.specs.Judging.{HasTaken}
+use Rattle.std.proofs.Common.{◌∙◌, [], refl}
 use Rattle.file_commands.proofs.AuditEndings.{audit_ends, audit_refused}
 use Rattle.file_commands.proofs.auditing.audit.Goals as goal
 
