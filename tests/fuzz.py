@@ -199,6 +199,12 @@ def names_in(command, marks):
     return [word[1:] for word in command.split() if word[0] in marks]
 
 
+def names_put(words):
+    """The files at the places of these words at which some form of their command puts one or goes on with one."""
+    forms = [command.split() for command, _ in COMMANDS if command.split()[:1] == words[:1]]
+    return {os.path.normpath(word) for form in forms for word, place in zip(words, form) if place[0] in ">+"}
+
+
 def words_of(command):
     return [word.lstrip("<>+") for word in command.split()]
 
@@ -328,13 +334,11 @@ def try_case(options, known, sets, number):
     draw = random.Random(f"{options.seed}:{number}")
     room = tempfile.mkdtemp(prefix="fuzz-")
     command, words, statuses, before = one_case(draw, known, sets, room)
-    # Where the words were changed they may name other files to be put, or be another command.
-    unchanged = words == words_of(command)
-    # `./plan` is the file `plan`.
-    paths = [os.path.normpath(word) for word in words]
-    named = names_in(command, ">+") if unchanged else [path for path in paths if path not in before]
-    if not unchanged:
+    named = names_put(words)
+    if words != words_of(command):
+        # Changed words may be another command, and each of them may be the name of a new file.
         statuses = set(range(12))
+        named |= {path for path in map(os.path.normpath, words) if path not in before}
     started = time.monotonic()
     try:
         ended = run_in(room, options.program, words)
