@@ -96,7 +96,7 @@ def main():
         file, _, name = rest.rpartition(".")
         place = f"Rattle.{crate}.specs.{file}"
         if place not in specs or name not in specs[place].lines:
-            sys.exit(f"{word} is no definition, such as commands.Runs.IsRunOf")
+            sys.exit(f"{word} is no definition, such as command_texts.Runs.IsRunOf")
         starts.append((place, name))
     definitions, lines = collections.Counter(), collections.Counter()
     for place, name in reached(specs, starts):
