@@ -1,10 +1,11 @@
 -- What the judge does with an entry, and why it refuses one.
 use Rattle.std.proofs.Common.{◌≡◌, ℕ, zero, suc, ◌+◌, ◌*◌, ◌<◌, ◌≤◌, Bool, true, false, cond, not, ◌&&◌, List, [], ◌∷◌, ◌++◌, length, take, drop, get_or, map, drop-cons, ◌⊎◌, refl, sym, ap, ◌∙◌, subst, ⊎_elim, inl, inr, arith, append_assoc, append-nil, Result, Ok, Err}
 use mathlib.Core.List.{reverse_aux}
-use Rattle.std.specs.Prelude.{◌==◌, nat_lt, nat_le, reverse, Vec, slice_get, None}
+use Rattle.std.specs.Prelude.{◌==◌, nat_lt, nat_le, reverse, Vec, slice_get, None, IsPermutation}
 use Rattle.std.specs.List.{filter, count_by, list_all}
 use Rattle.std.specs.declared.alloc.Global.{Global}
 use Rattle.std.proofs.lemmas.Bool.{false≢true, and_from, and_parts, and_right, ltb-true, eq-eqb, ne_eqb, le-leb, lt-leb, cases_eq}
+use Rattle.std.proofs.lemmas.List.Sorted.{All-permutation, sum_by-IsPermutation}
 use Rattle.std.proofs.lemmas.List.Sums.{sum_by-cons}
 use Rattle.group_plan.specs.declared.Kind.{Kind}
 use Rattle.group_plan.specs.declared.Kind.TheVariants.{Reading, Announcement, Answer}
@@ -33,7 +34,7 @@ use Rattle.run_course.specs.Lists.{IsIn}
 use Rattle.run_course.specs.Marks.{is_noted, NotesTake, owed_marks, AreNoted}
 use Rattle.run_course.specs.Sends.{rank, kind_rank, is_reading, all_present, owed}
 use Rattle.run_course.specs.Stages.{Stage, is_round_of, AreCalled, Ascends, all_ranks, IsInTime, CouldCome, CanCome, start_of, last_of, Follows, HoldsIn, IsSending, AreDueCopies, due_groups, arrivals}
-use Rattle.run_course.proofs.Members.{all_in, in_append}
+use Rattle.run_course.proofs.Members.{all_in, all_from_in, in_append}
 use Rattle.run_course.proofs.Entries.{stage, in_count, count_in}
 use Rattle.run_course.proofs.Steps.{take_step, close_step, end_step, send_step, sending_more, begin_sends}
 use Rattle.run_course.proofs.Ticks.{next_tick}
@@ -263,21 +264,32 @@ due_reversed t later =
       others = refl;
     }
 
+in_permutation : {X : Type 0} (x : X) (xs ys : List X) → IsPermutation xs ys → IsIn x ys → IsIn x xs
+in_permutation {X} x xs ys moved at = all_in (λ y. IsIn y xs) ys (All-permutation (λ (y : X). IsIn y xs) xs ys moved (all_from_in (λ (y : X). IsIn y xs) xs (λ y here. here))) x at
+
+due_sorted : (t : ℕ) (later : List Arrival) (due : List Tag) → IsPermutation (map (λ a. a.tag) (filter (λ a. a.tick == t) (reverse later))) due → AreDueCopies t later due (filter (λ a. not (a.tick == t)) later)
+due_sorted t later due moved =
+    let back = due_reversed t later in
+    record {
+      counted = λ p. sum_by-IsPermutation (λ (tag : Tag). cond (p tag) 1 0) _ due moved ∙ back.counted p;
+      from = λ tag at. back.from tag (in_permutation tag _ due moved at);
+      others = refl;
+    }
+
 pub next_begun : (plan : PlanView) (xs : List Entry) (c : Course) (due : Vec Tag Global) (later : Vec Arrival Global) (closing ending : Vec ℕ Global) → Keeps plan xs c → c.phase ≡ Sends → drop c.sent c.owed.items ≡ []
-    → due.items ≡ map (λ a. a.tag) (filter (λ a. a.tick == c.tick + 1) (reverse c.later.items)) → later.items ≡ filter (λ a. not (a.tick == c.tick + 1)) c.later.items
+    → IsPermutation (map (λ a. a.tag) (filter (λ a. a.tick == c.tick + 1) (reverse c.later.items))) due.items → later.items ≡ filter (λ a. not (a.tick == c.tick + 1)) c.later.items
     → closing.items ≡ due_groups plan plan.w1 (c.tick + 1) → ending.items ≡ due_groups plan (plan.w1 + plan.w2) (c.tick + 1)
     → Keeps plan xs (record c { due = due; later = later; closing = closing; ending = ending; tick = c.tick + 1; phase = Takes })
 next_begun plan xs c due later closing ending keeps now left due_is later_is closing_is ending_is =
     let low : phase_number c.phase ≤ 2 = (let e : phase_number c.phase ≡ 2 = ap phase_number now in omega arith) in
-    let next = next_tick plan xs (stage_of c) (map (λ a. a.tag) (filter (λ a. a.tick == c.tick + 1) (reverse c.later.items))) (filter (λ a. not (a.tick == c.tick + 1)) c.later.items)
+    let next = next_tick plan xs (stage_of c) due.items (filter (λ a. not (a.tick == c.tick + 1)) c.later.items)
     (due_groups plan plan.w1 (c.tick + 1)) (due_groups plan (plan.w1 + plan.w2) (c.tick + 1)) (drop c.sent c.owed.items) c.least keeps.follows (sending_of plan xs c keeps now) low left
-    (due_reversed (c.tick + 1) c.later.items) (due_rounds plan plan.w1 (c.tick + 1)) (due_rounds plan (plan.w1 + plan.w2) (c.tick + 1)) in
+    (due_sorted (c.tick + 1) c.later.items due.items due_is) (due_rounds plan plan.w1 (c.tick + 1)) (due_rounds plan (plan.w1 + plan.w2) (c.tick + 1)) in
     record {
       follows =
-          subst (λ d. Follows plan xs (stage (c.tick + 1) 0 d later.items closing.items ending.items (drop c.sent c.owed.items) c.least)) (sym due_is)
-          (subst (λ l. Follows plan xs (stage (c.tick + 1) 0 (map (λ a. a.tag) (filter (λ a. a.tick == c.tick + 1) (reverse c.later.items))) l closing.items ending.items (drop c.sent c.owed.items) c.least)) (sym later_is)
-          (subst (λ g. Follows plan xs (stage (c.tick + 1) 0 (map (λ a. a.tag) (filter (λ a. a.tick == c.tick + 1) (reverse c.later.items))) (filter (λ a. not (a.tick == c.tick + 1)) c.later.items) g ending.items (drop c.sent c.owed.items) c.least)) (sym closing_is)
-          (subst (λ g. Follows plan xs (stage (c.tick + 1) 0 (map (λ a. a.tag) (filter (λ a. a.tick == c.tick + 1) (reverse c.later.items))) (filter (λ a. not (a.tick == c.tick + 1)) c.later.items) (due_groups plan plan.w1 (c.tick + 1)) g (drop c.sent c.owed.items) c.least)) (sym ending_is) next)));
+          subst (λ l. Follows plan xs (stage (c.tick + 1) 0 due.items l closing.items ending.items (drop c.sent c.owed.items) c.least)) (sym later_is)
+          (subst (λ g. Follows plan xs (stage (c.tick + 1) 0 due.items (filter (λ a. not (a.tick == c.tick + 1)) c.later.items) g ending.items (drop c.sent c.owed.items) c.least)) (sym closing_is)
+          (subst (λ g. Follows plan xs (stage (c.tick + 1) 0 due.items (filter (λ a. not (a.tick == c.tick + 1)) c.later.items) (due_groups plan plan.w1 (c.tick + 1)) g (drop c.sent c.owed.items) c.least)) (sym ending_is) next));
       holds = tt;
       noted = record {
         came_plan = keeps.noted.came_plan;

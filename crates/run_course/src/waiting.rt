@@ -1,12 +1,13 @@
 //! What is still to come in a tick, and the copies of later ticks.
 
-ghost use Rattle.std.specs.Prelude.{◌≡◌, ◌<◌, ◌^◌, ◌++◌, ◌+◌, ◌==◌, ◌↔◌, IsTrue, not, map, filter, reverse, length, IfOk, OnOk};
+ghost use Rattle.std.specs.Prelude.{◌≡◌, ◌<◌, ◌^◌, ◌++◌, ◌+◌, ◌==◌, ◌↔◌, IsTrue, not, map, filter, reverse, length, IfOk, OnOk, IsPermutation};
 ghost use Rattle.run_course.specs.Removing.{Removes};
 ghost use Rattle.run_course.specs.Stages.{arrivals, due_groups};
 
 use group_plan::{Plan, Tag};
 use link_lanes::Fate;
 use std::alloc::{AllocError, Global};
+use std::cmp::Reverse;
 
 /// A copy on its way: the tick at which it is due, and the tag of its frame.
 #[derive(Clone, Copy)]
@@ -69,8 +70,8 @@ pub(crate) fn post(
     Ok(())
 }
 
-/// The copies that are due at a tick, the last one first.
-pub(crate) fn due_at(alloc: Global, later: &[Arrival], tick: u32) -> Result<Vec<Tag>, AllocError>
+// The copies that are due at a tick, the one that was sent last first.
+fn due_reversed(alloc: Global, later: &[Arrival], tick: u32) -> Result<Vec<Tag>, AllocError>
     ensures { IfOk result (λ due. due.items ≡ map (λ a. a.tag) (filter (λ a. a.tick == tick) (reverse later.now))) }
 {
     later
@@ -79,6 +80,16 @@ pub(crate) fn due_at(alloc: Global, later: &[Arrival], tick: u32) -> Result<Vec<
         .filter(|copy| copy.tick == tick)
         .map(|copy| copy.tag)
         .collect(alloc)
+}
+
+/// The copies that are due at a tick, those of the first group last, and in each group the one that was sent first. A run takes them
+/// by groups in the order in which they were sent, so its next one stands last.
+pub(crate) fn due_at(alloc: Global, later: &[Arrival], tick: u32) -> Result<Vec<Tag>, AllocError>
+    ensures { IfOk result (λ due. IsPermutation (map (λ a. a.tag) (filter (λ a. a.tick == tick) (reverse later.now))) due.items) }
+{
+    let mut due = due_reversed(alloc, later, tick)?;
+    due.sort_by_key(|tag| Reverse(tag.group))?;
+    Ok(due)
 }
 
 /// The copies that are due at other ticks.

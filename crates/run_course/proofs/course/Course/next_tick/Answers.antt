@@ -1,5 +1,5 @@
 use Rattle.std.proofs.Common.{◌≡◌, ◌+◌, ◌*◌, List, map, filter, not, sym, ap, subst, ◌∙◌, refl, arith, Ok}
-use Rattle.std.specs.Prelude.{reverse, ◌==◌}
+use Rattle.std.specs.Prelude.{reverse, ◌==◌, IsPermutation}
 use Rattle.std.specs.declared.alloc.AllocError.{AllocError}
 use Rattle.group_plan.specs.Plans.{PlanView, IsWithinLimits, last_tick}
 use Rattle.run_course.specs.declared.waiting.Arrival.{Arrival}
@@ -36,8 +36,8 @@ returns-clause-begins c = λ plan xs keeps.
     let windows : c.w1-2.result + c.w2.result ≡ plan.w1 + plan.w2 = omega arith in
     let over = c.if-self-len.false in
     let len = c.len.ensures in
-    let a : c.in_ok-self.field-0.items ≡ map (λ a. a.tag) (filter (λ a. a.tick == now.tick + 1) (reverse now.later.items))
-    = c.in_ok-self.ensures ∙ ap (λ (l : List Arrival). map (λ a. a.tag) (filter (λ a. a.tick == now.tick + 1) (reverse l))) c.deref.ensures.value in
+    let a : IsPermutation (map (λ a. a.tag) (filter (λ a. a.tick == now.tick + 1) (reverse now.later.items))) c.in_ok-self.field-0.items
+    = subst (λ (l : List Arrival). IsPermutation (map (λ a. a.tag) (filter (λ a. a.tick == now.tick + 1) (reverse l))) c.in_ok-self.field-0.items) c.deref.ensures.value c.in_ok-self.ensures in
     let b : c.in_ok-self-2.field-0.items ≡ filter (λ a. not (a.tick == now.tick + 1)) now.later.items
     = c.in_ok-self-2.ensures ∙ ap (λ (l : List Arrival). filter (λ a. not (a.tick == now.tick + 1)) l) c.deref-2.ensures.value in
     let d : c.in_ok-self-3.field-0.items ≡ due_groups plan plan.w1 (now.tick + 1)
