@@ -1,10 +1,9 @@
 -- What the parts of `bill` and `hide` answer.
-use Rattle.std.specs.Prelude.{◌≡◌, ℕ, List, length, ◌≤◌, Ok, ◌⊎◌, Result, Err}
+use Rattle.std.specs.Prelude.{◌≡◌, ℕ, List, length, Ok, ◌⊎◌, Result, Err}
 use Rattle.command_words.specs.declared.words.Period.{Period}
 use Rattle.command_texts.specs.declared.bill.BillsText.{BillsText}
 use Rattle.command_texts.specs.Billing.{Metered, AreMetered, bills_in, bills_text_in, HideBytes, IsHidden, IsTextIn, TextRefuses, IsAlone, OfHidden}
 use Rattle.command_texts.specs.declared.hide.HideTexts.{HideTexts}
-use Rattle.command_words.specs.Limits.{most_bytes}
 use Rattle.group_plan.specs.Plans.{PlanView}
 use Rattle.group_plan.specs.Tables.{ReadingsView}
 use Rattle.plan_files.specs.Readings.{readings_of}
@@ -27,14 +26,9 @@ AreBillsOf p r period made =
 
 -- ---- `hide`
 
--- the bytes that are borrowed
-abbrev pub hide_bytes_of : HideTexts → HideBytes
-hide_bytes_of texts = record { plan = texts.plan.now; readings = texts.readings.now; transcript = texts.transcript.now }
-
--- the plan file and the readings file have not too many bytes
-pub record AreShort (bytes : HideBytes) : Type 0 where
-  pub plan : length bytes.plan ≤ most_bytes
-  pub readings : length bytes.readings ≤ most_bytes
+-- the bytes that are borrowed, and those of the transcript
+abbrev pub hide_bytes_with : HideTexts → List ℕ → HideBytes
+hide_bytes_with texts transcript = record { plan = texts.plan.now; readings = texts.readings.now; transcript = transcript }
 
 -- the text of the table in which the place moves to its partner, which is read as it
 abbrev pub IsOtherText : PlanView → ReadingsView → ReadingPlace → Partner → List ℕ → Type 0

@@ -10,9 +10,9 @@ use Rattle.command_words.specs.Words.{InspectNames}
 use Rattle.command_texts.specs.Audits.{AreAuditTexts}
 use Rattle.audit_check.specs.declared.answers.Inspected.{Inspected}
 
--- the bytes that are borrowed
-abbrev pub inspect_bytes_of : InspectTexts → InspectBytes
-inspect_bytes_of texts = record { public = texts.public.now; transcript = texts.transcript.now; report = texts.report.now }
+-- the bytes that are borrowed, and those of the transcript
+abbrev pub inspect_bytes_with : InspectTexts → List ℕ → InspectBytes
+inspect_bytes_with texts transcript = record { public = texts.public.now; transcript = transcript; report = texts.report.now }
 
 -- both texts are read, and the transcript is of the plan; or they are refused
 abbrev pub TextsRead : InspectNames → PlanView → (transcript report : List ℕ) → Result (TranscriptView × List ReportRow) Outcome → Type 0

@@ -70,11 +70,6 @@ TwinRefuses names bytes (Disagree (of_disagreement.Total group round first secon
 TwinRefuses names bytes NoMemory = ⊤
 TwinRefuses names bytes _ = ⊥
 
--- the comparison of the bytes under these names
-abbrev pub BytesCompared : TwinNames → TwinBytes → Result (List MovedRow) Outcome → Type 0
-BytesCompared names bytes (Ok rows) = Compared bytes (Ok rows)
-BytesCompared names bytes (Err outcome) = TwinRefuses names bytes outcome
-
 -- ---- what a run stores
 
 -- whatever files are run, the transcript that is made is the record of the readings under the words that meters share

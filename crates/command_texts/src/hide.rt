@@ -1,11 +1,13 @@
 //! The readings that hide another, of three files.
 
-ghost use Rattle.std.specs.Prelude.{IfOk, IfErr, ◌≡◌};
+ghost use Rattle.std.specs.Prelude.{IfOk, IfErr, ◌≡◌, ◌≤◌, length, List, ℕ};
+ghost use Rattle.command_words.specs.Limits.{most_bytes};
+ghost use Rattle.twin_worlds.specs.Twins.{IsReadOf};
 ghost use Rattle.command_words.specs.Outcomes.{IsFault};
 ghost use Rattle.command_texts.specs.Billing.{IsTextIn, TextRefuses, IsAlone, HideRefuses};
 ghost use Rattle.group_plan.specs.Tables.{reading};
 ghost use Rattle.billing_read.specs.Partners.{CanExchange};
-ghost use Rattle.command_texts.specs.BillingParts.{IsOtherText, HidesPlace, FindsHidden, hide_bytes_of, AreShort, HidesIn};
+ghost use Rattle.command_texts.specs.BillingParts.{IsOtherText, HidesPlace, FindsHidden, hide_bytes_with, HidesIn};
 ghost use Rattle.command_words.specs.Commands.{hide_names_of};
 
 use crate::values::read_metered;
@@ -14,16 +16,15 @@ use command_words::{HideWords, Outcome, TextFault};
 use group_plan::{Plan, Readings};
 use plan_files::write_readings;
 use std::alloc::{AllocError, Global};
-use std::thread::Threads;
 use transcript_log::Transcript;
+use transcript_text::ReadError;
 use twin_worlds::{TwinError, transcript_of_plan};
 
-/// The bytes of the three files: a plan, its readings and a transcript.
+/// The bytes of the files that are read whole: a plan and its readings.
 #[derive(Clone, Copy)]
 pub struct HideTexts<'b> {
     pub plan: &'b [u8],
     pub readings: &'b [u8],
-    pub transcript: &'b [u8],
 }
 
 /// The text of the other readings, and the partner with which they change.
@@ -33,19 +34,19 @@ pub struct Hidden {
     pub partner: Partner,
 }
 
-// The transcript of a text, where it is of the plan.
-fn transcript_of<'a, R: Threads + Sync>(
-    rt: &R,
+// The transcript that was read, where it is of the plan.
+fn transcript_of<'a>(
     alloc: Global,
     name: &'a str,
     plan: &Plan,
-    text: &[u8],
+    read: Result<Transcript, ReadError>,
 ) -> Result<Transcript, Outcome<'a>>
-    ensures read { IfOk result (λ transcript. IsTextIn plan.now transcript text.now) }
-    ensures refused { IfErr result (TextRefuses name.now plan.now text.now) }
+    ensures read { (text : List ℕ) → IsReadOf text read → IfOk result (λ transcript. IsTextIn plan.now transcript text) }
+    ensures plan { IfOk result (λ transcript. transcript.plan ≡ plan.now) }
+    ensures refused { (text : List ℕ) → IsReadOf text read → IfErr result (TextRefuses name.now plan.now text) }
     ensures no_fault { IfErr result (λ outcome. ¬ IsFault outcome) }
 {
-    match transcript_of_plan(rt, alloc, plan, text) {
+    match transcript_of_plan(alloc, plan, read) {
         Ok(transcript) => Ok(transcript),
         Err(TwinError::Transcript(fault)) => Err(Outcome::BadText(
             name,
@@ -118,32 +119,32 @@ fn hidden_in<'a>(
 }
 
 // The readings that hide the one of the place, of a plan and readings that were read.
-fn hidden_under<'a, R: Threads + Sync>(
-    rt: &R,
+fn hidden_under<'a>(
     alloc: Global,
     words: HideWords<'a>,
     plan: &Plan,
     readings: &Readings,
-    text: &[u8],
+    read: Result<Transcript, ReadError>,
 ) -> Result<Hidden, Outcome<'a>>
     requires { readings.now.plan ≡ plan.now }
-    ensures ends { FindsHidden (hide_names_of words.entry.files) words.entry.period words.entry.place plan.now readings.now text.now result }
+    ensures ends { (text : List ℕ) → IsReadOf text read → FindsHidden (hide_names_of words.entry.files) words.entry.period words.entry.place plan.now readings.now text result }
     ensures no_fault { IfErr result (λ outcome. ¬ IsFault outcome) }
 {
-    let transcript = or_fail!(transcript_of(rt, alloc, words.files.transcript, plan, text));
+    let transcript = or_fail!(transcript_of(alloc, words.files.transcript, plan, read));
     hidden_in(alloc, words, plan, readings, &transcript)
 }
 
-/// The readings that hide the one of the place, of the three files.
-pub fn hidden_of_files<'a, R: Threads + Sync>(
-    rt: &R,
+/// The readings that hide the one of the place, of the two files and the transcript that was read.
+pub fn hidden_of_files<'a>(
     alloc: Global,
     words: HideWords<'a>,
     texts: HideTexts<'_>,
+    read: Result<Transcript, ReadError>,
 ) -> Result<Hidden, Outcome<'a>>
-    requires { AreShort (hide_bytes_of texts) }
-    ensures hidden { IfOk result (HidesIn words.entry.period words.entry.place (hide_bytes_of texts.entry)) }
-    ensures refused { IfErr result (HideRefuses (hide_names_of words.entry.files) words.entry.period words.entry.place (hide_bytes_of texts.entry)) }
+    requires plan { length texts.plan.now ≤ most_bytes }
+    requires readings { length texts.readings.now ≤ most_bytes }
+    ensures hidden { (tb : List ℕ) → IsReadOf tb read → IfOk result (HidesIn words.entry.period words.entry.place (hide_bytes_with texts.entry tb)) }
+    ensures refused { (tb : List ℕ) → IsReadOf tb read → IfErr result (HideRefuses (hide_names_of words.entry.files) words.entry.period words.entry.place (hide_bytes_with texts.entry tb)) }
     ensures no_fault { IfErr result (λ outcome. ¬ IsFault outcome) }
 {
     let files = words.files;
@@ -154,5 +155,5 @@ pub fn hidden_of_files<'a, R: Threads + Sync>(
         texts.plan,
         texts.readings,
     ));
-    hidden_under(rt, alloc, words, &file.plan, &table, texts.transcript)
+    hidden_under(alloc, words, &file.plan, &table, read)
 }

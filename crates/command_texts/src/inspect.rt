@@ -7,9 +7,9 @@ ghost use Rattle.command_words.specs.Limits.{most_bytes};
 ghost use Rattle.command_texts.specs.Inspecting.{PublicTextRefuses, TextsRefuse, TimesRefuse, InspectRefuses, OfPlan, IsInspected};
 ghost use Rattle.group_plan.specs.Plans.{PlanView};
 ghost use Rattle.event_schedule.specs.Transcripts.{TranscriptView};
-ghost use Rattle.twin_worlds.specs.Twins.{IsTextOf};
+ghost use Rattle.twin_worlds.specs.Twins.{IsReadOf, IsTextOf};
 ghost use Rattle.command_words.specs.Commands.{inspect_names_of};
-ghost use Rattle.command_texts.specs.InspectParts.{TextsRead, Judged, inspect_bytes_of};
+ghost use Rattle.command_texts.specs.InspectParts.{TextsRead, Judged, inspect_bytes_with};
 ghost use Rattle.run_course.specs.Beginnings.{IsSomeRun};
 
 use crate::audit::report_of;
@@ -19,17 +19,15 @@ use group_plan::Plan;
 use plan_files::{Failed, read_public};
 use run_course::{CourseError, in_time};
 use std::alloc::Global;
-use std::thread::Threads;
 use totals_report::Report;
 use transcript_log::Transcript;
-use transcript_text::entry_line;
+use transcript_text::{ReadError, entry_line};
 use twin_worlds::{TwinError, transcript_of_plan};
 
-/// The bytes of the three files: a public plan, a transcript and a report.
+/// The bytes of the files that are read whole: a public plan and a report.
 #[derive(Clone, Copy)]
 pub struct InspectTexts<'b> {
     pub public: &'b [u8],
-    pub transcript: &'b [u8],
     pub report: &'b [u8],
 }
 
@@ -58,19 +56,18 @@ fn other_plan<'a>(alloc: Global, files: InspectFiles<'a>, report: &[u8]) -> Outc
     }
 }
 
-// The transcript and the report of two texts, where the transcript is of the plan.
-fn read_texts<'a, R: Threads + Sync>(
-    rt: &R,
+// The transcript that was read and the report of a text, where the transcript is of the plan.
+fn read_texts<'a>(
     alloc: Global,
     files: InspectFiles<'a>,
     plan: &Plan,
-    transcript: &[u8],
+    read: Result<Transcript, ReadError>,
     report: &[u8],
 ) -> Result<(Transcript, Report), Outcome<'a>>
-    ensures ends { TextsRead (inspect_names_of files.entry) plan.now transcript.now report.now result }
+    ensures ends { (tb : List ℕ) → IsReadOf tb read → TextsRead (inspect_names_of files.entry) plan.now tb report.now result }
     ensures no_fault { IfErr result (λ outcome. ¬ IsFault outcome) }
 {
-    let transcript = match transcript_of_plan(rt, alloc, plan, transcript) {
+    let transcript = match transcript_of_plan(alloc, plan, read) {
         Ok(transcript) => transcript,
         Err(TwinError::Head) => return Err(other_plan(alloc, files, report)),
         Err(TwinError::Transcript(fault)) => {
@@ -137,26 +134,19 @@ fn judge<'a>(
     }
 }
 
-/// What the three files come to.
-pub fn inspect_texts<'a, R: Threads + Sync>(
-    rt: &R,
+/// What the two files and the transcript that was read come to.
+pub fn inspect_texts<'a>(
     alloc: Global,
     files: InspectFiles<'a>,
     texts: InspectTexts<'_>,
+    read: Result<Transcript, ReadError>,
 ) -> Result<Inspected, Outcome<'a>>
     requires { length texts.public.now ≤ most_bytes }
-    ensures found { IfOk result (λ found. OfPlan (inspect_bytes_of texts.entry) (λ t rows. IsInspected t rows found)) }
-    ensures refused { IfErr result (InspectRefuses (inspect_names_of files.entry) (inspect_bytes_of texts.entry)) }
+    ensures found { (tb : List ℕ) → IsReadOf tb read → IfOk result (λ found. OfPlan (inspect_bytes_with texts.entry tb) (λ t rows. IsInspected t rows found)) }
+    ensures refused { (tb : List ℕ) → IsReadOf tb read → IfErr result (InspectRefuses (inspect_names_of files.entry) (inspect_bytes_with texts.entry tb)) }
     ensures no_fault { IfErr result (λ outcome. ¬ IsFault outcome) }
 {
     let plan = or_fail!(public_in(alloc, files.public, texts.public));
-    let (transcript, report) = or_fail!(read_texts(
-        rt,
-        alloc,
-        files,
-        &plan,
-        texts.transcript,
-        texts.report
-    ));
+    let (transcript, report) = or_fail!(read_texts(alloc, files, &plan, read, texts.report));
     judge(alloc, files.transcript, &transcript, &report)
 }

@@ -37,46 +37,49 @@ bill_ends names period v u w outcome made p r gp gr text line p_read r_read afte
 -- ---- `hide`
 
 -- the bytes of three files that were read one after the other
-three_read : (names : HideNames) (v u : View) (p r t : List ℕ) → IsRead (v.held names.plan) p → IsRead (v.held names.readings) r → u ≡ after_fetches (names.plan ∷ names.readings ∷ []) v
+three_read : (names : HideNames) (v u : View) (p r t : List ℕ) → IsRead (v.held names.plan) p → u ≡ after_fetches (names.plan ∷ []) v → IsRead (u.held names.readings) r
     → IsRead (u.held names.transcript) t → AreHideBytes names v (record { plan = p; readings = r; transcript = t })
-three_read names v u p r t p_read r_read after t_read = record { plan = p_read; readings = r_read; transcript = read_after (names.plan ∷ names.readings ∷ []) names.transcript t v u after t_read }
+three_read names v u p r t p_read after r_read t_read = record {
+  plan = p_read;
+  readings = read_after (names.plan ∷ []) names.readings r v u after r_read;
+  transcript = read_after (names.plan ∷ []) names.transcript t v u after t_read;
+}
 
--- the three texts that are judged are the bytes that were read
-same_texts : (P : HideBytes → Type 0) (p r t gp gr gt : List ℕ) → gp ≡ p → gr ≡ r → gt ≡ t → P (record { plan = gp; readings = gr; transcript = gt }) → P (record { plan = p; readings = r; transcript = t })
-same_texts P p r t gp gr gt p_is r_is t_is holds =
-    subst (λ x. P (record { plan = p; readings = r; transcript = x })) t_is
-    (subst (λ x. P (record { plan = p; readings = x; transcript = gt })) r_is (subst (λ x. P (record { plan = x; readings = gr; transcript = gt })) p_is holds))
+-- the two texts that are borrowed are the bytes that were fetched
+same_texts : (P : HideBytes → Type 0) (p r t gp gr : List ℕ) → gp ≡ p → gr ≡ r → P (record { plan = gp; readings = gr; transcript = t }) → P (record { plan = p; readings = r; transcript = t })
+same_texts P p r t gp gr p_is r_is holds =
+    subst (λ x. P (record { plan = p; readings = x; transcript = t })) r_is (subst (λ x. P (record { plan = x; readings = gr; transcript = t })) p_is holds)
 
-three_after : (names : HideNames) (v u w : View) → u ≡ after_fetches (names.plan ∷ names.readings ∷ []) v → w ≡ after_fetches (names.transcript ∷ []) u → w ≡ after_fetches (hidden_by names) v
-three_after names v u w first second = second ∙ ap (after_fetches (names.transcript ∷ [])) first
+three_after : (names : HideNames) (v u w : View) → u ≡ after_fetches (names.plan ∷ []) v → w ≡ after_fetches (names.readings ∷ names.transcript ∷ []) u → w ≡ after_fetches (hidden_by names) v
+three_after names v u w first second = second ∙ ap (after_fetches (names.readings ∷ names.transcript ∷ [])) first
 
 -- it is refused
-pub hide_refused : (names : HideNames) (period : Period) (place : PlaceWords) (v u w : View) (outcome : Outcome) (p r t gp gr gt : List ℕ) → IsRead (v.held names.plan) p → IsRead (v.held names.readings) r
-    → u ≡ after_fetches (names.plan ∷ names.readings ∷ []) v → IsRead (u.held names.transcript) t → w ≡ after_fetches (names.transcript ∷ []) u → gp ≡ p → gr ≡ r → gt ≡ t
-    → HideRefuses names period place (record { plan = gp; readings = gr; transcript = gt }) outcome → HideEnds names period place v w outcome
-hide_refused names period place v u w outcome p r t gp gr gt p_read r_read first t_read second p_is r_is t_is refused =
+pub hide_refused : (names : HideNames) (period : Period) (place : PlaceWords) (v u w : View) (outcome : Outcome) (p r t gp gr : List ℕ) → IsRead (v.held names.plan) p → u ≡ after_fetches (names.plan ∷ []) v
+    → IsRead (u.held names.readings) r → IsRead (u.held names.transcript) t → w ≡ after_fetches (names.readings ∷ names.transcript ∷ []) u → gp ≡ p → gr ≡ r
+    → HideRefuses names period place (record { plan = gp; readings = gr; transcript = t }) outcome → HideEnds names period place v w outcome
+hide_refused names period place v u w outcome p r t gp gr p_read first r_read t_read second p_is r_is refused =
     inr (
       record { plan = p; readings = r; transcript = t },
-      three_read names v u p r t p_read r_read first t_read,
-      inl (same_texts (λ bytes. HideRefuses names period place bytes outcome) p r t gp gr gt p_is r_is t_is refused, three_after names v u w first second),
+      three_read names v u p r t p_read first r_read t_read,
+      inl (same_texts (λ bytes. HideRefuses names period place bytes outcome) p r t gp gr p_is r_is refused, three_after names v u w first second),
     )
 
 -- the other table is put
-pub hide_ends : (names : HideNames) (period : Period) (place : PlaceWords) (v u x w : View) (outcome : Outcome) (found : Hidden) (p r t gp gr gt text line : List ℕ) → IsRead (v.held names.plan) p
-    → IsRead (v.held names.readings) r → u ≡ after_fetches (names.plan ∷ names.readings ∷ []) v → IsRead (u.held names.transcript) t → x ≡ after_fetches (names.transcript ∷ []) u
-    → gp ≡ p → gr ≡ r → gt ≡ t → HidesIn period place (record { plan = gp; readings = gr; transcript = gt }) found → text ≡ found.text.items
+pub hide_ends : (names : HideNames) (period : Period) (place : PlaceWords) (v u x w : View) (outcome : Outcome) (found : Hidden) (p r t gp gr text line : List ℕ) → IsRead (v.held names.plan) p
+    → u ≡ after_fetches (names.plan ∷ []) v → IsRead (u.held names.readings) r → IsRead (u.held names.transcript) t → x ≡ after_fetches (names.readings ∷ names.transcript ∷ []) u
+    → gp ≡ p → gr ≡ r → HidesIn period place (record { plan = gp; readings = gr; transcript = t }) found → text ≡ found.text.items
     → line ≡ hidden_line found.partner.round found.partner.meter → PutsEnd (putting names.other text ∷ []) line x w outcome → HideEnds names period place v w outcome
-hide_ends names period place v u x w outcome found p r t gp gr gt text line p_read r_read first t_read second p_is r_is t_is (y, hides, text_is) text_of line_of ends =
+hide_ends names period place v u x w outcome found p r t gp gr text line p_read first r_read t_read second p_is r_is (y, hides, text_is) text_of line_of ends =
     let by_text : PutsEnd (putting names.other (readings_text y) ∷ []) line x w outcome = subst (λ t. PutsEnd (putting names.other t ∷ []) line x w outcome) (text_of ∙ text_is) ends in
     let by_line : PutsEnd (putting names.other (readings_text y) ∷ []) (hidden_line found.partner.round found.partner.meter) x w outcome
     = subst (λ l. PutsEnd (putting names.other (readings_text y) ∷ []) l x w outcome) line_of by_text in
     inr (
       record { plan = p; readings = r; transcript = t },
-      three_read names v u p r t p_read r_read first t_read,
+      three_read names v u p r t p_read first r_read t_read,
       inr (
         found.partner,
         y,
-        same_texts (λ bytes. OfHidden bytes (λ plan z lines. IsHidden period place plan z lines found.partner y)) p r t gp gr gt p_is r_is t_is hides,
+        same_texts (λ bytes. OfHidden bytes (λ plan z lines. IsHidden period place plan z lines found.partner y)) p r t gp gr p_is r_is hides,
         subst (λ x. PutsEnd (putting names.other (readings_text y) ∷ []) (hidden_line found.partner.round found.partner.meter) x w outcome) (three_after names v u x first second) by_line,
       ),
     )

@@ -20,36 +20,34 @@ three_after : (names : InspectNames) (v u w : View) → u ≡ after_fetches (nam
     → w ≡ after_fetches (inspected_by names) v
 three_after names v u w first second = second ∙ ap (after_fetches (names.report ∷ [])) first
 
--- the three texts that are judged are the bytes that were read
-same_texts : (P : InspectBytes → Type 0) (p t r gp gt gr : List ℕ) → gp ≡ p → gt ≡ t → gr ≡ r → P (record { public = gp; transcript = gt; report = gr })
-    → P (record { public = p; transcript = t; report = r })
-same_texts P p t r gp gt gr p_is t_is r_is holds =
-    subst (λ x. P (record { public = p; transcript = t; report = x })) r_is
-    (subst (λ x. P (record { public = p; transcript = x; report = gr })) t_is (subst (λ x. P (record { public = x; transcript = gt; report = gr })) p_is holds))
+-- the two texts that are borrowed are the bytes that were fetched
+same_texts : (P : InspectBytes → Type 0) (p t r gp gr : List ℕ) → gp ≡ p → gr ≡ r → P (record { public = gp; transcript = t; report = gr }) → P (record { public = p; transcript = t; report = r })
+same_texts P p t r gp gr p_is r_is holds =
+    subst (λ x. P (record { public = p; transcript = t; report = x })) r_is (subst (λ x. P (record { public = x; transcript = t; report = gr })) p_is holds)
 
 -- it is refused
-pub inspect_refused : (names : InspectNames) (v u w : View) (outcome : Outcome) (p t r gp gt gr : List ℕ) → IsRead (v.held names.public) p → IsRead (v.held names.transcript) t
-    → u ≡ after_fetches (names.public ∷ names.transcript ∷ []) v → IsRead (u.held names.report) r → w ≡ after_fetches (names.report ∷ []) u → gp ≡ p → gt ≡ t → gr ≡ r
-    → InspectRefuses names (record { public = gp; transcript = gt; report = gr }) outcome → InspectCommandEnds names v w outcome
-inspect_refused names v u w outcome p t r gp gt gr p_read t_read first r_read second p_is t_is r_is refused =
+pub inspect_refused : (names : InspectNames) (v u w : View) (outcome : Outcome) (p t r gp gr : List ℕ) → IsRead (v.held names.public) p → IsRead (v.held names.transcript) t
+    → u ≡ after_fetches (names.public ∷ names.transcript ∷ []) v → IsRead (u.held names.report) r → w ≡ after_fetches (names.report ∷ []) u → gp ≡ p → gr ≡ r
+    → InspectRefuses names (record { public = gp; transcript = t; report = gr }) outcome → InspectCommandEnds names v w outcome
+inspect_refused names v u w outcome p t r gp gr p_read t_read first r_read second p_is r_is refused =
     inr (
       record { public = p; transcript = t; report = r },
       three_read names v u p t r p_read t_read first r_read,
-      inl (same_texts (λ bytes. InspectRefuses names bytes outcome) p t r gp gt gr p_is t_is r_is refused, three_after names v u w first second),
+      inl (same_texts (λ bytes. InspectRefuses names bytes outcome) p t r gp gr p_is r_is refused, three_after names v u w first second),
     )
 
 -- what was counted is said
-pub inspect_ends : (names : InspectNames) (v u x w : View) (outcome : Outcome) (found : Inspected) (p t r gp gt gr line : List ℕ) → IsRead (v.held names.public) p
+pub inspect_ends : (names : InspectNames) (v u x w : View) (outcome : Outcome) (found : Inspected) (p t r gp gr line : List ℕ) → IsRead (v.held names.public) p
     → IsRead (v.held names.transcript) t → u ≡ after_fetches (names.public ∷ names.transcript ∷ []) v → IsRead (u.held names.report) r → x ≡ after_fetches (names.report ∷ []) u
-    → gp ≡ p → gt ≡ t → gr ≡ r → OfPlan (record { public = gp; transcript = gt; report = gr }) (λ t rows. IsInspected t rows found) → line ≡ line_of found
+    → gp ≡ p → gr ≡ r → OfPlan (record { public = gp; transcript = t; report = gr }) (λ t rows. IsInspected t rows found) → line ≡ line_of found
     → PutsEnd [] line x w outcome → InspectCommandEnds names v w outcome
-inspect_ends names v u x w outcome found p t r gp gt gr line p_read t_read first r_read second p_is t_is r_is inspected line_is ends =
+inspect_ends names v u x w outcome found p t r gp gr line p_read t_read first r_read second p_is r_is inspected line_is ends =
     inr (
       record { public = p; transcript = t; report = r },
       three_read names v u p t r p_read t_read first r_read,
       inr (
         found,
-        same_texts (λ bytes. OfPlan bytes (λ t rows. IsInspected t rows found)) p t r gp gt gr p_is t_is r_is inspected,
+        same_texts (λ bytes. OfPlan bytes (λ t rows. IsInspected t rows found)) p t r gp gr p_is r_is inspected,
         subst (λ x. PutsEnd [] (line_of found) x w outcome) (three_after names v u x first second) (subst (λ l. PutsEnd [] l x w outcome) line_is ends),
       ),
     )

@@ -6,8 +6,8 @@ ghost use Rattle.command_words.specs.Commands.{hide_names_of};
 ghost use Rattle.command_words.specs.Outcomes.{IsFault};
 ghost use Rattle.file_commands.specs.BillingEnds.{HideEnds};
 
-use billing_read::partner;
-use command_files::{NewFile, Source, fetch, fetch_two, put_one};
+use crate::pouring::fetch_and_pour;
+use command_files::{NewFile, Source, fetch, put_one};
 use command_texts::{HideTexts, hidden_line, hidden_of_files};
 use command_words::{HideWords, Outcome};
 use desk_outside::{Desk, Readers};
@@ -27,14 +27,19 @@ pub fn hide<'a, R: Threads + Sync, D: Desk>(
     ensures cause { IsFault result → Rose (D.faults desk.old) (D.faults desk.new) }
 {
     let files = words.files;
-    let (plan, readings) = or_end!(fetch_two(alloc, files.plan, files.readings, desk));
-    let transcript = or_end!(fetch(alloc, files.transcript, desk));
+    let plan = or_end!(fetch(alloc, files.plan, desk));
+    let (readings, read) = or_end!(fetch_and_pour(
+        rt,
+        alloc,
+        files.readings,
+        files.transcript,
+        desk
+    ));
     let texts = HideTexts {
         plan: &plan,
         readings: &readings,
-        transcript: &transcript,
     };
-    let hidden = or_end!(hidden_of_files(rt, alloc, words, texts));
+    let hidden = or_end!(hidden_of_files(alloc, words, texts, read));
     let partner = hidden.partner;
     let Ok(line) = hidden_line(alloc, partner.round, partner.meter) else {
         return Outcome::NoMemory;

@@ -6,7 +6,8 @@ ghost use Rattle.command_words.specs.Commands.{inspect_names_of};
 ghost use Rattle.command_words.specs.Outcomes.{IsFault};
 ghost use Rattle.file_commands.specs.InspectEnds.{InspectCommandEnds};
 
-use command_files::{fetch, fetch_two, say};
+use crate::pouring::fetch_and_pour;
+use command_files::{fetch, say};
 use command_texts::{InspectTexts, inspect_texts, inspected_line};
 use command_words::{InspectFiles, Outcome};
 use desk_outside::Desk;
@@ -26,14 +27,13 @@ pub fn inspect<'a, R: Threads + Sync, D: Desk>(
     ensures later { D.faults desk.old ≤ D.faults desk.new }
     ensures cause { IsFault result → Rose (D.faults desk.old) (D.faults desk.new) }
 {
-    let (public, transcript) = or_end!(fetch_two(alloc, files.public, files.transcript, desk));
+    let (public, read) = or_end!(fetch_and_pour(rt, alloc, files.public, files.transcript, desk));
     let report = or_end!(fetch(alloc, files.report, desk));
     let texts = InspectTexts {
         public: &public,
-        transcript: &transcript,
         report: &report,
     };
-    let found = or_end!(inspect_texts(rt, alloc, files, texts));
+    let found = or_end!(inspect_texts(alloc, files, texts, read));
     let Ok(line) = inspected_line(alloc, found) else {
         return Outcome::NoMemory;
     };

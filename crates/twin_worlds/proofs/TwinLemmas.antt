@@ -4,6 +4,7 @@ use Rattle.std.specs.Prelude.{reverse, Option, Some, None, Result, Ok, Err}
 use Rattle.chacha_lanes.proofs.WordBounds.{mask_word_small}
 use Rattle.mask_stream.specs.KeyStreams.{word_of as stream_word_of, streams}
 use Rattle.pair_keys.specs.Keys.{Keys}
+use Rattle.group_plan.specs.Plans.{PlanView}
 use Rattle.group_plan.specs.Tables.{ReadingsView, IsReadingTable, reading}
 use Rattle.event_schedule.specs.Events.{events_of}
 use Rattle.event_schedule.specs.Tables.{Masks, IsMasks}
@@ -23,7 +24,7 @@ use Rattle.twin_worlds.specs.MovedRows.{rows_of, AreMoved}
 use Rattle.twin_worlds.specs.declared.answers.PoolTwinError.{PoolTwinError}
 use Rattle.twin_worlds.specs.declared.answers.PoolTwinError.TheVariants as pool_twin
 use Rattle.twin_worlds.specs.Twins.{IsTextOf, lines_under, IsRecord, shifted_for, SameWorldEnds, TwinEnds, PooledTwinEnds}
-use Rattle.twin_worlds.specs.Ends.{TextEnds, BookEnds, RecordBookEnds, AgreementEnds, PooledAgreementEnds}
+use Rattle.twin_worlds.specs.Ends.{TextEnds, HeadEnds, BookEnds, RecordBookEnds, AgreementEnds, PooledAgreementEnds}
 use Rattle.twin_worlds.proofs.MovedLemmas.{are-moved}
 
 -- ---- the stream words of keys
@@ -44,6 +45,14 @@ text-refused m x text twin.Head ends = absurd ends
 text-refused m x text (twin.NotThis line expected found tick fate) ends = absurd ends
 text-refused m x text (twin.Differ cause) ends = absurd ends
 text-refused m x text twin.Memory ends = tt
+
+-- the text is refused
+pub head-refused : (plan : PlanView) (text : List ℕ) (e : TwinError) → TextEnds text (Err e) → HeadEnds plan text (Err e)
+head-refused plan text (twin.Transcript refusal) ends = ends
+head-refused plan text twin.Head ends = absurd ends
+head-refused plan text (twin.NotThis line expected found tick fate) ends = absurd ends
+head-refused plan text (twin.Differ cause) ends = absurd ends
+head-refused plan text twin.Memory ends = tt
 
 -- the plan is refused, or a line is
 pub book-refused : (m : Masks) (x : ReadingsView) (text : List ℕ) (t : TranscriptView) (e : TwinError) → IsTextOf t text → RecordBookEnds m x t (Err e) → SameWorldEnds m x text (Err e)

@@ -38,6 +38,13 @@ HeadEnds plan text (Err twin.Head) = (t : TranscriptView) × IsTextOf t text × 
 HeadEnds plan text (Err twin.Memory) = ⊤
 HeadEnds plan text (Err _) = ⊥
 
+-- a transcript is refused for its text or its plan, or for want of memory
+abbrev pub IsHeadRefusal : TwinError → Type 0
+IsHeadRefusal (twin.Transcript refusal) = ⊤
+IsHeadRefusal twin.Head = ⊤
+IsHeadRefusal twin.Memory = ⊤
+IsHeadRefusal _ = ⊥
+
 -- the lines are those of x under m, or this is the first that isn't
 abbrev pub LinesEnd : Masks → ReadingsView → TranscriptView → Result (Unit {0}) TwinError → Type 0
 LinesEnd m x t (Ok done) = lines_of t.entries ≡ lines_under x m t

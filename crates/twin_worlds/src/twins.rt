@@ -1,12 +1,12 @@
 //! Two worlds of one transcript.
 
-ghost use Rattle.std.specs.Prelude.{◌≡◌, ℕ, List, IfOk};
+ghost use Rattle.std.specs.Prelude.{◌≡◌, ℕ, List, IfOk, IfErr};
 ghost use Rattle.pair_keys.specs.Keys.{table_of};
 ghost use Rattle.group_plan.specs.Tables.{presence_of};
 ghost use Rattle.mask_stream.specs.KeyStreams.{streams};
 ghost use Rattle.ideal_masks.specs.Pools.{pool_of};
 ghost use Rattle.ideal_masks.specs.Replaying.{events_in};
-ghost use Rattle.twin_worlds.specs.Ends.{TextEnds, HeadEnds, RecordBookEnds, AgreementEnds, PooledAgreementEnds};
+ghost use Rattle.twin_worlds.specs.Ends.{TextEnds, HeadEnds, IsHeadRefusal, RecordBookEnds, AgreementEnds, PooledAgreementEnds};
 ghost use Rattle.twin_worlds.specs.Twins.{IsReadOf, SameWorldEnds, TwinEnds, PooledTwinEnds};
 
 use crate::comparing::book_of;
@@ -26,7 +26,8 @@ use transcript_text::{ReadError, read};
 
 // The transcript that was read, or the fault of its text as a twin tells it.
 fn transcript_of(read: Result<Transcript, ReadError>) -> Result<Transcript, TwinError>
-    ensures { (text : List ℕ) → IsReadOf text read → TextEnds text result }
+    ensures ends { (text : List ℕ) → IsReadOf text read → TextEnds text result }
+    ensures refused { IfErr result IsHeadRefusal }
 {
     match read {
         Ok(transcript) => Ok(transcript),
@@ -42,27 +43,17 @@ fn read_text<R: Threads + Sync>(rt: &R, alloc: Global, text: &[u8]) -> Result<Tr
     read(rt, alloc, text)
 }
 
-// The transcript of a text.
-fn transcript_of_text<R: Threads + Sync>(
-    rt: &R,
-    alloc: Global,
-    text: &[u8],
-) -> Result<Transcript, TwinError>
-    ensures { TextEnds text.now result }
-{
-    transcript_of(read_text(rt, alloc, text))
-}
-
-/// The transcript of a text, where it is of this plan; else `Transcript`, `Head` or `Memory`.
-pub fn transcript_of_plan<R: Threads + Sync>(
-    rt: &R,
+/// The transcript that was read, where it is of this plan; else `Transcript`, `Head` or `Memory`.
+pub fn transcript_of_plan(
     alloc: Global,
     plan: &Plan,
-    text: &[u8],
+    read: Result<Transcript, ReadError>,
 ) -> Result<Transcript, TwinError>
-    ensures { HeadEnds plan.now text.now result }
+    ensures ends { (text : List ℕ) → IsReadOf text read → HeadEnds plan.now text result }
+    ensures plan { IfOk result (λ t. t.plan ≡ plan.now) }
+    ensures refused { IfErr result IsHeadRefusal }
 {
-    let transcript = transcript_of_text(rt, alloc, text)?;
+    let transcript = transcript_of(read)?;
     if is_same_plan(alloc, transcript.plan(), plan)? {
         Ok(transcript)
     } else {

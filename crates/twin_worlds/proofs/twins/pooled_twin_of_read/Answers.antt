@@ -22,7 +22,7 @@ returns-in_err-transcript g c = λ text read.
     let m = streams (table_of c.args.keys.now) in
     let e : TwinError = c.in_err-transcript.field-0.0 in
     let answered : Err (Other e) ≡ c.from_residual.result = search (rules, c.from_residual.ensures) in
-    subst (PooledTwinEnds (pool_of c.args.known.now) m x y text) answered (world-refused_for (pool_of c.args.known.now) m x y text e (text-refused m x text e (c.in_err-transcript.ensures text read)))
+    subst (PooledTwinEnds (pool_of c.args.known.now) m x y text) answered (world-refused_for (pool_of c.args.known.now) m x y text e (text-refused m x text e (c.in_err-transcript.ensures.ends text read)))
 
 pub returns-in_err-book : goal.returns-in_err-book
 returns-in_err-book g c = λ text read.
@@ -33,7 +33,7 @@ returns-in_err-book g c = λ text read.
     let e : TwinError = c.in_err-book.field-0.0 in
     let answered : Err (Other e) ≡ c.from_residual-in_err-book.result = search (rules, c.from_residual-in_err-book.ensures) in
     subst (PooledTwinEnds (pool_of c.args.known.now) m x y text) answered
-    (world-refused_for (pool_of c.args.known.now) m x y text e (book-refused m x text t e (c.in_ok-transcript.ensures text read) (subst (λ k. RecordBookEnds k x t (Err e)) c.new-masks.ensures.words c.in_err-book.ensures)))
+    (world-refused_for (pool_of c.args.known.now) m x y text e (book-refused m x text t e (c.in_ok-transcript.ensures.ends text read) (subst (λ k. RecordBookEnds k x t (Err e)) c.new-masks.ensures.words c.in_err-book.ensures)))
 
 pub returns-in_err-offsets : goal.returns-in_err-offsets
 returns-in_err-offsets g c = λ text read.
@@ -44,7 +44,7 @@ returns-in_err-offsets g c = λ text read.
     let b = c.in_ok-book.book in
     let e : PoolTwinError = c.in_err-offsets.field-0.0 in
     let answered : Err e ≡ c.from_residual-in_err-offsets.result = search (rules, c.from_residual-in_err-offsets.ensures) in
-    let is : IsRecord m x text t = subst (λ k. IsRecord k x text t) c.new-masks.ensures.words (is-record _ x text t b (c.in_ok-transcript.ensures text read) c.in_ok-book.ensures) in
+    let is : IsRecord m x text t = subst (λ k. IsRecord k x text t) c.new-masks.ensures.words (is-record _ x text t b (c.in_ok-transcript.ensures.ends text read) c.in_ok-book.ensures) in
     subst (PooledTwinEnds (pool_of c.args.known.now) m x y text) answered (tables-refused_for (pool_of c.args.known.now) m x y text t e is (subst (λ es. PooledAgreementEnds (pool_of c.args.known.now) x y es (Err e)) (events-same x (events_of t.entries) b c.in_ok-book.ensures.2) c.in_err-offsets.ensures))
 
 pub agreed_pooled_offsets-requires-clause-first : goal.agreed_pooled_offsets-requires-clause-first
@@ -61,6 +61,6 @@ returns g c = λ text read.
     let m = streams (table_of c.args.keys.now) in
     let t = c.in_ok-transcript.transcript in
     let b = c.in_ok-book.book in
-    let is : IsRecord m x text t = subst (λ k. IsRecord k x text t) c.new-masks.ensures.words (is-record _ x text t b (c.in_ok-transcript.ensures text read) c.in_ok-book.ensures) in
+    let is : IsRecord m x text t = subst (λ k. IsRecord k x text t) c.new-masks.ensures.words (is-record _ x text t b (c.in_ok-transcript.ensures.ends text read) c.in_ok-book.ensures) in
     twins-are (pool_of c.args.known.now) m x y text t c.in_ok-offsets.offsets c.in_ok-moved_rows.field-0 (streams_small (table_of c.args.keys.now)) c.plan.ensures.table c.requires.second
     is (subst (λ es. PooledAgreementEnds (pool_of c.args.known.now) x y es (Ok c.in_ok-offsets.offsets)) (events-same x (events_of t.entries) b c.in_ok-book.ensures.2) c.in_ok-offsets.ensures) (subst (λ k. c.in_ok-moved_rows.field-0 ≡ rows_of k c.in_ok-offsets.offsets) c.new-masks.ensures.words c.in_ok-moved_rows.ensures.rows)
