@@ -1,11 +1,12 @@
 #!/usr/bin/env python3
-"""Runs the built program on plan files and readings files of 64 MB with rows that no such file has, and looks at how each is
-refused, and in how much memory.
+"""Runs the built program on plan files, readings files and transcripts of 64 MB with lines that no such file has, and looks at how
+each is refused, in how much memory, and how fast.
 
     tests/long_rows.py [--program PROGRAM]
 
-A run is a finding where its status or its complaint is another than the rules of the file say, or where it takes more than
-64 MB more than the file's bytes. The exit status is 0 where there is no finding, and 1 where there is one.
+A run is a finding where its status or its complaint is another than the rules of the file say, where it takes more than 64 MB
+more than the file's bytes, or more than four seconds of processor time. The exit status is 0 where there is no finding, and 1
+where there is one.
 """
 import argparse
 import os
@@ -17,6 +18,7 @@ HERE = os.path.dirname(os.path.abspath(__file__))
 PROGRAM = os.path.join(HERE, "..", "crates", "meteragg", "out", "meteragg")
 SIZE = 1 << 26
 MOST_MORE = 64 << 20
+MOST_SECONDS = 4
 PIECE = 1 << 16
 
 ZEROS = b"0" * 64
@@ -25,6 +27,11 @@ NORTH = b"group,north,3,2\n" + b"".join(
     b"own,0,%d,%s\n" % (meter, ZEROS) for meter in range(3)
 ) + b"".join(b"pair,0,%d,%d,%s\n" % (low, high, ZEROS) for low, high in ((0, 1), (0, 2), (1, 2)))
 READINGS = b"north,0,10,20,30\n"
+TRANSCRIPT = b"meteragg transcript 2\nrounds,1\nwindows,1,2\ngroup,north,3,2\nbegin\n"
+REPORT = b"group,round,survivors,missing,outcome,total\nnorth,0,3,-,total,60\n"
+
+RUN = ["run", "plan", "readings", "out", "new"]
+AUDIT = ["audit", "transcript", "report"]
 
 # Each row: what it is, the file that it is, its beginning, the bytes that fill it, its end, the status and the complaint.
 FILES = [
@@ -41,6 +48,8 @@ FILES = [
     ("a long key", "plan", HEAD + NORTH + b"own,0,0,", b"0", b"\n", 5, "plan row 11: Hex"),
     ("a quoted name", "plan", HEAD + b'group,"', b"n", b'",3,2\n', 5, "plan row 4: Name"),
     ("an argument of commas", "plan", HEAD + NORTH + b"lane,every", b",", b"\n", 5, "plan row 11: Fields"),
+    ("a line of commas", "transcript", TRANSCRIPT, b",", b"", 7, "transcript line 6: NoEnd"),
+    ("entries behind a fault", "transcript", TRANSCRIPT + b"x\n", b"1,t,0,0,r,0,fresh\n", b"", 7, "transcript line 6: Line"),
 ]
 
 
@@ -56,10 +65,10 @@ def write(path, head, filling, tail):
         file.write(tail)
 
 
-def run(program, folder):
-    """The status of a run in the folder, what it complains of, and the most memory that it had."""
+def run(program, words, folder):
+    """The status of the program in the folder, what it complains of, the most memory that it had, and its processor seconds."""
     process = subprocess.Popen(
-        [program, "run", "plan", "readings", "report", "transcript"],
+        [program, *words],
         cwd=folder,
         stdout=subprocess.DEVNULL,
         stderr=subprocess.PIPE,
@@ -68,7 +77,7 @@ def run(program, folder):
     _, status, usage = os.wait4(process.pid, 0)
     process.stderr.close()
     process.returncode = os.waitstatus_to_exitcode(status)
-    return process.returncode, complaint, usage.ru_maxrss << 10
+    return process.returncode, complaint, usage.ru_maxrss << 10, usage.ru_utime + usage.ru_stime
 
 
 def main():
@@ -78,16 +87,17 @@ def main():
     findings = 0
     with tempfile.TemporaryDirectory() as folder:
         for what, name, head, filling, tail, status, complaint in FILES:
-            for other, text in (("plan", HEAD + NORTH), ("readings", READINGS)):
+            for other, text in (("plan", HEAD + NORTH), ("readings", READINGS), ("report", REPORT)):
                 with open(os.path.join(folder, other), "wb") as file:
                     file.write(text)
             write(os.path.join(folder, name), head, filling, tail)
-            came = run(program, folder)
+            came = run(program, AUDIT if name == "transcript" else RUN, folder)
             wanted = (status, f"meteragg: {complaint}\n")
-            more = came[2] - SIZE
-            if came[:2] != wanted or more > MOST_MORE:
+            more, seconds = came[2] - SIZE, came[3]
+            if came[:2] != wanted or more > MOST_MORE or seconds > MOST_SECONDS:
                 findings += 1
-                print(f"{what} ({name}): status {came[0]}, {came[1]!r}, {more >> 20} MB more than the file", file=sys.stderr)
+                found = f"status {came[0]}, {came[1]!r}, {more >> 20} MB more than the file, {seconds:.1f} s"
+                print(f"{what} ({name}): {found}", file=sys.stderr)
     return 1 if findings else 0
 
 

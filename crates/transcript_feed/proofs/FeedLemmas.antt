@@ -61,16 +61,15 @@ pub can_take : {R S : Type 0} (has : S → PlanView → List Entry → Type 0) (
     → CanTakeEntries has b.sink (entries_of b.read.items)
 can_take has version text b is = record { plan = b.feed.reader.plan; front = is.taken; taken = is.sink; fits = is.fits; ticks = is.ticks }
 
--- what is left where no more bytes come
-pub all_left : {R S : Type 0} (has : S → PlanView → List Entry → Type 0) (version : Version) (text : List ℕ) (b : Body R S) (is : IsBodyOf has version text b)
-    (r : ReaderView) (bytes : List ℕ) (a : AheadView) → r ≡ b.feed.reader → bytes ≡ b.feed.rest → IsBehind r bytes a
-    → read_of version text ≡ with_entries a.plan (before (is.taken ++ entries_of b.read.items) a.left)
-all_left has version text b is r bytes a r_is bytes_is behind =
+-- what is left where these are the last bytes
+pub all_left : {R S : Type 0} (has : S → PlanView → List Entry → Type 0) (version : Version) (text final : List ℕ) (b : Body R S) (is : IsBodyOf has version text b)
+    (r : ReaderView) (bytes : List ℕ) (a : AheadView) → r ≡ b.feed.reader → bytes ≡ b.feed.rest ++ final → IsBehind r bytes a
+    → read_of version (text ++ final) ≡ with_entries a.plan (before (is.taken ++ entries_of b.read.items) a.left)
+all_left has version text final b is r bytes a r_is bytes_is behind =
     let plan : a.plan ≡ b.feed.reader.plan = behind.plan ∙ ap (λ (v : ReaderView). v.plan) r_is in
-    let left : left_with b.feed [] ≡ a.left
-    = ap (left_of b.feed.reader) (append-nil b.feed.rest ∙ sym bytes_is) ∙ ap (λ (v : ReaderView). left_of v bytes) (sym r_is) ∙ sym behind.left in
-    ap (read_of version) (sym (append-nil text)) ∙ is.left []
-    ∙ ap (with_entries b.feed.reader.plan) (before_both is.taken (entries_of b.read.items) (left_with b.feed []) ∙ ap (before (is.taken ++ entries_of b.read.items)) left)
+    let left : left_with b.feed final ≡ a.left = ap (left_of b.feed.reader) (sym bytes_is) ∙ ap (λ (v : ReaderView). left_of v bytes) (sym r_is) ∙ sym behind.left in
+    is.left final
+    ∙ ap (with_entries b.feed.reader.plan) (before_both is.taken (entries_of b.read.items) (left_with b.feed final) ∙ ap (before (is.taken ++ entries_of b.read.items)) left)
     ∙ ap (λ (p : PlanView). with_entries p (before (is.taken ++ entries_of b.read.items) a.left)) (sym plan)
 
 -- ---- how a text ends

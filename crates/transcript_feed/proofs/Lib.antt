@@ -2,4 +2,5 @@ pub mod ReadLemmas
 pub mod TickLemmas
 mod SinkLemmas
 mod FeedLemmas
+mod IntakeLemmas
 mod KeptLemmas

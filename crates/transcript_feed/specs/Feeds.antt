@@ -12,8 +12,9 @@ use Rattle.transcript_text.specs.ReadBack.{HasHead}
 use Rattle.transcript_text.specs.Reading.{Fails, before}
 use Rattle.transcript_text.specs.Readers.{with_entries}
 use Rattle.transcript_feed.specs.declared.body.Body.{Body}
-use Rattle.transcript_feed.specs.declared.feed.Stage.{Stage}
-use Rattle.transcript_feed.specs.declared.feed.Stage.TheVariants.{AtHead, AtEntries}
+use Rattle.transcript_feed.specs.declared.intake.Intake.{Intake}
+use Rattle.transcript_feed.specs.declared.feed.TextState.{TextState}
+use Rattle.transcript_feed.specs.declared.feed.TextState.TheVariants.{AtHead, AtEntries}
 use Rattle.transcript_feed.specs.declared.feed.TextFeed.{TextFeed}
 
 -- the sink has the first entries of a text, some more are read, and the others are left, however the text goes on
@@ -26,14 +27,18 @@ pub record IsBodyOf {R S : Type 0} (has : S → PlanView → List Entry → Type
   pub head : HasHead version b.feed.reader.plan
   pub left : (more : List ℕ) → read_of version (text ++ more) ≡ with_entries b.feed.reader.plan (before taken (before (entries_of b.read.items) (left_with b.feed more)))
 
+-- the first of the bytes that have come are read, and the others wait
+abbrev pub IsIntakeOf : {R S : Type 0} → (has : S → PlanView → List Entry → Type 0) → Version → List ℕ → Intake R S → Type 0
+IsIntakeOf has version text intake = (front : List ℕ) × (text ≡ front ++ intake.waiting.items) × IsBodyOf has version front intake.body
+
 -- these are the bytes that have come
-abbrev pub IsStageOf : {R S : Type 0} → (has : S → PlanView → List Entry → Type 0) → Version → List ℕ → Stage R S → Type 0
-IsStageOf has version text (AtHead bytes next) = text ≡ bytes.items
-IsStageOf has version text (AtEntries body) = IsBodyOf has version text body
+abbrev pub IsStateOf : {R S : Type 0} → (has : S → PlanView → List Entry → Type 0) → Version → List ℕ → TextState R S → Type 0
+IsStateOf has version text (AtHead bytes next) = text ≡ bytes.items
+IsStateOf has version text (AtEntries intake) = IsIntakeOf has version text intake
 
 -- these bytes of a text of this version have come
 abbrev pub HasTaken : {R S : Type 0} → (has : S → PlanView → List Entry → Type 0) → Version → TextFeed R S → List ℕ → Type 0
-HasTaken has version feed text = (feed.version ≡ version) × IsStageOf has version text feed.stage
+HasTaken has version feed text = (feed.version ≡ version) × IsStateOf has version text feed.state
 
 -- some bytes have come
 abbrev pub CanTake : {R S : Type 0} → (has : S → PlanView → List Entry → Type 0) → TextFeed R S → Type 0

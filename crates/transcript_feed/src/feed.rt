@@ -2,24 +2,23 @@
 
 ghost use Rattle.std.specs.Prelude.{◌≡◌, ◌++◌, [], List, ℕ, IfOk};
 ghost use Rattle.transcript_text.specs.declared.version.Version.{Version};
-ghost use Rattle.transcript_text.specs.Ahead.{entries_of};
 ghost use Rattle.transcript_text.specs.Readers.{IsTextOfWhatIsRead};
-ghost use Rattle.transcript_feed.specs.Sinks.{CanTakeEntries, TakesEntries};
-ghost use Rattle.transcript_feed.specs.Feeds.{CanTake, FeedEnds, HasTaken, IsBodyOf, IsStageOf};
+ghost use Rattle.transcript_feed.specs.Feeds.{CanTake, FeedEnds, HasTaken, IsStateOf};
 
 use crate::body::Body;
+use crate::intake::Intake;
 use crate::sink::{EntrySink, take_all};
 use std::alloc::{AllocError, Global};
 use std::thread::Threads;
-use transcript_text::{BYTES_A_PIECE, EntriesAhead, EntryFeed, Fed, ReadError, Rest, Version};
+use transcript_text::{BYTES_A_PIECE, EntriesAhead, EntryFeed, ReadError, Version};
 
 /// How far a text is read.
 #[derive(Drop)]
-enum Stage<'a, R: Threads + Sync, S> {
+enum TextState<'a, R: Threads + Sync, S> {
     /// Its head is not read. That is tried once more when it has so many bytes.
     AtHead { bytes: Vec<u8>, next: usize },
     /// Its head is read.
-    AtEntries(Body<'a, R, S>),
+    AtEntries(Intake<'a, R, S>),
 }
 
 /// A text of a transcript that comes piece by piece: its entries are read as far as it has come, and handed to a sink. While the
@@ -30,7 +29,7 @@ pub struct TextFeed<'a, R: Threads + Sync, S> {
     rt: &'a R,
     alloc: Global,
     version: Version,
-    stage: Stage<'a, R, S>,
+    state: TextState<'a, R, S>,
 }
 
 // Reads the head of a text, where it has one.
@@ -39,19 +38,20 @@ fn begin<'a, R: Threads + Sync, S: EntrySink>(
     alloc: Global,
     version: Version,
     bytes: Vec<u8>,
-) -> Result<Stage<'a, R, S>, AllocError>
-    ensures { IfOk result (λ stage. IsStageOf S.has version bytes.items stage) }
+) -> Result<TextState<'a, R, S>, AllocError>
+    ensures { IfOk result (λ state. IsStateOf S.has version bytes.items state) }
 {
     match EntryFeed::begin(rt, alloc, version, &bytes, BYTES_A_PIECE)? {
         Some(feed) => {
             let sink = S::begin(alloc, feed.plan())?;
-            Ok(Stage::AtEntries(Body {
+            let body = Body {
                 feed,
                 sink,
                 read: Vec::new(alloc),
-            }))
+            };
+            Ok(TextState::AtEntries(Intake::new(alloc, body)))
         }
-        None => Ok(Stage::AtHead {
+        None => Ok(TextState::AtHead {
             next: bytes.len().saturating_mul(2),
             bytes,
         }),
@@ -66,13 +66,13 @@ fn goes_on<'a, R: Threads + Sync, S: EntrySink>(
     front: Vec<u8>,
     next: usize,
     bytes: &[u8],
-) -> Result<Stage<'a, R, S>, AllocError>
-    ensures { IfOk result (λ stage. IsStageOf S.has version (front.items ++ bytes.now) stage) }
+) -> Result<TextState<'a, R, S>, AllocError>
+    ensures { IfOk result (λ state. IsStateOf S.has version (front.items ++ bytes.now) state) }
 {
     let mut text = front;
     text.extend_from_slice(bytes)?;
     if text.len() < next {
-        return Ok(Stage::AtHead { bytes: text, next });
+        return Ok(TextState::AtHead { bytes: text, next });
     }
     begin(rt, alloc, version, text)
 }
@@ -95,45 +95,6 @@ fn read_whole<R: Threads + Sync, S: EntrySink>(
     take_all(&mut reader, sink)
 }
 
-impl<'a, R: Threads + Sync, S: EntrySink> Body<'a, R, S> {
-    // Hands on what is read, and reads on by the bytes that have come.
-    fn take(self, bytes: &[u8]) -> Result<Body<'a, R, S>, AllocError>
-        requires { (version : Version) × (text : List ℕ) × IsBodyOf S.has version text self }
-        ensures { IfOk result (λ body. (version : Version) (before : List ℕ) → IsBodyOf S.has version before self.entry → IsBodyOf S.has version (before ++ bytes.now) body) }
-    {
-        let Body { feed, sink, read } = self;
-        let work = move || -> Result<S, AllocError>
-            requires { CanTakeEntries S.has sink (entries_of read.items) }
-            ensures { IfOk result (TakesEntries S.has sink (entries_of read.items)) }
-        { sink.take(&read) };
-        let Fed {
-            feed,
-            entries,
-            done,
-        } = feed.take(bytes, work)?;
-        Ok(Body {
-            feed,
-            sink: done?,
-            read: entries,
-        })
-    }
-
-    // Hands on all that is left, where no more bytes come.
-    fn finish(self, rt: &R, alloc: Global) -> Result<S, ReadError>
-        requires { (version : Version) × (text : List ℕ) × IsBodyOf S.has version text self }
-        ensures ends { (version : Version) (text : List ℕ) → IsBodyOf S.has version text self.entry → FeedEnds S.has version text result }
-        ensures law { (version : Version) (text : List ℕ) → IsTextOfWhatIsRead version text }
-    {
-        let Body { feed, sink, read } = self;
-        let Rest { reader, bytes } = feed.finish();
-        let sink = sink.take(&read)?;
-        let Ok(mut ahead) = EntriesAhead::behind(rt, alloc, reader, &bytes, BYTES_A_PIECE) else {
-            return Err(ReadError::Memory);
-        };
-        take_all(&mut ahead, sink)
-    }
-}
-
 impl<'a, R: Threads + Sync, S: EntrySink> TextFeed<'a, R, S> {
     /// A text of this version of which nothing has come.
     pub fn new(rt: &'a R, alloc: Global, version: Version) -> TextFeed<'a, R, S>
@@ -143,7 +104,7 @@ impl<'a, R: Threads + Sync, S: EntrySink> TextFeed<'a, R, S> {
             rt,
             alloc,
             version,
-            stage: Stage::AtHead {
+            state: TextState::AtHead {
                 bytes: Vec::new(alloc),
                 next: 0,
             },
@@ -159,19 +120,19 @@ impl<'a, R: Threads + Sync, S: EntrySink> TextFeed<'a, R, S> {
             rt,
             alloc,
             version,
-            stage,
+            state,
         } = self;
-        let stage = match stage {
-            Stage::AtHead { bytes: front, next } => {
+        let state = match state {
+            TextState::AtHead { bytes: front, next } => {
                 goes_on(rt, alloc, version, front, next, bytes)?
             }
-            Stage::AtEntries(body) => Stage::AtEntries(body.take(bytes)?),
+            TextState::AtEntries(intake) => TextState::AtEntries(intake.take(alloc, bytes)?),
         };
         Ok(TextFeed {
             rt,
             alloc,
             version,
-            stage,
+            state,
         })
     }
 
@@ -185,11 +146,11 @@ impl<'a, R: Threads + Sync, S: EntrySink> TextFeed<'a, R, S> {
             rt,
             alloc,
             version,
-            stage,
+            state,
         } = self;
-        match stage {
-            Stage::AtHead { bytes, .. } => read_whole(rt, alloc, version, &bytes),
-            Stage::AtEntries(body) => body.finish(rt, alloc),
+        match state {
+            TextState::AtHead { bytes, .. } => read_whole(rt, alloc, version, &bytes),
+            TextState::AtEntries(intake) => intake.finish(rt, alloc),
         }
     }
 }

@@ -3,6 +3,7 @@
 
 mod body;
 mod feed;
+mod intake;
 mod keeping;
 mod sink;
 

@@ -1,4 +1,4 @@
-use Rattle.std.proofs.Common.{◌∙◌, ◌++◌, List, Vec, ap, sym, subst}
+use Rattle.std.proofs.Common.{◌∙◌, ◌++◌, ℕ, List, Vec, ap, sym, subst}
 use Rattle.std.specs.declared.alloc.Global.{Global}
 use Rattle.group_plan.specs.Plans.{PlanView}
 use Rattle.event_schedule.specs.declared.Entry.{Entry}
@@ -25,5 +25,7 @@ returns-clause-ends g c = λ version text is.
     let takes = subst (λ (xs : List (Vec Entry Global)). TakesEntries has b.sink (entries_of xs) c.in_ok-sink.sink) c.deref.ensures.value c.in_ok-sink.ensures in
     let plan_is = c.in-Ok.ensures.plan ∙ ap (λ (v : ReaderView). v.plan) c.finish-reader.ensures.reader in
     let taken = subst (λ (p : PlanView). has c.in_ok-sink.sink p (is.taken ++ es)) (sym plan_is) (takes b.feed.reader.plan is.taken is.sink) in
-    let all = all_left has version text b is c.finish-reader.result.reader c.deref-2.result.now a c.finish-reader.ensures.reader (c.deref-2.ensures.value ∙ c.finish-reader.ensures.bytes) c.in-Ok.ensures in
-    feed_ends version text a.plan (before (is.taken ++ es) a.left) all has c.take_all.result (subst (HasHead version) (sym plan_is) is.head) (c.take_all.ensures (is.taken ++ es) taken)
+    let final = c.args.last.now in
+    let bytes_are = c.deref-2.ensures.value ∙ c.in_ok-extend_from_slice.ensures.items ∙ ap (λ (xs : List ℕ). xs ++ final) c.finish-reader.ensures.bytes in
+    let all = all_left has version text final b is c.finish-reader.result.reader c.deref-2.result.now a c.finish-reader.ensures.reader bytes_are c.in-Ok.ensures in
+    feed_ends version (text ++ final) a.plan (before (is.taken ++ es) a.left) all has c.take_all.result (subst (HasHead version) (sym plan_is) is.head) (c.take_all.ensures (is.taken ++ es) taken)
