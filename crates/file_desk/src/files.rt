@@ -162,6 +162,14 @@ impl<R: Files<File = File> + Print + Wait + Copy> FileDesk<R> {
         }
     }
 
+    // Whether the path is that of the file that standard output goes to.
+    fn leads_to_output(&self, path: Path<'_>) -> bool {
+        match fs::symlink_metadata(&self.rt, path) {
+            Ok(found) => self.is_output(FileId::of(&found)),
+            Err(_) => false,
+        }
+    }
+
     // Whether this file may not be put under a name: it was fetched, or it was put under another name.
     fn is_kept(&self, file: FileId, name: &str) -> bool {
         self.fetched.contains(&file)
@@ -272,14 +280,14 @@ impl<R: Files<File = File> + Print + Wait + Copy> FileDesk<R> {
     }
 
     // Makes a part of the path. Its name is the path's with `.part` behind it; where another command writes that, or it is a file
-    // that may not be written over, a number follows. What a killed command left under the name is removed.
+    // that may not be written over or that standard output goes to, a number follows. What a killed command left under the name is removed.
     fn part(&self, path: PathBuf, folder: FileId, last: &str, mode: u32) -> io::Result<Part<R>> {
         for number in 0..MOST_PARTS {
             let part = part_name(self.alloc, last, number)?;
-            if self.is_begun(folder, &part, "") {
+            let beside = path.with_file_name(self.alloc, &part)?;
+            if self.is_begun(folder, &part, "") || self.leads_to_output(beside.as_path()) {
                 continue;
             }
-            let beside = path.with_file_name(self.alloc, &part)?;
             if let Some(handle) = take_name(&self.rt, beside.as_path(), mode, &self.fetched)? {
                 return Ok(Part::new(self.rt, handle, beside, path));
             }
