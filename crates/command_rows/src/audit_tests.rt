@@ -1,10 +1,11 @@
 //! The command `audit`: what it confirms, and the first line or row that it doesn't.
 
 use crate::fixtures::{
-    NORTH, OLD_TRANSCRIPT, RUN, Refusal, TRANSCRIPT, check_complained, check_refused, check_said,
-    check_status, desk_of as run_desk, held, replaced,
+    NORTH, RUN, Refusal, check_complained, check_refused, check_said, check_status,
+    desk_of as run_desk, held, replaced,
 };
 use desk_outside::MemoryDesk;
+use row_fixtures::{PLAIN, PLAIN_OLD};
 use std::alloc::Global;
 use std::process::Abort;
 use std::sync::Wait;
@@ -312,7 +313,7 @@ fn audits(rt: HostRuntime) -> Result<(), Fail> {
     let alloc = rt.alloc();
     for case in AUDITS.iter() {
         let (name, there, instead, row, other, status, text) = *case;
-        let transcript = replaced(alloc, TRANSCRIPT, there, instead)?;
+        let transcript = replaced(alloc, PLAIN, there, instead)?;
         let report = replaced(alloc, REPORT, row, other)?;
         for piece_bytes in PIECES {
             let desk = desk_of(alloc, &transcript, &report, Vec::new(alloc))?;
@@ -327,12 +328,12 @@ fn audits(rt: HostRuntime) -> Result<(), Fail> {
 #[test]
 fn explained_and_old(rt: HostRuntime) -> Result<(), Fail> {
     let alloc = rt.alloc();
-    let raised = replaced(alloc, TRANSCRIPT, "b0b9d4e209a2296c", "b0b9d4e209a2296d")?;
+    let raised = replaced(alloc, PLAIN, "b0b9d4e209a2296c", "b0b9d4e209a2296d")?;
     let raised = replaced(alloc, &raised, "total,60", "total,61")?;
     let report = replaced(alloc, REPORT, "total,60", "total,61")?;
     for (transcript, report, status) in [
         (raised.as_str(), report.as_str(), 0),
-        (OLD_TRANSCRIPT, REPORT, 7),
+        (PLAIN_OLD, REPORT, 7),
     ] {
         let mut desk = desk_of(alloc, transcript, report, Vec::new(alloc))?;
         check_status(&rt, alloc, AUDIT, &mut desk, status, report)?;
@@ -352,7 +353,7 @@ fn failing_calls_of_audit(rt: HostRuntime) -> Result<(), Fail> {
     let alloc = rt.alloc();
     for case in FAILURES.iter() {
         let (failing, status, complaint) = *case;
-        let mut desk = desk_of(alloc, TRANSCRIPT, REPORT, vec![in alloc; failing]?)?;
+        let mut desk = desk_of(alloc, PLAIN, REPORT, vec![in alloc; failing]?)?;
         check_refused(
             &rt,
             alloc,

@@ -1,10 +1,11 @@
 //! The commands `bill` and `hide`: the bills of a period, the readings that hide another behind them, and what is refused.
 
 use crate::fixtures::{
-    NORTH, RUN, Refusal, TRANSCRIPT, check, check_calls, check_refused, check_said, check_status,
-    check_stored, check_text, desk_of, held,
+    NORTH, RUN, Refusal, check, check_calls, check_refused, check_said, check_status, check_stored,
+    check_text, desk_of, held,
 };
 use desk_outside::MemoryDesk;
+use row_fixtures::PLAIN;
 use std::alloc::Global;
 use std::process::Abort;
 use std::sync::Wait;
@@ -288,7 +289,7 @@ static REFUSED: [(&str, &str, &str, &str, u8, &str); 5] = [
         "a transcript of another plan",
         TWO_ROUNDS,
         BOTH,
-        TRANSCRIPT,
+        PLAIN,
         7,
         "t.txt: other plan",
     ),
@@ -296,7 +297,7 @@ static REFUSED: [(&str, &str, &str, &str, u8, &str); 5] = [
         "a reading without a partner in its own transcript",
         "rounds,1\nwindows,1,2\n",
         "north,0,10,20,30\n",
-        TRANSCRIPT,
+        PLAIN,
         11,
         "alone 0 0 0",
     ),

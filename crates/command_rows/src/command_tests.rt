@@ -1,11 +1,12 @@
 //! The commands `convert`, `public`, `help` and `version`: what they store and say, and what they refuse.
 
 use crate::fixtures::{
-    HEAD, NORTH, OLD_TRANSCRIPT, Refusal, TRANSCRIPT, check_calls, check_complained, check_refused,
-    check_said, check_status, check_stored, check_text, desk_of as plan_desk, held, replaced,
+    HEAD, NORTH, POURED_BYTES, Refusal, check_calls, check_complained, check_refused, check_said,
+    check_status, check_stored, check_text, desk_of as plan_desk, held, replaced,
 };
 use commands::{USAGE, VERSION};
 use desk_outside::MemoryDesk;
+use row_fixtures::{PLAIN, PLAIN_OLD};
 use std::alloc::Global;
 use std::test::Fail;
 
@@ -13,7 +14,7 @@ const CONVERT: &str = "convert old.txt t.txt";
 
 // A desk that holds an old transcript, and fails these calls.
 fn desk_of(alloc: Global, text: &str, failing: Vec<u64>) -> Result<MemoryDesk, Fail> {
-    let mut desk = MemoryDesk::new(failing);
+    let mut desk = MemoryDesk::new(failing).with_pieces(POURED_BYTES);
     desk.place("old.txt", text.as_bytes())?;
     Ok(desk)
 }
@@ -21,9 +22,9 @@ fn desk_of(alloc: Global, text: &str, failing: Vec<u64>) -> Result<MemoryDesk, F
 #[test]
 fn old_transcript_converted(rt: HostRuntime) -> Result<(), Fail> {
     let alloc = rt.alloc();
-    let mut desk = desk_of(alloc, OLD_TRANSCRIPT, Vec::new(alloc))?;
+    let mut desk = desk_of(alloc, PLAIN_OLD, Vec::new(alloc))?;
     check_status(&rt, alloc, CONVERT, &mut desk, 0, CONVERT)?;
-    check_text(&rt, held(&desk, "t.txt"), TRANSCRIPT, "t.txt");
+    check_text(&rt, held(&desk, "t.txt"), PLAIN, "t.txt");
     check_said(&rt, &desk, "converted: lines=20\n", CONVERT);
     check_complained(&rt, &desk, "", CONVERT);
     Ok(())
@@ -84,7 +85,7 @@ fn old_transcript_refused(rt: HostRuntime) -> Result<(), Fail> {
     let alloc = rt.alloc();
     for case in UNCONVERTED.iter() {
         let (there, instead, failing, status, complaint, stored) = *case;
-        let text = replaced(alloc, OLD_TRANSCRIPT, there, instead)?;
+        let text = replaced(alloc, PLAIN_OLD, there, instead)?;
         let mut desk = desk_of(alloc, &text, vec![in alloc; failing]?)?;
         check_refused(
             &rt,

@@ -1,10 +1,11 @@
 //! The command `inspect`: what it counts of runs, and the first line that no run of the public plan has.
 
 use crate::fixtures::{
-    HEAD, NORTH, READINGS, RUN, Refusal, TRANSCRIPT, check_complained, check_refused, check_said,
+    HEAD, NORTH, POURED_BYTES, READINGS, RUN, Refusal, check_complained, check_refused, check_said,
     check_status, desk_of as run_desk, held, replaced,
 };
 use desk_outside::MemoryDesk;
+use row_fixtures::PLAIN;
 use std::alloc::Global;
 use std::process::Abort;
 use std::sync::Wait;
@@ -32,7 +33,7 @@ fn desk_of(
     report: &str,
     failing: Vec<u64>,
 ) -> Result<MemoryDesk, Fail> {
-    let mut desk = MemoryDesk::new(failing);
+    let mut desk = MemoryDesk::new(failing).with_pieces(POURED_BYTES);
     desk.place("public.csv", public.as_bytes())?;
     desk.place("t.txt", transcript.as_bytes())?;
     desk.place("report.csv", report.as_bytes())?;
@@ -317,7 +318,7 @@ fn inspected_files(rt: HostRuntime) -> Result<(), Fail> {
         let (name, public, transcript, report, status, text) = *case;
         let (first, second) = transcript;
         let public = replaced(alloc, PUBLIC, public.0, public.1)?;
-        let transcript = replaced(alloc, TRANSCRIPT, first.0, first.1)?;
+        let transcript = replaced(alloc, PLAIN, first.0, first.1)?;
         let transcript = replaced(alloc, &transcript, second.0, second.1)?;
         let report = replaced(alloc, REPORT, report.0, report.1)?;
         let mut desk = desk_of(alloc, &public, &transcript, &report, Vec::new(alloc))?;
@@ -441,7 +442,7 @@ fn failing_calls_of_inspect(rt: HostRuntime) -> Result<(), Fail> {
     let alloc = rt.alloc();
     for case in FAILURES.iter() {
         let (failing, status, complaint) = *case;
-        let mut desk = desk_of(alloc, PUBLIC, TRANSCRIPT, REPORT, vec![in alloc; failing]?)?;
+        let mut desk = desk_of(alloc, PUBLIC, PLAIN, REPORT, vec![in alloc; failing]?)?;
         check_inspected(&rt, alloc, &mut desk, status, complaint, complaint)?;
     }
     Ok(())

@@ -1,10 +1,11 @@
 //! The command `resume`: cuts of the plain case, and cuts that are none of it.
 
 use crate::fixtures::{
-    HEAD, NORTH, READINGS, Refusal, TRANSCRIPT, check_complained, check_refused, check_said,
-    check_status, check_stored, check_text, desk_of, held, replaced,
+    HEAD, NORTH, READINGS, Refusal, check_complained, check_refused, check_said, check_status,
+    check_stored, check_text, desk_of, held, replaced,
 };
 use desk_outside::MemoryDesk;
+use row_fixtures::PLAIN;
 use std::alloc::Global;
 use std::process::Abort;
 use std::sync::Wait;
@@ -20,7 +21,7 @@ const SUMMARY: &str = "rounds=1 totals=1 none=0 thin=0 sends=9 takes=9\n";
 // The first lines of the plain case's transcript, and more behind them.
 fn cut_after(alloc: Global, lines: usize, more: &str) -> Result<String, Fail> {
     let mut text = String::new(alloc);
-    for line in TRANSCRIPT.lines().take(lines) {
+    for line in PLAIN.lines().take(lines) {
         text.push_str(line)?;
         text.push('\n')?;
     }
@@ -59,7 +60,7 @@ fn cut_after_each_line(rt: HostRuntime) -> Result<(), Fail> {
     let alloc = rt.alloc();
     for lines in 5..27 {
         let cut = cut_after(alloc, lines, "")?;
-        check_resumed(&rt, alloc, &cut, TRANSCRIPT, "a line")?;
+        check_resumed(&rt, alloc, &cut, PLAIN, "a line")?;
     }
     Ok(())
 }
@@ -68,7 +69,7 @@ fn cut_after_each_line(rt: HostRuntime) -> Result<(), Fail> {
 fn cut_within_line_14(rt: HostRuntime) -> Result<(), Fail> {
     let alloc = rt.alloc();
     let cut = cut_after(alloc, 13, "1,s,0,0,m,1,1,4d02")?;
-    check_resumed(&rt, alloc, &cut, TRANSCRIPT, "line 14")
+    check_resumed(&rt, alloc, &cut, PLAIN, "line 14")
 }
 
 // The order of a cut's Takes stays.
@@ -77,7 +78,7 @@ fn takes_in_another_order(rt: HostRuntime) -> Result<(), Fail> {
     let alloc = rt.alloc();
     let there = "1,t,0,0,r,0,fresh\n1,t,0,0,r,1,fresh\n1,t,0,0,r,2,fresh\n";
     let instead = "1,t,0,0,r,2,fresh\n1,t,0,0,r,0,fresh\n1,t,0,0,r,1,fresh\n";
-    let transcript = replaced(alloc, TRANSCRIPT, there, instead)?;
+    let transcript = replaced(alloc, PLAIN, there, instead)?;
     let cut = cut_after(alloc, 8, "1,t,0,0,r,2,fresh\n")?;
     check_resumed(&rt, alloc, &cut, &transcript, "a Take")
 }
@@ -112,7 +113,7 @@ static REFUSED: [(&str, &str, &str); 6] = [
 fn refused_cuts(rt: HostRuntime) -> Result<(), Fail> {
     let alloc = rt.alloc();
     for (there, instead, complaint) in REFUSED.iter() {
-        let cut = replaced(alloc, TRANSCRIPT, there, instead)?;
+        let cut = replaced(alloc, PLAIN, there, instead)?;
         let mut desk = desk_with(alloc, &cut)?;
         check_refused(
             &rt,

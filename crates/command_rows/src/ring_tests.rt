@@ -1,10 +1,11 @@
 //! The commands `ring` and `ringtwin`: masks between neighbours alone, and the words that move on a ring.
 
 use crate::fixtures::{
-    HEAD, NORTH, READINGS, RUN, Refusal, TRANSCRIPT, check, check_calls, check_complained,
-    check_refused, check_said, check_status, check_stored, check_text, desk_of, held,
+    HEAD, NORTH, READINGS, RUN, Refusal, check, check_calls, check_complained, check_refused,
+    check_said, check_status, check_stored, check_text, desk_of, held,
 };
 use desk_outside::{DeskKind, MemoryDesk};
+use row_fixtures::PLAIN;
 use std::alloc::Global;
 use std::process::Abort;
 use std::sync::Wait;
@@ -240,7 +241,7 @@ fn ring_of_three(rt: HostRuntime) -> Result<(), Fail> {
     let alloc = rt.alloc();
     let rows = format!(in alloc; "{HEAD}{NORTH}")?;
     let mut desk = desk_of(alloc, &rows, READINGS, Vec::new(alloc))?;
-    desk.place("t.txt", TRANSCRIPT.as_bytes())?;
+    desk.place("t.txt", PLAIN.as_bytes())?;
     desk.place("other.csv", b"north,0,15,15,30\n")?;
     let text = "pair,0,0,0,1,903df1a0ade0b876,903df1a0ade0b871\n";
     check_twin(&rt, alloc, &mut desk, ("three", 0, text, 1))
@@ -341,7 +342,7 @@ static REFUSALS: [(&str, &str, &str, &str, &str, u8, &str); 9] = [
         "",
         "north,0,10,20,30,\n",
         "north,0,10,20,31,\n",
-        TRANSCRIPT,
+        PLAIN,
         7,
         "t.txt: other plan",
     ),

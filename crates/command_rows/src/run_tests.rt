@@ -1,11 +1,12 @@
 //! Worked runs, with their reports, summaries and transcripts, and what their workers do.
 
 use crate::fixtures::{
-    HEAD, NORTH, READINGS, RUN, TRANSCRIPT, check, check_complained, check_ended, check_number,
-    check_said, check_status, check_text, desk_of, held, status_at_desk,
+    HEAD, NORTH, READINGS, RUN, check, check_complained, check_ended, check_number, check_said,
+    check_status, check_text, desk_of, held, status_at_desk,
 };
 use collector_workers::Gate;
 use desk_outside::{DeskCall, DeskKind, MemoryDesk};
+use row_fixtures::PLAIN;
 use std::alloc::Global;
 use std::process::Abort;
 use std::sync::Wait;
@@ -14,14 +15,6 @@ use std::test::Fail;
 use std::thread::Threads;
 
 const HEADING: &str = "group,round,survivors,missing,outcome,total\n";
-
-// Looks for the lines of the transcript, in any order, and no more text.
-fn check_lines(rt: &impl Abort, text: &str) {
-    check_number(rt, text.len(), TRANSCRIPT.len(), "the length");
-    for line in TRANSCRIPT.split('\n') {
-        check(rt, text.contains(line), line);
-    }
-}
 
 // The calls of a run.
 static CALLS: [DeskKind; 5] = [
@@ -46,7 +39,7 @@ fn three_meters_total_60(rt: HostRuntime) -> Result<(), Fail> {
     let rows = format!(in alloc; "{HEAD}{NORTH}")?;
     let mut desk = desk_of(alloc, &rows, READINGS, Vec::new(alloc))?;
     check_status(&rt, alloc, RUN, &mut desk, 0, RUN)?;
-    check_lines(&rt, held(&desk, "t.txt"));
+    check_text(&rt, held(&desk, "t.txt"), PLAIN, RUN);
     check_complained(&rt, &desk, "", RUN);
     check_kinds(&rt, desk.calls());
     Ok(())

@@ -1,11 +1,12 @@
 //! The commands `twin` and `pooled`: the words that move from one table of readings to another, and what they refuse.
 
 use crate::fixtures::{
-    HEAD, NORTH, READINGS, RUN, Refusal, TRANSCRIPT, check, check_calls, check_complained,
-    check_number, check_refused, check_said, check_status, check_stored, check_text,
-    desk_of as run_desk, held, replaced,
+    HEAD, NORTH, READINGS, RUN, Refusal, check, check_calls, check_complained, check_number,
+    check_refused, check_said, check_status, check_stored, check_text, desk_of as run_desk, held,
+    replaced,
 };
 use desk_outside::MemoryDesk;
+use row_fixtures::PLAIN;
 use std::alloc::Global;
 use std::process::Abort;
 use std::sync::Wait;
@@ -386,7 +387,7 @@ fn desk_of(alloc: Global, failing: Vec<u64>) -> Result<MemoryDesk, Fail> {
     let rows = format!(in alloc; "{HEAD}{NORTH}")?;
     let mut desk = run_desk(alloc, &rows, READINGS, failing)?;
     desk.place("other.csv", b"north,0,15,15,30\n")?;
-    desk.place("t.txt", TRANSCRIPT.as_bytes())?;
+    desk.place("t.txt", PLAIN.as_bytes())?;
     Ok(desk)
 }
 

@@ -1,9 +1,8 @@
 //! Texts read ahead in small pieces: what is read is what one thread reads, whatever stands at the first and the last line of a piece.
 
 use crate::fixtures::check_same;
-use crate::transcript_text_rows::OLD;
 use event_schedule::Entry;
-use row_fixtures::{PLAIN, with_line};
+use row_fixtures::{PLAIN, PLAIN_OLD, with_line};
 use std::alloc::Global;
 use std::process::Abort;
 use std::test::Fail;
@@ -15,7 +14,7 @@ const ENTRIES: usize = 100;
 
 // A text in each version.
 fn texts() -> [(Version, &'static str); 2] {
-    [(Version::One, OLD), (Version::Two, PLAIN)]
+    [(Version::One, PLAIN_OLD), (Version::Two, PLAIN)]
 }
 
 // How many bytes a piece has: fewer than a line, about a line, some lines, more than the text.
@@ -25,12 +24,13 @@ static SIZES: [usize; 6] = [1, 20, 110, 111, 300, 5000];
 static FEW_SIZES: [usize; 3] = [20, 110, 300];
 
 // Lines that stand in place of each line in turn: no entry, one that is longer than most pieces, a tick that falls, a tick that others
-// may not fall below, and a Send in which nothing stands.
-static LINES: [&str; 5] = [
+// may not fall below, a last line, and an empty line.
+static LINES: [&str; 6] = [
     "x",
     "0,s,0,0,r,0,1,4d0102000000000000000000000000000000000000b0b9d4e209a2296c4d0102000000000000000000000000000000000000b0b9d4e209a2296c",
     "0,t,0,0,r,1,fresh",
     "9,t,0,0,r,1,fresh",
+    "end,5",
     "",
 ];
 

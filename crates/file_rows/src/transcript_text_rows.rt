@@ -5,7 +5,7 @@ use event_schedule::{Entry, Line, members};
 use group_plan::{Kind, Plan, Span, Tag};
 use link_lanes::Fate;
 use round_machine::Verdict;
-use row_fixtures::{PLAIN, plan_of_north, reading_tag, with_line};
+use row_fixtures::{PLAIN, PLAIN_OLD, plan_of_north, reading_tag, with_line};
 use std::alloc::{AllocError, Global};
 use std::process::Abort;
 use std::test::Fail;
@@ -13,41 +13,12 @@ use std::thread::Threads;
 use transcript_log::Transcript;
 use transcript_text::{ReadError, line_text, read, read_old, write};
 
-/// The plain case in version 1.
-pub(crate) static OLD: &str = "\
-meteragg transcript 1\n\
-rounds,1\n\
-windows,1,2\n\
-group,north,3,2\n\
-begin\n\
-0,s,0,0,r,0,1,4d01010000000000000000000000000000000000b0b9d4e209a2296c\n\
-0,s,0,0,r,1,1,4d01010100000000000000000000000000000000903df1a0ade0b88a\n\
-0,s,0,0,r,2,1,4d010102000000000000000000000000000000006fc20e5f521f47a8\n\
-1,t,0,0,r,0,fresh\n\
-1,t,0,0,r,1,fresh\n\
-1,t,0,0,r,2,fresh\n\
-1,c,0,0,announced,-\n\
-1,s,0,0,m,0,1,4d010200000000000000000000000000000000000000000000000000\n\
-1,s,0,0,m,1,1,4d010201000000000000000000000000000000000000000000000000\n\
-1,s,0,0,m,2,1,4d010202000000000000000000000000000000000000000000000000\n\
-2,t,0,0,m,0,fresh\n\
-2,t,0,0,m,1,fresh\n\
-2,t,0,0,m,2,fresh\n\
-2,s,0,0,a,0,1,4d01030000000000000000000000000000000000903df1a0ade0b876\n\
-2,s,0,0,a,1,1,4d01030100000000000000000000000000000000903df1a0ade0b876\n\
-2,s,0,0,a,2,1,4d01030200000000000000000000000000000000903df1a0ade0b876\n\
-3,t,0,0,a,0,fresh\n\
-3,t,0,0,a,1,fresh\n\
-3,t,0,0,a,2,fresh\n\
-3,e,0,0,total,60\n\
-end,20\n";
-
 const WHOLE: Option<ReadError> = None;
 
 // The plain case, as it is read in this version or in the old one.
 fn plain_case<R: Threads + Sync>(rt: &R, alloc: Global, old: bool) -> Result<Transcript, Fail> {
     let read_back = if old {
-        read_old(rt, alloc, OLD.as_bytes())
+        read_old(rt, alloc, PLAIN_OLD.as_bytes())
     } else {
         read(rt, alloc, PLAIN.as_bytes())
     };

@@ -8,4 +8,4 @@ mod texts;
 
 pub use keys::keys_of_north;
 pub use plans::{group, plan_of_north, put, reading_tag, table};
-pub use texts::{PLAIN, with_line};
+pub use texts::{PLAIN, PLAIN_OLD, with_line};
