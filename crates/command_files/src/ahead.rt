@@ -1,20 +1,16 @@
 //! The file of a transcript, of which much is written ahead, while the run goes on.
 
-ghost use Rattle.std.specs.Prelude.{◌<◌, ◌≡◌, ◌≤◌, [], length, take, IfOk, IfSome, ◌++◌};
+ghost use Rattle.std.specs.Prelude.{◌<◌, ◌≡◌, ◌≤◌, ◌+◌, ◌^◌, [], length, take, ◌++◌};
 ghost use Rattle.event_schedule.specs.Transcripts.{TranscriptView};
 ghost use Rattle.transcript_text.specs.Spelling.{transcript_text};
 ghost use Rattle.transcript_text.specs.Writing.{begun_text, lines_text};
-ghost use Rattle.tick_run.specs.Runs.{told_by};
-ghost use Rattle.command_files.specs.Ahead.{IsAhead, IsNext};
+ghost use Rattle.command_files.specs.Ahead.{IsAhead, IsPart};
 
 use crate::desk_calls::Begun;
 use crate::source::{Source, TranscriptPieces};
-use collector_workers::Gate;
 use desk_outside::BegunFile;
-use mask_stream::Masks;
-use std::alloc::{AllocError, Global};
+use std::alloc::Global;
 use std::thread::Threads;
-use tick_run::Run;
 use transcript_log::Transcript;
 use transcript_text::TextPieces;
 
@@ -69,28 +65,11 @@ impl<'n, 'r, R: Threads + Sync, B: BegunFile + Drop> Ahead<'n, 'r, R, B> {
         }
     }
 
-    /// The newest entries of a run, where there are enough of them that are not in the file, and nothing has failed.
-    pub(crate) fn next_part<M: Masks + Sync, G: Gate>(
-        &self,
-        run: &Run<'_, R, M, G>,
-        enough: usize,
-    ) -> Result<Option<Transcript>, AllocError>
-        requires ahead { IsAhead B.has self.now.begun.file self.now.entries (told_by run.now) }
-        requires enough { 1 ≤ enough }
-        ensures { IfOk result (λ next. IfSome next (IsNext self.now.entries (told_by run.now))) }
-    {
-        let made = run.len();
-        if made - self.entries < enough || self.begun.file.has_failed() {
-            return Ok(None);
-        }
-        let part = run.newest(self.entries)?;
-        Ok(Some(part))
-    }
-
     /// Appends the text of a part.
     pub(crate) fn append(&mut self, part: &Transcript)
         ensures name { self.new.begun.name.now ≡ self.old.begun.name.now }
-        ensures ahead { (t : TranscriptView) → IsNext self.old.entries t part.now → IsAhead B.has self.old.begun.file self.old.entries t → IsAhead B.has self.new.begun.file self.new.entries t }
+        ensures ahead { (t : TranscriptView) → length t.entries < 2 ^ 64 → IsPart self.old.entries t part.now → IsAhead B.has self.old.begun.file self.old.entries t
+            → IsAhead B.has self.new.begun.file self.new.entries t × (self.new.entries ≡ self.old.entries + length part.now.entries) }
     {
         let mut pieces = TranscriptPieces {
             text: part_text(self.rt, self.alloc, self.entries, part),

@@ -24,6 +24,7 @@ macro_rules! or_fail {
 mod ahead;
 mod desk_calls;
 mod leading;
+mod parts;
 mod source;
 
 pub use ahead::Ahead;

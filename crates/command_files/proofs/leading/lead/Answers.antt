@@ -1,41 +1,44 @@
-use Rattle.std.proofs.Common.{◌+◌, refl, subst, ◌∙◌}
-use Rattle.std.specs.Prelude.{Option, IfSome}
-use Rattle.event_schedule.specs.Transcripts.{TranscriptView}
-use Rattle.std.proofs.lemmas.Result.{IfOk-at_ok}
-use Rattle.tick_run.specs.Runs.{HaveMet, told_by}
-use Rattle.tick_run.proofs.RunLemmas.{makes-none}
-use Rattle.command_files.specs.Ahead.{IsNext, MakesSome}
-use Rattle.command_files.proofs.AheadLemmas.{ahead-ticks, makes-then}
+use Rattle.std.proofs.Common.{◌≡◌, ◌<◌, ◌^◌, arith, length}
+use Rattle.rtrb.specs.Ring.{sent}
+use Rattle.tick_run.specs.Runs.{told_by}
+use Rattle.tick_run.proofs.RunLemmas.{makes-none, makes-more, has-left, none-left}
+use Rattle.command_files.proofs.AheadLemmas.{handed-none, handed-tick, same_producer}
 use Rattle.command_files.proofs.leading.lead.Goals as goal
 
-pub ticks-init : goal.ticks-init
-ticks-init g c = record { makes = (0, makes-none c.args.run); met = λ first met. met; room = c.requires.room; name = refl; ahead = c.requires.ahead }
+pub loop-init : goal.loop-init
+loop-init g c = record {
+  makes = makes-none c.args.run;
+  met = λ opening met. met;
+  room = c.requires.room;
+  ring = search;
+  handed = handed-none c.args.first (told_by c.args.run) (sent c.args.parts.now.ring) c.requires.none c.requires.first;
+}
 
-pub ticks-preserved-in_default : goal.ticks-preserved-in_default
-ticks-preserved-in_default g c =
-    let before = c.ticks.invariant in
-    let ticks = c.in_ok-run.ensures.ticks in
-    record {
-      makes = (before.makes.0 + ticks.makes.count, makes-then before.makes.0 ticks.makes.count c.args.run c.ticks.run _ before.makes.1 ticks.makes.makes);
-      met = λ first met. ticks.met first (before.met first met);
-      room = c.tick_on.ensures.room;
-      name = before.name;
-      ahead = ahead-ticks g.B.BegunFile.has c.ticks.file.begun.file c.ticks.file.entries ticks.makes.count c.ticks.run _ ticks.makes.makes before.ahead;
-    }
+pub tick-requires-clause-left : goal.tick-requires-clause-left
+tick-requires-clause-left g c κs within = has-left c.loop.counter c.ticks_left-end.result c.args.run c.loop.run c.loop.invariant.makes c.ticks_left-end.ensures c.loop-test.true
 
-pub ticks-preserved : goal.ticks-preserved
-ticks-preserved g c =
-    let before = c.ticks.invariant in
-    let ticks = c.write_beside-written.ensures.ticks in
-    let made = IfOk-at_ok (MakesSome c.ticks.run) c.in_ok-run-2.was ticks.makes in
-    let next : IsNext c.ticks.file.entries (told_by c.ticks.run) c.in-Some.part =
-    subst (λ (o : Option TranscriptView). IfSome o (IsNext c.ticks.file.entries (told_by c.ticks.run))) c.in-Some.is c.in_ok-part.ensures
-    in
+pub hand_over-requires-clause-handed : goal.hand_over-requires-clause-handed
+hand_over-requires-clause-handed g c κs within =
+    (handed-tick c.args.first c.loop.handed c.loop.run _ (sent c.loop.parts.ring) c.in_ok-run.ensures.makes c.loop.invariant.handed).within
+
+pub loop-preserved : goal.loop-preserved
+loop-preserved g c = record {
+  makes = makes-more c.loop.counter c.args.run c.loop.run _ c.loop.invariant.makes c.in_ok-run.ensures.makes;
+  met = λ opening met. c.in_ok-run.ensures.met opening (c.loop.invariant.met opening met);
+  room = c.tick.ensures.room;
+  ring = same_producer c.args.parts.now.ring c.loop.parts.ring c.hand_over.new.parts.ring c.loop.invariant.ring c.hand_over.ensures.ring;
+  handed = c.in_ok-handed.ensures.handed c.args.first (handed-tick c.args.first c.loop.handed c.loop.run _ (sent c.loop.parts.ring) c.in_ok-run.ensures.makes c.loop.invariant.handed);
+}
+
+pub returns-clause-leads : goal.returns-clause-leads
+returns-clause-leads g c =
+    let at : c.loop.counter ≡ c.ticks_left-end.result = omega (arith, c.loop-test.false, c.loop.auto.counter-end) in
+    let s = c.loop.invariant in
+    let few : length c.loop.run.entries < 2 ^ 64 = omega (arith, c.len-entries.ensures, c.len-entries.type_inv) in
     record {
-      makes = (before.makes.0 + made.count, makes-then before.makes.0 made.count c.args.run c.ticks.run _ before.makes.1 made.makes);
-      met = λ first met. IfOk-at_ok (λ after. HaveMet first after _ _) c.in_ok-run-2.was (ticks.met first (before.met first met));
-      room = c.write_beside-written.ensures.room;
-      name = c.write_beside-written.ensures.name ∙ before.name;
-      ahead = ahead-ticks g.B.BegunFile.has c.write_beside-written.result.0.begun.file c.write_beside-written.result.0.entries made.count c.ticks.run _ made.makes
-          (c.write_beside-written.ensures.ahead (told_by c.ticks.run) next before.ahead);
+      over = none-left c.loop.counter c.ticks_left-end.result c.args.run c.loop.run s.makes c.ticks_left-end.ensures at;
+      makes = record { count = c.loop.counter; makes = s.makes };
+      met = s.met;
+      next = s.handed.next;
+      few = few;
     }

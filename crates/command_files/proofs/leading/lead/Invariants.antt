@@ -1,21 +1,18 @@
-use Rattle.std.proofs.Common.{◌≡◌, ◌+◌, ◌-◌, ℕ, List}
-use Rattle.group_plan.specs.Plans.{last_tick}
+use Rattle.std.proofs.Common.{List}
 use Rattle.link_lanes.specs.Lanes.{Slot}
 use Rattle.link_lanes.specs.Racks.{slots, posts_of, HasRoom}
 use Rattle.tick_run.specs.Runs.{HaveMet, MakesTicks, told_by}
-use Rattle.command_files.specs.Ahead.{IsAhead}
+use Rattle.rtrb.specs.Ring.{sent, SameProducer}
+use Rattle.command_files.specs.Ahead.{AreHanded}
 use Rattle.command_files.proofs.leading.lead.Given as goal
 
--- some ticks are made, their frames met the fates of the lanes, and the file has no text but theirs
-abbrev pub invariant-ticks : goal.invariant-ticks
-invariant-ticks g l = record {
-  makes : (count : ℕ) × MakesTicks count l.fn.run l.run;
-  met : (first : List Slot) → HaveMet first l.fn.run (slots (λ b. (goal.Lane-dyn g (b.vtable, b.value)).meaning b.value) l.fn.rack) (posts_of l.fn.rack)
-      → HaveMet first l.run (slots (λ b. (goal.Lane-dyn g (b.vtable, b.value)).meaning b.value) l.rack) (posts_of l.rack);
+-- so many ticks are made, their frames met the fates of the lanes, and so many entries are handed over
+abbrev pub invariant-loop : goal.invariant-loop
+invariant-loop g l = record {
+  makes : MakesTicks l.counter l.fn.run l.run;
+  met : (opening : List Slot) → HaveMet opening l.fn.run (slots (λ b. (goal.Lane-dyn g (b.vtable, b.value)).meaning b.value) l.fn.rack) (posts_of l.fn.rack)
+      → HaveMet opening l.run (slots (λ b. (goal.Lane-dyn g (b.vtable, b.value)).meaning b.value) l.rack) (posts_of l.rack);
   room : HasRoom (λ b. (goal.Lane-dyn g (b.vtable, b.value)).meaning b.value) l.rack;
-  name : l.file.begun.name.now ≡ l.fn.file.begun.name.now;
-  ahead : IsAhead g.B.BegunFile.has l.file.begun.file l.file.entries (told_by l.run);
+  ring : SameProducer l.fn.parts.ring l.parts.ring;
+  handed : AreHanded l.fn.first (told_by l.run) (sent l.parts.ring) l.handed;
 }
-
-abbrev pub decreases-ticks : goal.decreases-ticks
-decreases-ticks g l = last_tick l.run.readings.plan + 1 - l.run.tick
