@@ -1,5 +1,5 @@
 #!/usr/bin/env python3
-"""Refuses each call for memory, and each call on a file, in turn, in short runs of the built program.
+"""Refuses each call for memory, on a file and for a thread, in turn, in short runs of the built program.
 
     tests/refused_calls.py [--kind KIND] [--most N] [--program PROGRAM]
 
@@ -10,14 +10,16 @@ program is run with N = 1, 2, 3 .. until a run makes fewer calls. The kinds are
     open, read, write, fsync, fdatasync, rename     the call fails
     handle   the call for a second handle of a file fails
     lock     the call for the lock of a file fails
+    thread   the call for a new thread fails
+    threads  this call for a new thread and all later ones fail
     short    a read or write moves one byte in place of several
 
 One line of a table is printed for each command and kind: how many runs, how they ended, and how many left something wrong:
 another file than the command's own; a file that is neither what was there nor what the command puts; one of two new files without
 the other, but where memory or a rename was refused; or, at the command's own status, other files or another output than where
 nothing is refused. The exit status is 0 where each run ended with a
-status that the kind has (memory: 1 or the command's own; short, handle and lock: the command's own; fsync, fdatasync and rename:
-4; the others: 3, 4 or the command's own) and left nothing wrong, and else 1.
+status that the kind has (memory: 1 or the command's own; short, handle, lock, thread and threads: the command's own; fsync,
+fdatasync and rename: 4; the others: 3, 4 or the command's own) and left nothing wrong, and else 1.
 """
 import argparse
 import collections
@@ -43,20 +45,20 @@ COMMANDS = [
     ("load 1 4 8 2 1 >transcript", 0),
 ]
 
-# A command whose transcript of 6 MB is written ahead in many parts: only calls on files are refused, since it asks for memory too
-# often.
+# A command whose transcript of 6 MB is written ahead in many parts: memory isn't refused, since it asks for it too often.
 LARGE_COMMAND = ("load 1 8 20 96 1 >transcript", 0)
-LARGE_KINDS = ("open", "write", "fsync", "fdatasync", "handle", "lock", "rename")
+LARGE_KINDS = ("open", "write", "fsync", "fdatasync", "handle", "lock", "rename", "thread", "threads")
 
 Usual = collections.namedtuple("Usual", "status printed files")
 
-KINDS = ("memory", "open", "read", "write", "fsync", "fdatasync", "handle", "lock", "rename", "short")
+KINDS = ("memory", "open", "read", "write", "fsync", "fdatasync", "handle", "lock", "rename", "short", "thread", "threads")
 
 SHIM = r"""
 #define _GNU_SOURCE
 #include <dlfcn.h>
 #include <errno.h>
 #include <fcntl.h>
+#include <pthread.h>
 #include <stdarg.h>
 #include <stdatomic.h>
 #include <stdlib.h>
@@ -78,7 +80,9 @@ __attribute__((constructor)) static void begin(void) {
 }
 
 static int is_refused(const char *what) {
-    if (!kind || strcmp(kind, what) || atomic_fetch_add(&calls, 1) + 1 != refused) return 0;
+    if (!kind || strcmp(kind, what)) return 0;
+    long number = atomic_fetch_add(&calls, 1) + 1;
+    if (strcmp(what, "threads") ? number != refused : number < refused) return 0;
     syscall(SYS_close, syscall(SYS_open, getenv("REFUSE_TOLD"), O_CREAT | O_WRONLY, 0600));
     errno = strcmp(what, "memory") ? EIO : ENOMEM;
     return 1;
@@ -121,6 +125,11 @@ int flock(int fd, int operation) {
     return -1;
 }
 
+int pthread_create(pthread_t *thread, const pthread_attr_t *how, void *(*work)(void *), void *given) {
+    int (*real)(pthread_t *, const pthread_attr_t *, void *(*)(void *), void *) = dlsym(RTLD_NEXT, "pthread_create");
+    return is_refused("thread") || is_refused("threads") ? EAGAIN : real(thread, how, work, given);
+}
+
 int fsync(int fd) { return is_refused("fsync") ? -1 : syscall(SYS_fsync, fd); }
 int fdatasync(int fd) { return is_refused("fdatasync") ? -1 : syscall(SYS_fdatasync, fd); }
 int rename(const char *from, const char *to) { return is_refused("rename") ? -1 : syscall(SYS_rename, from, to); }
@@ -160,7 +169,9 @@ def allowed(kind, usual):
     """The statuses of a run in which a call of this kind is refused. What isn't on the disk is never put."""
     if kind in ("fsync", "fdatasync", "rename"):
         return {4}
-    return {"memory": {1, usual}, "short": {usual}, "handle": {usual}, "lock": {usual}}.get(kind, {3, 4, usual})
+    if kind in ("short", "handle", "lock", "thread", "threads"):
+        return {usual}
+    return {1, usual} if kind == "memory" else {3, 4, usual}
 
 
 def is_wrong(kind, usual, status, printed, before, after):
